@@ -1,0 +1,1 @@
+// HyperLMNtal graphs: definitions in specs/, theorems in proofs/, no code.

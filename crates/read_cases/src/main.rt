@@ -1,0 +1,98 @@
+// Reads texts of every kind and prints, for each, the number, input and row of the reader's answer.
+// The arguments go in pairs: a kind (sheet, pattern, figure, replacement, list), and a file. A
+// replacement is read against the pattern before it.
+use libc::STDOUT_FILENO;
+use sheet::Sheet;
+use sheet::answer::Answer;
+use sheet::answer::Refusal;
+use sheet::read::Reading;
+
+// One byte more than the longest text that passes: no later byte changes an answer.
+const TEXT: usize = Sheet::ROWS * Sheet::ROW + 1;
+
+fn number_of(why: Refusal) -> u64 {
+    match why {
+        Refusal::Ragged => 1,
+        Refusal::StrangeRow => 2,
+        Refusal::BadColumn => 3,
+        Refusal::Long => 4,
+        Refusal::Crowded => 5,
+        Refusal::Joints => 6,
+        Refusal::Marks => 7,
+        Refusal::BlankClash => 8,
+    }
+}
+
+fn print_answer(answer: Answer) {
+    let mut number = 0;
+    let mut input = 0;
+    let mut row = 0;
+    match answer {
+        Answer::Passed => {}
+        Answer::Refused(why, at) => {
+            number = number_of(why);
+            input = 1;
+            row = at as u64;
+        }
+    }
+    io::write_all(STDOUT_FILENO, b" ");
+    io::print_decimal(STDOUT_FILENO, number);
+    io::write_all(STDOUT_FILENO, b" ");
+    io::print_decimal(STDOUT_FILENO, input);
+    io::write_all(STDOUT_FILENO, b" ");
+    io::print_decimal(STDOUT_FILENO, row);
+    io::write_all(STDOUT_FILENO, b"\n");
+}
+
+fn read_as(kind: u8, ports: [u16; Sheet::NUMBERS], text: &[u8]) -> Reading {
+    match kind {
+        b's' => sheet::read::read_sheet(text),
+        b'p' => sheet::read::read_pattern(text),
+        b'f' => sheet::read::read_figure(text),
+        b'r' => sheet::read::read_replacement(ports, text),
+        _ => sheet::read::read_list(text),
+    }
+}
+
+// Reads the file that argument `file` names, as the kind that argument `kind` names, and prints the
+// answer. Gives the ports of the last pattern's contexts.
+fn read_case(kind: usize, file: usize, ports: [u16; Sheet::NUMBERS]) -> [u16; Sheet::NUMBERS] {
+    let mut word = io::buffer();
+    os::arg(kind, &mut word);
+    let mut path = io::buffer();
+    let n = os::arg(file, &mut path);
+    let fd = os::open_read(&path[..n]);
+    if fd < 0 {
+        os::fail(&path[..n]);
+        return ports;
+    }
+    let mut text = [0u8; TEXT];
+    let length = io::read_full(fd, &mut text);
+    libc::close(fd);
+    let reading = read_as(word[0], ports, &text[..length]);
+    io::write_all(STDOUT_FILENO, &path[..n]);
+    let answer = reading.answer;
+    print_answer(answer);
+    if word[0] != b'p' {
+        return ports;
+    }
+    let sheet = reading.sheet;
+    sheet.ports
+}
+
+fn main() {
+    let mut ports = [0u16; Sheet::NUMBERS];
+    let last = os::arg_count();
+    let mut k = 1;
+    while k < last {
+        let file = k + 1;
+        if file < last {
+            let next = read_case(k, file, ports);
+            ports = next;
+        }
+        k = file;
+        if k < last {
+            k += 1;
+        }
+    }
+}

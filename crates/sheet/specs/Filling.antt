@@ -1,0 +1,42 @@
+-- Document 01, 'Rows': the filling of one blank as a part of a list of fillings.
+use Prim.Native.Nat.{ℕ, zero, suc}
+use mathlib.Core.List.{List, [], _++_}
+use mathlib.Core.Bool.{Bool, true, false}
+use lib.Dec.{eqb, ltb}
+use lib.ListN.{length, take, drop, getD}
+use Rattle.sheet.specs.Pick.{pick, and}
+use Rattle.sheet.specs.Format.{rowWidth}
+use Rattle.sheet.specs.Row.{rowOf}
+use Rattle.sheet.specs.Reading.{outcomeOf, noPorts}
+use Rattle.sheet.specs.declared.answer.Answer.{Answer}
+use Rattle.sheet.specs.declared.answer.Answer.the-variants.{Passed, Refused}
+use Rattle.sheet.specs.declared.kind.Kind.the-variants.{Fillings}
+
+-- the text's first row is an H row: byte 72
+abbrev pub headFirst : List ℕ → Bool
+headFirst text = eqb (getD text 0 0) 72
+
+-- the text from the H row with this blank number on, empty where there is none; at most as many rows as the first number
+unfoldable pub fromHead : ℕ → ℕ → List ℕ → List ℕ
+fromHead zero number text = []
+fromHead (suc n) number text =
+    pick (ltb (length text) rowWidth) []
+    (pick (and (headFirst text) (eqb (getD (rowOf (take rowWidth text) .nums) 0 0) number)) text (fromHead n number (drop rowWidth text)))
+
+-- the rows before the next H row
+unfoldable pub beforeHead : ℕ → List ℕ → List ℕ
+beforeHead zero text = []
+beforeHead (suc n) text = pick (ltb (length text) rowWidth) [] (pick (headFirst text) [] (take rowWidth text ++ beforeHead n (drop rowWidth text)))
+
+abbrev pub isPassed : Answer → Bool
+isPassed Passed = true
+isPassed (Refused why row) = false
+
+-- an H row and the rows up to the next one
+abbrev pub firstFilling : ℕ → List ℕ → List ℕ
+firstFilling n text = take rowWidth text ++ beforeHead n (drop rowWidth text)
+
+-- the filling of a blank, its H row first; empty where a row of the text is refused or the blank has no filling there
+unfoldable pub fillingOf : List ℕ → ℕ → List ℕ
+fillingOf list number =
+    pick (isPassed (outcomeOf Fillings noPorts list .answer)) (firstFilling (length list) (fromHead (length list) number list)) []

@@ -1,0 +1,10 @@
+pub mod Pick
+pub mod Format
+pub mod Row
+pub mod Limits
+pub mod Held
+pub mod Packed
+pub mod Reading
+pub mod Answer
+pub mod Filling
+pub mod Steps

@@ -1,0 +1,69 @@
+// The rows of one filling, as a part of the list of fillings that holds them.
+use crate::Sheet;
+use crate::answer::Answer;
+use crate::read::read_list;
+use crate::row::read_row;
+ghost use mathlib.Core.Path.{_≡_};
+ghost use Prim.Native.Nat.{_+_, _-_, _≤_};
+ghost use lib.ListN.{length, take, drop};
+ghost use Rattle.sheet.specs.Format.{rowWidth};
+ghost use Rattle.sheet.specs.Filling.{fromHead, beforeHead, fillingOf};
+
+// Where the row of the head for this number starts, the list's length where there is none.
+fn head_at(list: &[u8], number: u16) -> usize
+    ensures { λ r. ⌜ (r ≤ length (now (list .entry))) × (drop r (now (list .entry)) ≡ fromHead (length (now (list .entry))) number (now (list .entry))) ⌝ }
+{
+    let mut at = 0;
+    while at < list.len() {
+        if list.len() - at < Sheet::ROW {
+            return list.len();
+        }
+        if list[at] == b'H' {
+            let row = read_row(&list[at..at + Sheet::ROW]);
+            let nums = row.nums;
+            if nums[0] == number {
+                return at;
+            }
+        }
+        at += Sheet::ROW;
+    }
+    list.len()
+}
+
+// Where the rows before the next head end, from this row on.
+fn rows_end(list: &[u8], from: usize) -> usize
+    requires { ⌜ from ≤ length (now list) ⌝ }
+    ensures { λ r. ⌜ (from ≤ r) × (r ≤ length (now (list .entry))) × (take (r - from) (drop from (now (list .entry))) ≡ beforeHead (length (now (list .entry))) (drop from (now (list .entry)))) ⌝ }
+{
+    let mut at = from;
+    while at < list.len() {
+        if list.len() - at < Sheet::ROW {
+            return at;
+        }
+        if list[at] == b'H' {
+            return at;
+        }
+        at += Sheet::ROW;
+    }
+    at
+}
+
+// The filling of one context, its head first, as a part of the list; empty where a row of the list
+// is refused or the context has no filling there.
+pub fn filling_of(list: &[u8], number: u16) -> &[u8]
+    ensures { λ r. ⌜ now r ≡ fillingOf (now (list .entry)) number ⌝ }
+{
+    let reading = read_list(list);
+    let answer = reading.answer;
+    match answer {
+        Answer::Passed => {
+            let from = head_at(list, number);
+            if list.len() - from < Sheet::ROW {
+                return &list[0..0];
+            }
+            let to = rows_end(list, from + Sheet::ROW);
+            &list[from..to]
+        }
+        Answer::Refused(_, _) => &list[0..0],
+    }
+}
