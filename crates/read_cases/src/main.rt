@@ -4,24 +4,11 @@
 use libc::STDOUT_FILENO;
 use sheet::Sheet;
 use sheet::answer::Answer;
-use sheet::answer::Refusal;
+use sheet::answer::refusal_number;
 use sheet::read::Reading;
 
 // One byte more than the longest text that passes: no later byte changes an answer.
 const TEXT: usize = Sheet::ROWS * Sheet::ROW + 1;
-
-fn number_of(why: Refusal) -> u64 {
-    match why {
-        Refusal::Ragged => 1,
-        Refusal::StrangeRow => 2,
-        Refusal::BadColumn => 3,
-        Refusal::Long => 4,
-        Refusal::Crowded => 5,
-        Refusal::Joints => 6,
-        Refusal::Marks => 7,
-        Refusal::BlankClash => 8,
-    }
-}
 
 fn print_answer(answer: Answer) {
     let mut number = 0;
@@ -30,7 +17,7 @@ fn print_answer(answer: Answer) {
     match answer {
         Answer::Passed => {}
         Answer::Refused(why, at) => {
-            number = number_of(why);
+            number = refusal_number(why) as u64;
             input = 1;
             row = at as u64;
         }
