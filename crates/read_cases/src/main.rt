@@ -7,8 +7,12 @@ use sheet::answer::Answer;
 use sheet::answer::refusal_number;
 use sheet::read::Reading;
 
-// One byte more than the longest text that passes: no later byte changes an answer.
-const TEXT: usize = Sheet::ROWS * Sheet::ROW + 1;
+// The name of the file.
+fn print_name(file: usize) {
+    let mut path = io::buffer();
+    let n = os::arg(file, &mut path);
+    io::write_all(STDOUT_FILENO, &path[..n]);
+}
 
 fn print_answer(answer: Answer) {
     let mut number = 0;
@@ -46,18 +50,14 @@ fn read_as(kind: u8, ports: [u16; Sheet::NUMBERS], text: &[u8]) -> Reading {
 fn read_case(kind: usize, file: usize, ports: [u16; Sheet::NUMBERS]) -> [u16; Sheet::NUMBERS] {
     let mut word = io::buffer();
     os::arg(kind, &mut word);
-    let mut path = io::buffer();
-    let n = os::arg(file, &mut path);
-    let fd = os::open_read(&path[..n]);
+    let fd = task_files::open_input(file, b"");
     if fd < 0 {
-        os::fail(&path[..n]);
         return ports;
     }
-    let mut text = [0u8; TEXT];
-    let length = io::read_full(fd, &mut text);
-    libc::close(fd);
+    let mut text = [0u8; Sheet::TEXT];
+    let length = task_files::read_input(fd, &mut text);
     let reading = read_as(word[0], ports, &text[..length]);
-    io::write_all(STDOUT_FILENO, &path[..n]);
+    print_name(file);
     let answer = reading.answer;
     print_answer(answer);
     if word[0] != b'p' {

@@ -1,11 +1,12 @@
 -- Lists in arrays: a list with padding after it, and stores into it.
 use Prim.Native.Nat.{ℕ, zero, suc, _+_, _-_, _<_, _≤_}
 use mathlib.Core.Path.{_≡_, refl, ap, _∙_, sym}
-use mathlib.Core.List.{List, [], _∷_, _++_, map, append-assoc}
+use mathlib.Core.List.{List, [], _∷_, _++_, map, map-append, append-assoc}
 use native.Mathlib.Decide.{decLt}
+use native.Mathlib.Numerals.{add-one}
 use native.Mathlib.Omega.{arith}
 use lib.ListN.{length, getD, drop, take, set, replicate, length-append, length-replicate, length-map, List·getD-append, List·getD-eq-default}
-use lib.Seq.{take-append-seam, drop-append-seam, set-append-seam, getD-append-add}
+use lib.Seq.{take-suc, length-take-le, take-append-seam, drop-append-seam, set-append-seam, getD-append-add}
 use Rattle.sheet.specs.Packed.{padded}
 use Rattle.sheet.proofs.Lists.{mapped}
 
@@ -51,3 +52,11 @@ module _ {A : Type 0} (n : ℕ) (d : A) (l : List A) where
       let e : n - length l ≡ suc (n - (length l + 1)) = omega arith in
       let z : n - length (l ++ (a ∷ [])) ≡ n - (length l + 1) = rw length-append in
       rw q (rw e (rw (set-append-seam l d (replicate (n - (length l + 1)) d) a) (rw z (sym (append-assoc l (a ∷ []) (replicate (n - (length l + 1)) d))))))
+
+-- one more number behind those of the first k elements
+pub stored-next : (n : ℕ) (f : ℕ → ℕ) (l r : List ℕ) (k : ℕ) → r ≡ padded n 0 (map f (take k l)) → k < length l → k < n
+    → set r k (f (getD l k 0)) ≡ padded n 0 (map f (take (k + 1) l))
+stored-next n f l r k e h room =
+    let front : length (map f (take k l)) ≡ k = length-map (take k l) f ∙ length-take-le k l (omega arith) in
+    rw e (rw (set-padded n 0 (map f (take k l)) (f (getD l k 0)) k (sym front) (omega arith))
+    (rw (add-one k) (rw (take-suc l k 0 h) (rw (map-append f (take k l) (getD l k 0 ∷ []))))))

@@ -41,7 +41,7 @@ nothing-read filled n (b ∷ t) m e =
     go false false q ih jh = absurd (true≢false (jh q .0))
 
 -- A number, or its absence, that the rule takes is as it asks.
-suited : (rule : Rule) (f count : ℕ) (filled : Bool) (n : ℕ) → (filled ≡ false → n ≡ 0) → suits rule f count filled n ≡ true → SuitedBy rule f count n
+pub suited : (rule : Rule) (f count : ℕ) (filled : Bool) (n : ℕ) → (filled ≡ false → n ≡ 0) → suits rule f count filled n ≡ true → SuitedBy rule f count n
 unfolding suits
 suited rule f count filled n zeroed e =
     ⊎-elim (λ w. inl (w .0, leb-true _ _ (w .1), leb-true _ _ (w .2))) (λ w. inr (w .0, zeroed (w .1)))
@@ -55,7 +55,7 @@ suited rule f count filled n zeroed e =
     judge false true low high q = absurd (false≢true q)
     judge false false low high q = inr (refl, refl)
 
-le-or-lt : (a b : ℕ) → (a ≤ b) ⊎ (b < a)
+pub le-or-lt : (a b : ℕ) → (a ≤ b) ⊎ (b < a)
 le-or-lt a b = go (ltb b a) refl
   where
     go : (t : Bool) → ltb b a ≡ t → (a ≤ b) ⊎ (b < a)
@@ -77,7 +77,7 @@ early letter zero h = uncounted letter .0
 early letter (suc zero) h = uncounted letter .1
 early letter (suc (suc f)) h = absurd (omega arith)
 
-early-needed : (letter f count : ℕ) → f < 2 → needed (ruleOf letter f) f count ≡ ruleOf letter f .filled
+pub early-needed : (letter f count : ℕ) → f < 2 → needed (ruleOf letter f) f count ≡ ruleOf letter f .filled
 early-needed letter f count h = rw (early letter f h)
 
 other-count : (rule : Rule) (f c d n : ℕ) → needed rule f c ≡ needed rule f d → SuitedBy rule f c n → SuitedBy rule f d n
@@ -144,7 +144,7 @@ pub row-length : (s : List ℕ) → length (rowOf s .nums) ≡ fieldCount
 row-length s = row-reading s .width
 
 -- Atoms and contexts have one rule for their counts and their links.
-alike : (letter : ℕ) → letter < 2 → (ruleOf letter 1 ≡ ruleOf 0 1) × (ruleOf letter 2 ≡ ruleOf 0 2)
+pub alike : (letter : ℕ) → letter < 2 → (ruleOf letter 1 ≡ ruleOf 0 1) × (ruleOf letter 2 ≡ ruleOf 0 2)
 unfolding ruleOf
 alike zero h = (refl, refl)
 alike (suc zero) h = (refl, refl)

@@ -1,13 +1,12 @@
 -- Closed texts, built row by row, and what the readers answer to them.
-use Prim.Native.Nat.{ℕ, zero, suc, _+_, _-_, _*_, _/_, _%_}
+use Prim.Native.Nat.{ℕ, zero, suc, _-_, _*_}
 use mathlib.Core.Path.{_≡_, _∙_, ap}
 use mathlib.Core.List.{List, [], _∷_, _++_}
-use lib.Dec.{ltb}
-use lib.ListN.{length, replicate}
-use Rattle.sheet.specs.Pick.{pick}
-use Rattle.sheet.specs.Format.{fieldCount, rowWidth, letterOf, ruleOf}
+use lib.ListN.{length}
+use Rattle.sheet.specs.Format.{rowWidth, letterOf, ruleOf}
 use Rattle.sheet.specs.Limits.{rowLimit}
 use Rattle.sheet.specs.Row.{misplacedIn, fieldOf, suits, judged, fieldsOf, rowOf}
+use Rattle.sheet.specs.RowText.{fieldBytes, fieldsBytes, rowBytes}
 use Rattle.sheet.specs.Held.{Held, nothing, indexOf, withLink, withLinks, merged, withFusion, withMark, withAtom, withContext, withFusionRow, withEdgeRow, withHead, withRow}
 use Rattle.sheet.specs.Packed.{portsOf}
 use Rattle.sheet.specs.Reading.{strange, lastNumber, clashOf, clashes, firstOf, Outcome, passed, readFrom, outcomeOf}
@@ -15,21 +14,6 @@ use Rattle.sheet.specs.declared.kind.Kind.{Kind}
 use Rattle.sheet.specs.declared.answer.Answer.{Answer}
 use Rattle.sheet.proofs.Ranges.{Every}
 use Rattle.sheet.proofs.Taken.{read-on}
-
--- A number of at most four digits in four columns, right-justified.
-unfoldable pub columnAt : ℕ → ℕ → ℕ
-columnAt n place = pick (ltb n place) 32 (48 + n / place % 10)
-
-unfoldable pub fieldBytes : ℕ → List ℕ
-fieldBytes n = columnAt n 1000 ∷ columnAt n 100 ∷ columnAt n 10 ∷ (48 + n % 10) ∷ []
-
-unfoldable pub fieldsBytes : List ℕ → List ℕ
-fieldsBytes [] = []
-fieldsBytes (n ∷ l) = fieldBytes n ++ fieldsBytes l
-
--- A row: its letter's byte, its numbers, spaces, a newline.
-unfoldable pub rowBytes : ℕ → List ℕ → List ℕ
-rowBytes letter nums = (letter ∷ fieldsBytes nums) ++ replicate (4 * (fieldCount - length nums)) 32 ++ (10 ∷ [])
 
 -- Rows by letter: S, B, F, E, H.
 abbrev pub symbol : List ℕ → List ℕ
@@ -58,7 +42,7 @@ rowsFrom row (suc n) = row (suc n) ++ rowsFrom row n
 
 -- An `unfolding` line with this name opens all that computes in the reading of a closed text.
 unfoldable pub answerTo : Kind → List ℕ → List ℕ → Answer
-unfolding columnAt fieldBytes fieldsBytes rowBytes downFrom rowsFrom letterOf ruleOf misplacedIn fieldOf suits judged fieldsOf rowOf indexOf withLink withLinks merged withFusion withMark withAtom withContext withFusionRow withEdgeRow withHead withRow portsOf strange lastNumber clashOf clashes firstOf readFrom outcomeOf
+unfolding fieldBytes fieldsBytes rowBytes downFrom rowsFrom letterOf ruleOf misplacedIn fieldOf suits judged fieldsOf rowOf indexOf withLink withLinks merged withFusion withMark withAtom withContext withFusionRow withEdgeRow withHead withRow portsOf strange lastNumber clashOf clashes firstOf readFrom outcomeOf
 answerTo kind pattern text = outcomeOf kind pattern text .answer
 
 -- The answers to the texts that begin with these rows and go on as each case says.

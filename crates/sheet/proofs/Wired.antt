@@ -14,6 +14,7 @@ use borrow.Author.Tests.{ltb-true, ltb-false, lt-ltb, le-ltb, eq-eqb}
 use Rattle.sheet.specs.Pick.{pick}
 use Rattle.sheet.specs.Held.{Wiring, Held, indexOf, isIn, withLink, withLinks, relabelled, merged, withFusion, withMark, noWiring, linksOf, withAtom, withContext, withFusionRow, withEdgeRow, withHead, withRow}
 use Rattle.sheet.specs.Steps.{Wired}
+use Rattle.sheet.specs.Agrees.{Among}
 use Rattle.sheet.specs.declared.row.Row.{Row}
 
 -- The place of a number in a list.
@@ -47,10 +48,6 @@ indexOf-added x (y ∷ l) h = go (eqb y x) (indexOf-added x l) h
         → pick b 0 (suc (indexOf x (l ++ (x ∷ [])))) ≡ suc (length l)
     go true ih k = absurd (omega arith)
     go false ih k = ap suc (ih (omega arith))
-
--- Whether a number is among links.
-abbrev pub Among : ℕ → List ℕ → Type 0
-Among x l = indexOf x l < length l
 
 -- The wiring with a further link, which is new.
 abbrev pub linkAdded : Wiring → ℕ → Wiring

@@ -8,3 +8,12 @@ pub mod Reading
 pub mod Answer
 pub mod Filling
 pub mod Steps
+pub mod Graph
+pub mod Normal
+pub mod Labels
+pub mod Agrees
+pub mod RowText
+pub mod NormalText
+pub mod NormalSheet
+pub mod NormalRows
+pub mod Numbering

@@ -1,6 +1,11 @@
 // What a reader answers: the refusals of a row, in the table's order, and the row that is refused.
+use crate::Sheet;
+use crate::write::put_row;
 ghost use mathlib.Core.Path.{_≡_};
+ghost use mathlib.Core.List.{[], _∷_};
+ghost use Prim.Native.Nat.{_%_};
 ghost use Rattle.sheet.specs.Answer.{refusalNumber};
+ghost use Rattle.sheet.specs.RowText.{rowBytes};
 
 pub enum Refusal {
     Ragged,
@@ -33,4 +38,17 @@ pub fn refusal_number(why: Refusal) -> u16
         Refusal::Marks => 7,
         Refusal::BlankClash => 8,
     }
+}
+
+// The row that a program prints of an answer: letter A, number, input and row.
+pub fn answer_row(number: u16, input: u16, row: usize) -> [u8; Sheet::ROW]
+    ensures { λ r. ⌜ r ≡ rowBytes 65 (number % 10000 ∷ input % 10000 ∷ row % 10000 ∷ []) ⌝ }
+{
+    let mut nums = [0u16; Sheet::FIELDS];
+    nums[0] = number % 10000;
+    nums[1] = input % 10000;
+    nums[2] = (row % 10000) as u16;
+    let mut line = [0u8; Sheet::ROW];
+    put_row(&mut line, 0, b'A', nums, 3);
+    line
 }

@@ -2,9 +2,13 @@
 pub mod answer;
 pub mod filling;
 pub mod kind;
+pub mod normal;
+mod normal_text;
+pub mod normalise;
 pub mod read;
 mod row;
 mod take;
+mod write;
 
 ghost use mathlib.Core.Path.{_≡_};
 ghost use Rattle.sheet.specs.Held.{nothing};
@@ -56,6 +60,9 @@ impl Sheet {
 
     pub const ROWS: usize = 256;
 
+    // One byte more than the longest text that passes: no later byte changes an answer.
+    pub const TEXT: usize = Sheet::ROWS * Sheet::ROW + 1;
+
     pub const ATOMS: usize = 64;
 
     pub const LINKS: usize = 96;
@@ -80,6 +87,9 @@ impl Sheet {
     pub const LINK_ROOM: usize = Sheet::FILLING_LINKS + Sheet::MOST_LINKS;
 
     pub const MARK_ROOM: usize = Sheet::MARKS + 1;
+
+    // The least length of an output slip.
+    pub const SLIP: usize = 4096;
 
     pub fn empty() -> Self
         ensures { λ r. ⌜ r ≡ packed nothing ⌝ }

@@ -1,15 +1,13 @@
 // What the programs share: a text from the file that an argument names, and the row of an answer.
-ghost use Rattle.task_files.specs.Fits.{Fits};
-
-// How many bytes of the text's buffer a file filled, or that it could not be read.
-pub enum Loaded {
-    Bytes(usize),
-    Missing,
-}
+use libc::STDOUT_FILENO;
+use sheet::answer::answer_row;
+use sheet::normalise::Normalised;
+use sheet::normalise::answer_of;
+ghost use Rattle.io.specs.Counts.{Counts};
 
 // Opens the file that argument k names or, where there is no such argument, the file of this name,
-// and says on standard error what is wrong if it cannot.
-fn open_input(k: usize, name: &[u8]) -> i32 {
+// and answers a descriptor; or says on standard error what is wrong, and answers -1 or less.
+pub fn open_input(k: usize, name: &[u8]) -> i32 {
     let mut path = io::buffer();
     let n = os::arg(k, &mut path);
     if n == 0 {
@@ -26,15 +24,22 @@ fn open_input(k: usize, name: &[u8]) -> i32 {
     fd
 }
 
-// Reads that file into the buffer, as far as it goes.
-pub fn load(k: usize, name: &[u8], text: &mut [u8]) -> Loaded
-    ensures { λ r. ⌜ Fits r (now (text .exit)) ⌝ }
+// Reads the open file into the buffer as far as it goes, closes it, and answers how many bytes it read.
+pub fn read_input(fd: i32, text: &mut [u8]) -> usize
+    ensures { λ r. ⌜ Counts r (now (text .exit)) ⌝ }
 {
-    let fd = open_input(k, name);
-    if fd < 0 {
-        return Loaded::Missing;
-    }
     let n = io::read_full(fd, text);
     libc::close(fd);
-    Loaded::Bytes(n)
+    n
+}
+
+// The answer's row, and the bytes that were written.
+pub fn print_normalised(done: Normalised, out: &[u8]) {
+    let answer = answer_of(done);
+    let line = answer_row(answer.number, answer.input, answer.row);
+    io::write_all(STDOUT_FILENO, &line);
+    let n = answer.bytes;
+    if n <= out.len() {
+        io::write_all(STDOUT_FILENO, &out[..n]);
+    }
 }

@@ -1,0 +1,60 @@
+-- The rows of a `Normal` as bytes, and what its numbers must be for each to fit its columns.
+use Prim.Native.Nat.{ℕ, zero, suc, _<_, _≤_}
+use mathlib.Core.List.{List, [], _∷_, _++_}
+use lib.ListN.{take, getD}
+use Rattle.sheet.specs.Format.{mostLinks}
+use Rattle.sheet.specs.Limits.{sheetAtoms, figureContexts, sheetMarks}
+use Rattle.sheet.specs.RowText.{rowBytes}
+use Rattle.sheet.specs.declared.Atom.{Atom}
+use Rattle.sheet.specs.declared.Context.{Context}
+use Rattle.sheet.specs.declared.normal.Normal.{Normal}
+
+-- the rows of the places below a number, one after the other
+unfoldable pub rowsTo : (ℕ → List ℕ) → ℕ → List ℕ
+rowsTo row zero = []
+rowsTo row (suc k) = rowsTo row k ++ row k
+
+-- an S row or a B row: a name or a number, the link count, the links that are used
+abbrev pub linkedRow : ℕ → ℕ → ℕ → List ℕ → List ℕ
+linkedRow letter first count links = rowBytes letter (first ∷ count ∷ take count links)
+
+-- what stands past the end of an array
+abbrev pub pastAtoms : Atom
+pastAtoms = record { name = 0; count = 0; links = [] }
+
+abbrev pub pastContexts : Context
+pastContexts = record { number = 0; count = 0; links = []; row = 0 }
+
+abbrev pub symbolRow : Atom → List ℕ
+symbolRow a = linkedRow 83 (a .name) (a .count) (a .links)
+
+abbrev pub blankRow : Context → List ℕ
+blankRow c = linkedRow 66 (c .number) (c .count) (c .links)
+
+abbrev pub atomRow : Normal → ℕ → List ℕ
+atomRow n k = symbolRow (getD (n .atoms) k pastAtoms)
+
+abbrev pub contextRow : Normal → ℕ → List ℕ
+contextRow n k = blankRow (getD (n .contexts) k pastContexts)
+
+abbrev pub markRow : Normal → ℕ → List ℕ
+markRow n k = rowBytes 69 (getD (n .marked) k 0 ∷ getD (n .marks) k 0 ∷ [])
+
+-- the S rows, then the B rows, then the E rows
+unfoldable pub normalRows : Normal → List ℕ
+normalRows n = rowsTo (atomRow n) (n .«atom_count») ++ rowsTo (contextRow n) (n .«context_count») ++ rowsTo (markRow n) (n .«mark_count»)
+
+-- the numbers of an S row or a B row have four digits at most
+pub record Narrow (first count : ℕ) (links : List ℕ) : Type 0 where
+  pub named : first ≤ 9999
+  pub counted : count ≤ mostLinks
+  pub linked : (k : ℕ) → k < count → getD links k 0 ≤ 9999
+
+-- a normal form whose rows can be written
+pub record Writable (n : Normal) : Type 0 where
+  pub atoms : n .«atom_count» ≤ sheetAtoms
+  pub contexts : n .«context_count» ≤ figureContexts
+  pub marks : n .«mark_count» ≤ sheetMarks
+  pub atomNumbers : (k : ℕ) → k < n .«atom_count» → Narrow (getD (n .atoms) k pastAtoms .name) (getD (n .atoms) k pastAtoms .count) (getD (n .atoms) k pastAtoms .links)
+  pub contextNumbers : (k : ℕ) → k < n .«context_count» → Narrow (getD (n .contexts) k pastContexts .number) (getD (n .contexts) k pastContexts .count) (getD (n .contexts) k pastContexts .links)
+  pub markNumbers : (k : ℕ) → k < n .«mark_count» → (getD (n .marked) k 0 ≤ 9999) × (getD (n .marks) k 0 ≤ 9999)

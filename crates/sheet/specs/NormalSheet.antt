@@ -1,0 +1,43 @@
+-- The normal form of what a text holds, in the arrays of a `Normal`.
+use Prim.Native.Nat.{ℕ, _+_}
+use mathlib.Core.List.{List, map}
+use lib.ListN.{length, take}
+use Rattle.hyperlmntal.specs.Hypergraph.{Node, inner}
+use Rattle.sheet.specs.Format.{mostLinks}
+use Rattle.sheet.specs.Limits.{sheetAtoms, figureContexts, sheetMarks}
+use Rattle.sheet.specs.Held.{Held}
+use Rattle.sheet.specs.Packed.{padded, noAtom, noContext}
+use Rattle.sheet.specs.Graph.{graphOf}
+use Rattle.sheet.specs.Normal.{classOf, classesBy, numberBy, marksOf, markNode}
+use Rattle.sheet.specs.declared.Atom.{Atom}
+use Rattle.sheet.specs.declared.Context.{Context}
+use Rattle.sheet.specs.declared.normal.Normal.{Normal}
+
+-- the number of a node's class
+abbrev pub numberIn : Held → Node ℕ → ℕ
+numberIn h x = numberBy (classOf (graphOf h .fusions)) (graphOf h) x
+
+abbrev pub numberedLinks : Held → ℕ → List ℕ → List ℕ
+numberedLinks h count links = padded mostLinks 0 (map (λ x. numberIn h (inner x)) (take count links))
+
+abbrev pub normalAtom : Held → Atom → Atom
+normalAtom h a = record { name = a .name; count = a .count; links = numberedLinks h (a .count) (a .links) }
+
+abbrev pub normalContext : Held → Context → Context
+normalContext h c = record { number = c .number; count = c .count; links = numberedLinks h (c .count) (c .links); row = c .row }
+
+abbrev pub normalMarks : Held → List ℕ
+normalMarks h = marksOf (graphOf h)
+
+abbrev pub packedNormal : Held → Normal
+packedNormal h =
+    record {
+      atoms = padded (sheetAtoms + 1) noAtom (map (normalAtom h) (h .atoms));
+      «atom_count» = length (h .atoms);
+      contexts = padded (figureContexts + 1) noContext (map (normalContext h) (h .contexts));
+      «context_count» = length (h .contexts);
+      marks = padded (sheetMarks + 1) 0 (normalMarks h);
+      marked = padded (sheetMarks + 1) 0 (map (λ m. numberIn h (markNode m)) (normalMarks h));
+      «mark_count» = length (normalMarks h);
+      «class_count» = length (classesBy (classOf (graphOf h .fusions)) (graphOf h));
+    }

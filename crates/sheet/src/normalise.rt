@@ -1,0 +1,90 @@
+// The tasks normalise: the normal text of a sheet or a figure, into an output buffer.
+use crate::Sheet;
+use crate::answer::Answer;
+use crate::answer::Refusal;
+use crate::answer::refusal_number;
+use crate::kind::Kind;
+use crate::normal::normal_of;
+use crate::normal_text::write_normal;
+use crate::read::read_text;
+ghost use mathlib.Core.Path.{_≡_};
+ghost use mathlib.Core.Bool.{false};
+ghost use lib.ListN.{length};
+ghost use Rattle.sheet.specs.Limits.{isList};
+ghost use Rattle.sheet.specs.NormalText.{normalisedAnswer, normalisedSlip, normalisedNumber, normalisedInput, normalisedRow, normalisedBytes};
+
+// The bytes written; the buffer is too short; or the text is refused at a row.
+pub enum Normalised {
+    Written(usize),
+    ShortSlip,
+    Refused(Refusal, usize),
+}
+
+// A text of this kind, which is no list of fillings.
+fn normalise(kind: Kind, text: &[u8], out: &mut [u8]) -> Normalised
+    requires { ⌜ isList kind ≡ false ⌝ }
+    ensures { λ r. ⌜ r ≡ normalisedAnswer kind (now (text .entry)) (length (now (out .entry))) ⌝ }
+    ensures { λ _. ⌜ now (out .exit) ≡ normalisedSlip kind (now (text .entry)) (now (out .entry)) ⌝ }
+{
+    if out.len() < Sheet::SLIP {
+        return Normalised::ShortSlip;
+    }
+    let reading = read_text(kind, [0; Sheet::NUMBERS], text);
+    let answer = reading.answer;
+    match answer {
+        Answer::Passed => {
+            let sheet = reading.sheet;
+            let normal = normal_of(sheet);
+            let bytes = write_normal(normal, out);
+            Normalised::Written(bytes)
+        }
+        Answer::Refused(why, row) => Normalised::Refused(why, row),
+    }
+}
+
+pub fn normalise_sheet(text: &[u8], out: &mut [u8]) -> Normalised
+    ensures { λ r. ⌜ r ≡ normalisedAnswer Kind.Plain (now (text .entry)) (length (now (out .entry))) ⌝ }
+    ensures { λ _. ⌜ now (out .exit) ≡ normalisedSlip Kind.Plain (now (text .entry)) (now (out .entry)) ⌝ }
+{
+    normalise(Kind::Plain, text, out)
+}
+
+pub fn normalise_figure(text: &[u8], out: &mut [u8]) -> Normalised
+    ensures { λ r. ⌜ r ≡ normalisedAnswer Kind.Figure (now (text .entry)) (length (now (out .entry))) ⌝ }
+    ensures { λ _. ⌜ now (out .exit) ≡ normalisedSlip Kind.Figure (now (text .entry)) (now (out .entry)) ⌝ }
+{
+    normalise(Kind::Figure, text, out)
+}
+
+// The table's number of an answer, its input and row, and the bytes written.
+pub struct TaskAnswer {
+    pub number: u16,
+    pub input: u16,
+    pub row: usize,
+    pub bytes: usize,
+}
+
+pub fn answer_of(done: Normalised) -> TaskAnswer
+    ensures { λ r. ⌜ r ≡ record { number = normalisedNumber done; input = normalisedInput done; row = normalisedRow done; bytes = normalisedBytes done } ⌝ }
+{
+    match done {
+        Normalised::Written(bytes) => TaskAnswer {
+            number: 0,
+            input: 0,
+            row: 0,
+            bytes,
+        },
+        Normalised::ShortSlip => TaskAnswer {
+            number: 10,
+            input: 0,
+            row: 0,
+            bytes: 0,
+        },
+        Normalised::Refused(why, row) => TaskAnswer {
+            number: refusal_number(why),
+            input: 1,
+            row,
+            bytes: 0,
+        },
+    }
+}
