@@ -1,0 +1,34 @@
+-- The theorems in one place, and worked sheets.
+pub mod Theorems
+pub mod Worked
+-- Lists, orders and connections.
+pub mod Lists
+pub mod Orders
+pub mod Connecting
+-- Nets and rows as hypergraphs, and the filled figure.
+pub mod Names
+pub mod Standing
+pub mod Reduction
+pub mod Filled
+-- From fillings to a placing.
+pub mod Origins
+pub mod Landing
+pub mod FillingsPlacing
+pub mod OwnLinks
+-- From a placing to fillings.
+pub mod FillingsFit
+pub mod PlacingFillings
+pub mod PlacedAtoms
+-- The normal nets of texts.
+pub mod NormalNets
+pub mod NormalTexts
+pub mod TextPlacing
+-- The smallest good placing.
+pub mod FirstLaws
+pub mod Tests
+pub mod Joined
+pub mod StepLabels
+pub mod GoodTest
+pub mod SmallestLaws
+pub mod Narrowed
+pub mod WorkedPlacings

@@ -1,0 +1,6 @@
+pub mod Net
+pub mod Placing
+pub mod Fillings
+pub mod Holding
+pub mod First
+pub mod Smallest

@@ -1,0 +1,1 @@
+// The theory of placings: definitions in specs/, theorems in proofs/.
