@@ -23,6 +23,7 @@ pub mod PlacedAtoms
 pub mod NormalNets
 pub mod NormalTexts
 pub mod TextPlacing
+pub mod NormalFillings
 -- The smallest good placing.
 pub mod FirstLaws
 pub mod Tests

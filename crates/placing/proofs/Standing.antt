@@ -13,7 +13,7 @@ use Rattle.placing.specs.Net.{NetCell, Net, Range, cellLinks, markLinks,
 use Rattle.placing.specs.Placing.{numberAt, cellAt}
 use Rattle.placing.proofs.Lists.{getD-member, member-at, getD-of}
 
-in-cells : (l : List NetCell) (c : NetCell) (x : ℕ) → c ∈ l → x ∈ c .1 → x ∈ cellLinks l
+pub in-cells : (l : List NetCell) (c : NetCell) (x : ℕ) → c ∈ l → x ∈ c .1 → x ∈ cellLinks l
 in-cells [] c x m i = absurd (List·Memᴰ·not-nil m)
 in-cells (d ∷ l) c x m i = at (List·Memᴰ·cases-cons m) (λ k. in-cells l c x k i)
   where

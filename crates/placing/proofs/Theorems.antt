@@ -3,7 +3,7 @@ use Prim.Native.Nat.{ℕ}
 use mathlib.Core.Path.{_≡_}
 use mathlib.Core.Logic.{_↔_}
 use mathlib.Core.List.{List, map}
-use Rattle.hyperlmntal.specs.Congruence.{_≅_}
+use Rattle.hyperlmntal.specs.Congruence.{_≅_, ≅-sym, ≅-trans}
 use Rattle.sheet.specs.Held.{Held}
 use Rattle.sheet.specs.Graph.{termOfText}
 use Rattle.sheet.specs.Reading.{outcomeOf, noPorts}
@@ -11,7 +11,7 @@ use Rattle.sheet.specs.declared.kind.Kind.the-variants.{Plain, Pattern}
 use Rattle.sheet.specs.declared.answer.Answer.the-variants.{Passed}
 use Rattle.placing.specs.Net.{Net, normalNet, netTerm, Normal, NormalSheet, NormalPattern}
 use Rattle.placing.specs.Placing.{Placing, Good}
-use Rattle.placing.specs.Fillings.{Filling, Fits, fillingsOf}
+use Rattle.placing.specs.Fillings.{Filling, Fits, fillingsOf, normalFillingsOf}
 use Rattle.placing.specs.Holding.{holdingTerm, holding}
 use Rattle.placing.proofs.Reduction.{holding-congruent}
 use Rattle.placing.proofs.FillingsFit.{fillings-fit}
@@ -20,6 +20,7 @@ use Rattle.placing.proofs.Origins.{Solution}
 use Rattle.placing.proofs.Landing.{placingOf}
 use Rattle.placing.proofs.OwnLinks.{good}
 use Rattle.placing.proofs.NormalTexts.{sheet-normal, pattern-normal, netBlank, textBlank, text-blanks}
+use Rattle.placing.proofs.NormalFillings.{normal-fit, normal-holding}
 use Rattle.placing.proofs.TextPlacing.{to-texts, from-texts}
 
 -- The fillings of a good placing fit, and the figure holding them is congruent to the sheet.
@@ -30,6 +31,12 @@ placing-fillings S F s f p g =
       (holding-congruent S F (fillingsOf S p F) fit) .1
           (placed-isomorphic (record { sheet = S; figure = F; placing = p; sheet-normal = s .normal; no-contexts = s .no-contexts; figure-normal = f .normal; numbers = f .from-one; apart = f .different; good = g })),
     )
+
+-- So do the same fillings, each as normal text of its own.
+pub placing-normal-fillings : (S F : Net) → NormalSheet S → NormalPattern F → (p : Placing) → Good S F p → Fits F (normalFillingsOf S p F) × (holding F (normalFillingsOf S p F) ≅ netTerm S)
+placing-normal-fillings S F s f p g =
+    let t = placing-fillings S F s f p g in
+    (normal-fit F (fillingsOf S p F) (t .0), ≅-trans (≅-sym (normal-holding F (fillingsOf S p F) (t .0) (netTerm F))) (t .1))
 
 -- Fillings of any size that fit, and with which the figure is congruent to the sheet, give a good placing. Here several blanks may
 -- have one number.
@@ -64,13 +71,13 @@ pattern-blanks text = text-blanks Pattern noPorts text
 -- The fillings of a good placing of the normal texts fit, and the pattern as delivered, holding them, is the same as the sheet as delivered.
 pub text-placing-fillings : (sheet pattern : List ℕ) → outcomeOf Plain noPorts sheet .answer ≡ Passed → outcomeOf Pattern noPorts pattern .answer ≡ Passed
     → (p : Placing) → Good (normalNet (heldSheet sheet)) (normalNet (heldPattern pattern)) p
-    → Fits (normalNet (heldPattern pattern)) (fillingsOf (normalNet (heldSheet sheet)) p (normalNet (heldPattern pattern)))
-    × (holdingTerm (termOfText (heldPattern pattern)) (fillingsOf (normalNet (heldSheet sheet)) p (normalNet (heldPattern pattern))) ≅ termOfText (heldSheet sheet))
+    → Fits (normalNet (heldPattern pattern)) (normalFillingsOf (normalNet (heldSheet sheet)) p (normalNet (heldPattern pattern)))
+    × (holdingTerm (termOfText (heldPattern pattern)) (normalFillingsOf (normalNet (heldSheet sheet)) p (normalNet (heldPattern pattern))) ≅ termOfText (heldSheet sheet))
 text-placing-fillings sheet pattern a b p g =
     let S = normalNet (heldSheet sheet) in
     let F = normalNet (heldPattern pattern) in
-    let t = placing-fillings S F (sheet-net sheet a) (pattern-net pattern b) p g in
-    (t .0, to-texts (heldSheet sheet) (heldPattern pattern) (fillingsOf S p F) (t .0) (t .1))
+    let t = placing-normal-fillings S F (sheet-net sheet a) (pattern-net pattern b) p g in
+    (t .0, to-texts (heldSheet sheet) (heldPattern pattern) (normalFillingsOf S p F) (t .0) (t .1))
 
 -- Theorem D for texts: somebody can write fillings of any size that turn the pattern into the sheet exactly when some placing is good.
 pub text-fillings-iff-placing : (sheet pattern : List ℕ) → outcomeOf Plain noPorts sheet .answer ≡ Passed → outcomeOf Pattern noPorts pattern .answer ≡ Passed
@@ -78,5 +85,5 @@ pub text-fillings-iff-placing : (sheet pattern : List ℕ) → outcomeOf Plain n
     ↔ ((p : Placing) × Good (normalNet (heldSheet sheet)) (normalNet (heldPattern pattern)) p)
 text-fillings-iff-placing sheet pattern a b = (
   λ t. fillings-placing (normalNet (heldSheet sheet)) (normalNet (heldPattern pattern)) (sheet-net sheet a) (pattern-net pattern b .normal) (t .0) (t .1) (from-texts (heldSheet sheet) (heldPattern pattern) (t .0) (t .1) (t .2)),
-  λ t. let u = text-placing-fillings sheet pattern a b (t .0) (t .1) in (fillingsOf (normalNet (heldSheet sheet)) (t .0) (normalNet (heldPattern pattern)), u .0, u .1),
+  λ t. let u = text-placing-fillings sheet pattern a b (t .0) (t .1) in (normalFillingsOf (normalNet (heldSheet sheet)) (t .0) (normalNet (heldPattern pattern)), u .0, u .1),
 )

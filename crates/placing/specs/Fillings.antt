@@ -10,10 +10,11 @@ use Rattle.hyperlmntal.specs.Hypergraph.{name, Flat}
 use Rattle.hyperlmntal.specs.TermOf.{termOf}
 use Rattle.sheet.specs.Pick.{pick}
 use Rattle.sheet.specs.Graph.{fusionOf, edgeOf}
-use Rattle.placing.specs.Net.{NetCell, Net, Range, atomVertex}
+use Rattle.sheet.specs.Normal.{normalForm}
+use Rattle.placing.specs.Net.{NetCell, Net, Range, atomVertex, netOf}
 use Rattle.placing.specs.Placing.{Placing, cellAt, linkTo}
 
--- a row of a filling, with link numbers without end
+-- a row of a filling, with link numbers without end; names and link counts are free too, as only those of a sheet can make that sheet
 pub data Row : Type 0 where
   -- S: a name and its links
   symbolRow : ℕ → List ℕ → Row
@@ -98,3 +99,22 @@ module _ (S : Net) (p : Placing) where
   -- the list of fillings of the figure's blanks: 'for ascending blank numbers'
   abbrev pub fillingsOf : Net → List Filling
   fillingsOf F = map fillingFor (byNumber (F .contexts))
+
+-- an E row
+abbrev pub markOf : ℕ × ℕ → Row
+markOf e = edgeRow (e .0) (e .1)
+
+-- the rows of a net without blanks: its S rows, then its E rows
+abbrev pub netRows : Net → List Row
+netRows N = map symbolOf (N .atoms) ++ map markOf (N .marks)
+
+-- a filling 'given as normal text of its own'
+abbrev pub normalRows : List Row → List Row
+normalRows r = netRows (netOf (normalForm (rowsGraph r)))
+
+abbrev pub normalFilling : Filling → Filling
+normalFilling f = record { number = f .number; ports = f .ports; rows = normalRows (f .rows) }
+
+-- the fillings of the figure's blanks by a placing, each as normal text of its own
+abbrev pub normalFillingsOf : Net → Placing → Net → List Filling
+normalFillingsOf S p F = map normalFilling (fillingsOf S p F)
