@@ -1,6 +1,6 @@
 -- Invariant: the first i atoms have the numbers of their classes.
 use borrow.Author.Needs.{needs}
-use Prim.Native.Nat.{_≤_, _+_, _-_}
+use Prim.Native.Nat.{ℕ, _≤_, _+_, _-_}
 use mathlib.Core.Path.{_≡_, refl, sym, _∙_, ap}
 use mathlib.Core.List.{List, []}
 use native.Mathlib.Omega.{arith}
@@ -16,6 +16,9 @@ use Rattle.sheet.proofs.normal.numbered_atoms.Tie as tie
 -- past an array's end the logic reads this
 abbrev none : Atom
 none = record { name = 0; count = 0; links = [] }
+
+abbrev linked : Atom → List ℕ → Atom
+linked a l = record { name = a .name; count = a .count; links = l }
 
 abbrev Inv-loop : tie.InvT-loop
 Inv-loop numbers sheet atoms₀ i₀ atoms i = (i ≤ sheet .«atom_count») × (length (sheet .atoms) ≡ sheetAtoms + 1) × (atoms ≡ mapped (atomBy numbers sheet) i (sheet .atoms))
@@ -54,10 +57,11 @@ loop-less c = search needs
 loop-again : tie.Need-loop-again Inv-loop μ-loop
 loop-again c = let l = c .before .before .before .before .before in
     let a = l .before .before .args in
-    let f = atomBy (a .numbers) (a .t2) in (
+    let f = atomBy (a .numbers) (a .t2) in
+    let b = getD (a .t2 .atoms) (l .loop .i) none in (
       search needs,
       l .loop .inv .1,
-      rw (c .numbered-links .ensures) (ap (λ (v : List Atom). set v (l .loop .i) (f (getD (a .t2 .atoms) (l .loop .i) none))) (l .loop .inv .2) ∙ sym (mapped-next f none (a .t2 .atoms) (l .loop .i) (omega (arith, l .loop .inv .1, l .before .before .pre .room .atoms)))),
+      ap (λ (w : List ℕ). set (l .loop .atoms) (l .loop .i) (linked b w)) (c .numbered-links .ensures) ∙ (ap (λ (v : List Atom). set v (l .loop .i) (f b)) (l .loop .inv .2) ∙ sym (mapped-next f none (a .t2 .atoms) (l .loop .i) (omega (arith, l .loop .inv .1, l .before .before .pre .room .atoms)))),
     )
 
 returns : tie.Need-returns Inv-loop μ-loop
