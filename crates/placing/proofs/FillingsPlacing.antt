@@ -18,8 +18,9 @@ use Rattle.hyperlmntal.proofs.ExactPorts.{exact-names}
 use Rattle.placing.specs.Net.{NetCell, Net, Range, atomVertex, netGraph}
 use Rattle.placing.specs.Placing.{Placing, numberAt, cellAt, atomTo, linkTo, givenTo, Taken, At, Linked, here, step, Sending, Across, SameMarks}
 use Rattle.placing.specs.Fillings.{edgeRow}
+use Rattle.placing.specs.Filled.{flatEntry}
 use Rattle.placing.proofs.Lists.{each-of-maps, each-sends}
-use Rattle.placing.proofs.Names.{net-name, name-net, flatEntry, all-exact-flat}
+use Rattle.placing.proofs.Names.{net-name, name-net, all-exact-flat}
 use Rattle.placing.proofs.Reduction.{filled}
 use Rattle.placing.proofs.Filled.{FilledNode, figN, ownN, markN, figCell, ownCell, rowsFor, Slot, slot-member, slot-one, exact-for, Edge, at-mark, at-point, at-port, edge-of, mark-edge}
 use Rattle.placing.proofs.Standing.{atom-link, context-link, mark-link, on-link, cell-in, port-in}

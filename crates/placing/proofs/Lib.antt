@@ -24,6 +24,12 @@ pub mod NormalNets
 pub mod NormalTexts
 pub mod TextPlacing
 pub mod NormalFillings
+-- The filled figure.
+pub mod FilledText
+pub mod FilledOrder
+pub mod WorkedFilled
+-- Two sheets.
+pub mod Sheets
 -- The smallest good placing.
 pub mod FirstLaws
 pub mod Tests
@@ -33,3 +39,4 @@ pub mod GoodTest
 pub mod SmallestLaws
 pub mod Narrowed
 pub mod WorkedPlacings
+pub mod NotGood

@@ -21,6 +21,7 @@ use Rattle.sheet.proofs.TextGraph.{port-of}
 use Rattle.placing.specs.Net.{NetCell, Net, atomVertex, contextVertex, netGraph}
 use Rattle.placing.specs.Fillings.{Row, symbolRow, pointRow, edgeRow, rowsGraph, Filling, ExactMarks, Fits}
 use Rattle.placing.specs.Holding.{marksFrom, entryOf, substitutionOf}
+use Rattle.placing.specs.Filled.{flatEntry}
 
 -- A port of a row is no free link.
 no-name : (X : Link) (l : List ℕ) → ¬ (_∈_ {A = Node ℕ} (name X) (map inner l))
@@ -168,9 +169,6 @@ marks-distinct s zero = tt
 marks-distinct s (suc n) = (λ i. let t = marks-out (suc s) n (free s) i in let a : suc s ≤ t .0 = t .1 in let e : free s ≡ free (t .0) = t .3 in let q : s ≡ t .0 = cc in omega arith, marks-distinct (suc s) n)
 
 -- A filling with exactly its ports as marks, as a hypergraph and as an entry of a graph substitution.
-abbrev pub flatEntry : Filling → Entry (Flat ℕ)
-flatEntry f = record { number = f .number; ports = marksFrom 1 (f .ports); body = rowsGraph (f .rows) }
-
 exact-names : (n : ℕ) (r : List Row) → ExactMarks n r → (X : Link) → (name X ∈ nodes (rowsGraph r)) ↔ (X ∈ marksFrom 1 n)
 exact-names n r x X = (onward, backward)
   where

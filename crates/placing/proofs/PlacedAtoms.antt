@@ -18,8 +18,9 @@ use Rattle.sheet.proofs.Distinct.{Once}
 use Rattle.placing.specs.Net.{NetCell, Net, Range, atomVertex, contextVertex, netGraph, Apart}
 use Rattle.placing.specs.Placing.{Placing, cellAt, atomTo, linkTo, givenTo, Taken, Across, PortAt, Inside}
 use Rattle.placing.specs.Fillings.{placesOf}
+use Rattle.placing.specs.Filled.{flatEntry}
 use Rattle.placing.proofs.Lists.{member-at, getD-of, getD-member, each-by-position, table}
-use Rattle.placing.proofs.Names.{symbolsIn, net-name, name-net, flatEntry, all-exact-flat}
+use Rattle.placing.proofs.Names.{symbolsIn, net-name, name-net, all-exact-flat}
 use Rattle.placing.proofs.Reduction.{filled}
 use Rattle.placing.proofs.Filled.{FilledNode, figN, ownN, figCell, ownCell, rowsFor, Slot, slot-member, ownCells, filled-atoms}
 use Rattle.placing.proofs.Standing.{atom-link, context-link, cell-in}

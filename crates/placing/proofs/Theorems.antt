@@ -4,8 +4,9 @@ use mathlib.Core.Path.{_≡_}
 use mathlib.Core.Logic.{_↔_}
 use mathlib.Core.List.{List, map}
 use Rattle.hyperlmntal.specs.Congruence.{_≅_, ≅-sym, ≅-trans}
+use Rattle.hyperlmntal.specs.TermOf.{termOf}
 use Rattle.sheet.specs.Held.{Held}
-use Rattle.sheet.specs.Graph.{termOfText}
+use Rattle.sheet.specs.Graph.{graphOf, termOfText}
 use Rattle.sheet.specs.Reading.{outcomeOf, noPorts}
 use Rattle.sheet.specs.declared.kind.Kind.the-variants.{Plain, Pattern}
 use Rattle.sheet.specs.declared.answer.Answer.the-variants.{Passed}
@@ -13,6 +14,7 @@ use Rattle.placing.specs.Net.{Net, normalNet, netTerm, Normal, NormalShe
 use Rattle.placing.specs.Placing.{Placing, Good}
 use Rattle.placing.specs.Fillings.{Filling, Fits, fillingsOf, normalFillingsOf}
 use Rattle.placing.specs.Holding.{holdingTerm, holding}
+use Rattle.placing.specs.Filled.{filledNormal}
 use Rattle.placing.proofs.Reduction.{holding-congruent}
 use Rattle.placing.proofs.FillingsFit.{fillings-fit}
 use Rattle.placing.proofs.PlacedAtoms.{placed-isomorphic}
@@ -22,6 +24,8 @@ use Rattle.placing.proofs.OwnLinks.{good}
 use Rattle.placing.proofs.NormalTexts.{sheet-normal, pattern-normal, netBlank, textBlank, text-blanks}
 use Rattle.placing.proofs.NormalFillings.{normal-fit, normal-holding}
 use Rattle.placing.proofs.TextPlacing.{to-texts, from-texts}
+use Rattle.placing.proofs.FilledText.{AllExactMarks}
+use Rattle.placing.proofs.FilledText as FilledText
 
 -- The fillings of a good placing fit, and the figure holding them is congruent to the sheet.
 pub placing-fillings : (S F : Net) → NormalSheet S → NormalPattern F → (p : Placing) → Good S F p → Fits F (fillingsOf S p F) × (holding F (fillingsOf S p F) ≅ netTerm S)
@@ -87,3 +91,7 @@ text-fillings-iff-placing sheet pattern a b = (
   λ t. fillings-placing (normalNet (heldSheet sheet)) (normalNet (heldPattern pattern)) (sheet-net sheet a) (pattern-net pattern b .normal) (t .0) (t .1) (from-texts (heldSheet sheet) (heldPattern pattern) (t .0) (t .1) (t .2)),
   λ t. let u = text-placing-fillings sheet pattern a b (t .0) (t .1) in (normalFillingsOf (normalNet (heldSheet sheet)) (t .0) (normalNet (heldPattern pattern)), u .0, u .1),
 )
+
+-- A filled figure, as normal text, is congruent to what graph substitution makes of the figure.
+pub filled-text : (h : Held) (θ : List Filling) → AllExactMarks θ → termOf (filledNormal (graphOf h) θ) ≅ holdingTerm (termOfText h) θ
+filled-text h θ exact = FilledText.filled-text h θ exact

@@ -4,3 +4,4 @@ pub mod Fillings
 pub mod Holding
 pub mod First
 pub mod Smallest
+pub mod Filled
