@@ -30,6 +30,13 @@ pub mod FilledOrder
 pub mod WorkedFilled
 -- Two sheets.
 pub mod Sheets
+-- A list of fillings as a text.
+pub mod ListRows
+pub mod ListBack
+pub mod ListParts
+pub mod NormalRowsFit
+pub mod PlacedList
+pub mod PlacedText
 -- The smallest good placing.
 pub mod FirstLaws
 pub mod Tests
@@ -40,3 +47,5 @@ pub mod SmallestLaws
 pub mod Narrowed
 pub mod WorkedPlacings
 pub mod NotGood
+-- Demand 3 for the placing that is chosen.
+pub mod Chosen

@@ -180,6 +180,10 @@ module _ (h : Held) where
       marks [] = refl
       marks (m ∷ l) = ap (λ k. markedBy (classOf (graphOf h .fusions)) (graphOf h) m ∷ k) (marks l)
 
+  pub normal-atoms : normalNet h .atoms ≡ map (atomNumbers linkNumber) (h .atoms)
+  unfolding normalForm normalFormBy
+  normal-atoms = atoms-among linkNumber (h .atoms) (h .contexts)
+
   pub normal-contexts : normalNet h .contexts ≡ map (contextNumbers linkNumber) (h .contexts)
   unfolding normalForm normalFormBy
   normal-contexts = contexts-among linkNumber (h .atoms) (h .contexts)

@@ -78,6 +78,15 @@ cases =
         record { number = 1; ports = 2; rows = edgeRow 3 1 ∷ edgeRow 3 2 ∷ [] } ∷ record { number = 2; ports = 1; rows = symbolRow 21 (1 ∷ []) ∷ edgeRow 1 1 ∷ [] } ∷ [],
       );
     }
+    -- stage and hut with the hut's row first: the same fillings
+    ∷ record {
+      sheet = withLinkCount ((21, 1 ∷ []) ∷ (10, 1 ∷ 2 ∷ 3 ∷ []) ∷ []) [] ((2, 1) ∷ (3, 2) ∷ []);
+      figure = hut;
+      placed = some (
+        record { atomsTo = 2 ∷ []; linksTo = 1 ∷ 2 ∷ 3 ∷ 3 ∷ []; given = 2 ∷ 0 ∷ [] },
+        record { number = 1; ports = 2; rows = edgeRow 3 1 ∷ edgeRow 3 2 ∷ [] } ∷ record { number = 2; ports = 1; rows = symbolRow 21 (1 ∷ []) ∷ edgeRow 1 1 ∷ [] } ∷ [],
+      );
+    }
     -- sheet `S 10 3 1 2 3`, `S 21 1 1`, `S 10 3 4 5 2`, `S 22 1 4`, `E 5 1`, `E 3 2`, the same figure: blank 1 gets
     -- `S 10 3 1 2 3`, `S 21 1 1`, `E 2 1`, `E 3 2`; blank 2 gets `S 22 1 1`, `E 1 1`
     ∷ record {

@@ -5,3 +5,4 @@ pub mod Holding
 pub mod First
 pub mod Smallest
 pub mod Filled
+pub mod ListText
