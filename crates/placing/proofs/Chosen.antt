@@ -5,7 +5,8 @@ use mathlib.Core.Logic.{_↔_}
 use mathlib.Core.List.{List}
 use mathlib.Core.Option.{some, none}
 use Rattle.hyperlmntal.specs.Congruence.{_≅_}
-use Rattle.sheet.specs.Graph.{termOfText}
+use Rattle.hyperlmntal.specs.TermOf.{termOf}
+use Rattle.sheet.specs.Graph.{graphOf, termOfText}
 use Rattle.sheet.specs.Reading.{outcomeOf, noPorts}
 use Rattle.sheet.specs.declared.kind.Kind.the-variants.{Plain, Pattern, Fillings}
 use Rattle.sheet.specs.declared.answer.Answer.the-variants.{Passed}
@@ -13,9 +14,11 @@ use Rattle.placing.specs.Net.{Net, normalNet}
 use Rattle.placing.specs.Placing.{Placing}
 use Rattle.placing.specs.Fillings.{Filling, Fits, normalFillingsOf}
 use Rattle.placing.specs.Holding.{holdingTerm}
+use Rattle.placing.specs.Filled.{filledNormal}
 use Rattle.placing.specs.ListText.{listText}
 use Rattle.placing.specs.Smallest.{smallest}
 use Rattle.placing.proofs.Theorems.{heldSheet, heldPattern, text-placing-fillings, text-fillings-iff-placing}
+use Rattle.placing.proofs.FilledText.{filled-same}
 use Rattle.placing.proofs.SmallestLaws.{smallest-good, smallest-none}
 use Rattle.placing.proofs.PlacedText.{placed-list-passes}
 
@@ -39,3 +42,7 @@ module _ (sheet pattern : List ℕ) (a : outcomeOf Plain noPorts sheet .answer �
       → (outcomeOf Fillings noPorts (listText (normalFillingsOf S p F)) .answer ≡ Passed)
       × (Fits F (normalFillingsOf S p F) × (holdingTerm (termOfText (heldPattern pattern)) (normalFillingsOf S p F) ≅ termOfText (heldSheet sheet)))
   chosen-fillings p e = let g = smallest-good S F p e in (placed-list-passes sheet pattern a b p g, text-placing-fillings sheet pattern a b p g)
+
+  -- The claim with them holds: the filled pattern, as normal text, is the same as the sheet.
+  pub chosen-claim : (p : Placing) → smallest S F ≡ some p → termOf (filledNormal (graphOf (heldPattern pattern)) (normalFillingsOf S p F)) ≅ termOfText (heldSheet sheet)
+  chosen-claim p e = let t = chosen-fillings p e in filled-same (heldSheet sheet) (heldPattern pattern) (normalFillingsOf S p F) (t .1 .0 .exact) .1 (t .1 .1)
