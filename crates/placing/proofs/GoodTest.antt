@@ -31,7 +31,7 @@ module _ (S F : Net) (p : Placing) where
   says-given : (j : ℕ) → Says (givenRight S F p j) (Given j)
   says-given j = says-choice (says-taken j) (says-eq _ _) (says-some (λ (row : NetCell). eqb (row .0) (givenTo p j)) (λ (row : NetCell). row .0 ≡ givenTo p j) (λ row. says-eq _ _) (F .contexts))
 
-  says-sending : Says (sendingTest S F p) (Sending S F p)
+  pub says-sending : Says (sendingTest S F p) (Sending S F p)
   says-sending = says-by
       (says-and (says-eq _ _) (says-and atoms (says-and different (says-and (says-eq _ _) (says-and links (says-and (says-eq _ _) given))))))
       (λ t. record {
@@ -62,10 +62,10 @@ module _ (S F : Net) (p : Placing) where
       given : Says (allOf (givenRight S F p) (numbersTo sheetAtoms)) ((j : ℕ) → Range sheetAtoms j → Given j)
       given = says-all-to (givenRight S F p) Given says-given sheetAtoms
 
-  says-across : (i : ℕ) → Says (acrossTest S F p i) (Across S F p i)
+  pub says-across : (i : ℕ) → Says (acrossTest S F p i) (Across S F p i)
   says-across i = says-by (says-and (says-eq _ _) (says-list _ _)) (λ t. record { name = t .0; places = t .1 }) (λ t. (t .name, t .places))
 
-  says-marks : Says (marksTest S F p) (SameMarks S F p)
+  pub says-marks : Says (marksTest S F p) (SameMarks S F p)
   says-marks = says-by (says-and (says-all (markOnward S F p) On on (F .marks)) (says-all (markBackward S F p) Back back (S .marks)))
       (λ t. record { onward = λ x m h. onto x m (t .0 (x, m) h); backward = λ y m h. from m (t .1 (y, m) h) })
       (λ t. ((λ e h. ((linkTo p (e .0), e .1), t .onward (e .0) (e .1) h, (refl, refl))), (λ d h. let s = t .backward (d .0) (d .1) h in ((s .0, d .1), s .1, refl))))
@@ -88,7 +88,7 @@ module _ (S F : Net) (p : Placing) where
       from : (m : ℕ) → (e : ℕ × ℕ) × (e ∈ F .marks) × (e .1 ≡ m) → (x : ℕ) × ((x, m) ∈ F .marks)
       from m t = (t .0 .0, subst (λ (c : ℕ). (t .0 .0, c) ∈ F .marks) (t .2) (t .1))
 
-  says-port : (k y : ℕ) → Says (portTest S F p k y) (PortAt S F p k y)
+  pub says-port : (k y : ℕ) → Says (portTest S F p k y) (PortAt S F p k y)
   says-port k y = says-by
       (says-some _ Row (λ (row : NetCell). says-and (says-eq (row .0) k) (says-some _ (λ x. linkTo p x ≡ y) (λ x. says-eq (linkTo p x) y) (row .1))) (F .contexts))
       (λ t. record { row = t .0; of-figure = t .1; number = t .2 .0; link = t .2 .1 .0; port = t .2 .1 .1; there = t .2 .1 .2 })
@@ -114,10 +114,10 @@ module _ (S F : Net) (p : Placing) where
       atoms : Says (allOf (onlyThere S F p k y) (numbersTo sheetAtoms)) ((j : ℕ) → Range sheetAtoms j → There j)
       atoms = says-all-to (onlyThere S F p k y) There (λ j. says-implies (says-among _ _) (says-and (says-not (says-taken j)) (says-eq _ _))) sheetAtoms
 
-  abbrev Own : ℕ → Type 0
+  abbrev pub Own : ℕ → Type 0
   Own j = ¬ Taken S F p j → (y : ℕ) → y ∈ (cellAt (S .atoms) j) .1 → PortAt S F p (givenTo p j) y ⊎ Inside S F p (givenTo p j) y
 
-  says-own : (j : ℕ) → Says (ownLinks S F p j) (Own j)
+  pub says-own : (j : ℕ) → Says (ownLinks S F p j) (Own j)
   says-own j = record { sound = λ e n. onward n (tests .sound e); complete = λ f. go (isTaken S F p j) refl f }
     where
       Links : Type 0

@@ -1,6 +1,6 @@
 -- The theorems in one place, and worked sheets.
 pub mod Theorems
-pub mod Worked
+pub mod WorkedPlacings
 -- Lists, orders and connections.
 pub mod Lists
 pub mod Orders
@@ -19,6 +19,7 @@ pub mod OwnLinks
 pub mod FillingsFit
 pub mod PlacingFillings
 pub mod PlacedAtoms
+pub mod NetPlacing
 -- The normal nets of texts.
 pub mod NormalNets
 pub mod NormalTexts
@@ -45,7 +46,10 @@ pub mod StepLabels
 pub mod GoodTest
 pub mod SmallestLaws
 pub mod Narrowed
-pub mod WorkedPlacings
-pub mod NotGood
+pub mod NormalTest
+-- What the conditions are for.
+pub mod Wrong
+pub mod Needed
+pub mod NeededFillings
 -- Demand 3 for the placing that is chosen.
 pub mod Chosen

@@ -1,7 +1,7 @@
 -- Lists by position, tables of values, related lists, and a search through a list.
 use Prim.Native.Nat.{ℕ, zero, suc, _+_, _-_, _<_}
 use mathlib.Core.Path.{_≡_, refl, ap, ap₂, sym, _∙_, subst, subst₂}
-use mathlib.Core.Logic.{_⊎_, inl, inr}
+use mathlib.Core.Logic.{_⊎_, inl, inr, ⊎-elim}
 use mathlib.Core.List.{List, [], _∷_, _++_, map, List·Memᴰ·head, List·Memᴰ·tail, List·Memᴰ·cases-cons, List·Memᴰ·not-nil}
 use mathlib.Core.Option.{some}
 use native.Mathlib.Omega.{arith}
@@ -9,6 +9,7 @@ use lib.ListN.{length, getD, getElem?}
 use Rattle.hyperlmntal.specs.Link.{_∈_}
 use Rattle.hyperlmntal.proofs.Lists.{Each, done, more}
 use Rattle.hyperlmntal.proofs.Positions.{some-injective}
+use Rattle.sheet.proofs.Ranges.{Every}
 
 -- What stands at a position.
 pub at-left : {A : Type 0} (k l : List A) (i : ℕ) → i < length k → getElem? (k ++ l) i ≡ getElem? k i
@@ -124,3 +125,8 @@ some-member {A} Q d (x ∷ l) = at (d x) (some-member Q d l)
         neither : (t : (a : A) × (a ∈ (x ∷ l)) × Q a) → (t .0 ≡ x) ⊎ (t .0 ∈ l) → ⊥
         neither t (inl e) = n (subst Q e (t .2))
         neither t (inr i) = k (t .0, i, t .2)
+
+-- What holds of every element holds of each.
+pub every-member : {A : Type 0} (P : A → Type 0) (l : List A) (x : A) → Every P l → x ∈ l → P x
+every-member P [] x p i = absurd (List·Memᴰ·not-nil i)
+every-member P (y ∷ l) x p i = ⊎-elim (λ e. subst P (sym e) (p .0)) (λ j. every-member P l x (p .1) j) (List·Memᴰ·cases-cons i)

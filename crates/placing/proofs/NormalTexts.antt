@@ -25,6 +25,7 @@ use Rattle.sheet.proofs.RowRange.{good-letter}
 use Rattle.sheet.proofs.Ranges.{Every, ContextRange}
 use Rattle.sheet.proofs.HeldLimits.{head-list, held-within}
 use Rattle.placing.specs.Net.{NetCell, normalNet, Apart, NormalSheet, NormalPattern}
+use Rattle.placing.proofs.Lists.{every-member}
 use Rattle.placing.proofs.NormalNets.{contextNumbers, linkNumber, normal-contexts, normal-net}
 
 -- A sheet text holds no blanks.
@@ -101,14 +102,6 @@ apart-numbers f (c ∷ l) o = (λ d m. at d (Memᴰ·of-map (contextNumbers f) l
     at : (d : NetCell) → (b : Context) × (b ∈ l) × (contextNumbers f b ≡ d) → c .number ≢ d .0
     at d t q = o .0 (t .0) (t .1) (q ∙ sym (ap (λ x. x .0) (t .2)))
 
-every-member : (P : Context → Type 0) (l : List Context) → Every P l → (c : Context) → c ∈ l → P c
-every-member P [] e c m = absurd (List·Memᴰ·not-nil m)
-every-member P (b ∷ l) e c m = at (List·Memᴰ·cases-cons m) (every-member P l (e .1) c)
-  where
-    at : (c ≡ b) ⊎ (c ∈ l) → (c ∈ l → P c) → P c
-    at (inl p) f = subst P (sym p) (e .0)
-    at (inr k) f = f k
-
 pub pattern-normal : (given text : List ℕ) → NormalPattern (normalNet (outcomeOf Pattern given text .held))
 pattern-normal given text =
     let h = outcomeOf Pattern given text .held in
@@ -120,7 +113,7 @@ pattern-normal given text =
     from-one : (c : NetCell) → c ∈ normalNet g .contexts → 1 ≤ c .0
     from-one c m =
         let t : (b : Context) × (b ∈ g .contexts) × (contextNumbers (linkNumber g) b ≡ c) = Memᴰ·of-map (contextNumbers (linkNumber g)) (g .contexts) (subst (λ l. c ∈ l) (normal-contexts g) m) in
-        let r = every-member (ContextRange Pattern) (g .contexts) (held-within Pattern given text .ranges .contexts) (t .0) (t .1) in
+        let r = every-member (ContextRange Pattern) (g .contexts) (t .0) (held-within Pattern given text .ranges .contexts) (t .1) in
         let b : 1 ≤ t .0 .number = r .number .0 in
         subst (λ n. 1 ≤ n) (ap (λ x. x .0) (t .2)) b
 

@@ -18,7 +18,7 @@ use Rattle.sheet.specs.declared.Context.{Context}
 use Rattle.sheet.specs.declared.kind.Kind.the-variants.{Plain, Pattern, Fillings}
 use Rattle.sheet.specs.declared.answer.Answer.the-variants.{Passed}
 use Rattle.sheet.proofs.RowRange.{Within}
-use Rattle.sheet.proofs.Ranges.{Every, AtomRange, ContextRange}
+use Rattle.sheet.proofs.Ranges.{AtomRange, ContextRange}
 use Rattle.sheet.proofs.HeldLimits.{held-within}
 use Rattle.sheet.proofs.Merging.{at-indexOf}
 use Rattle.sheet.proofs.Connected.{agrees-read, atom-links, context-links, edge-links}
@@ -29,7 +29,7 @@ use Rattle.placing.specs.Net.{NetCell, Net, Range, standing, normalNet}
 use Rattle.placing.specs.Placing.{Placing, Good}
 use Rattle.placing.specs.Fillings.{Row, symbolRow, pointRow, edgeRow, Filling, Fits, normalFillingsOf}
 use Rattle.placing.specs.ListText.{rowsText, headText, listText}
-use Rattle.placing.proofs.Lists.{getD-member}
+use Rattle.placing.proofs.Lists.{getD-member, every-member}
 use Rattle.placing.proofs.NormalNets.{standing-node, atomNumbers, contextNumbers, linkNumber, normal-graph, normal-atoms, normal-contexts, normal-net}
 use Rattle.placing.proofs.NormalTexts.{textBlank}
 use Rattle.placing.proofs.Theorems.{heldSheet, heldPattern, sheet-net, pattern-net, text-placing-fillings}
@@ -52,10 +52,6 @@ edge-out (symbolRow a l ∷ r) x m i = List·Memᴰ·tail (edge-out r x m i)
 edge-out (pointRow a b ∷ r) x m i = List·Memᴰ·tail (edge-out r x m i)
 edge-out (edgeRow y n ∷ r) x m i =
     ⊎-elim (λ e. List·Memᴰ·head (ap (λ z. edgeRow (z .0) (z .1)) e)) (λ k. List·Memᴰ·tail (edge-out r x m k)) (List·Memᴰ·cases-cons i)
-
-every-member : {A : Type 0} (P : A → Type 0) (l : List A) (x : A) → Every P l → x ∈ l → P x
-every-member P [] x p i = absurd (List·Memᴰ·not-nil i)
-every-member P (y ∷ l) x p i = ⊎-elim (λ e. subst P (sym e) (p .0)) (λ j. every-member P l x (p .1) j) (List·Memᴰ·cases-cons i)
 
 among-in : (x : ℕ) (l : List ℕ) → Among x l → x ∈ l
 among-in x l h = subst (λ y. y ∈ l) (at-indexOf x l h) (getD-member l _ 0 h)

@@ -1,21 +1,15 @@
 -- Two sheets: a figure without contexts. A good placing of it in a sheet is then there exactly when the two are the same.
-use Prim.Native.Nat.{ℕ}
 use mathlib.Core.Path.{_≡_, sym, ap, subst}
 use mathlib.Core.Logic.{_↔_}
-use mathlib.Core.List.{List, [], map, List·Memᴰ·not-nil}
-use Rattle.hyperlmntal.specs.Congruence.{_≅_, ≅-sym, ≅-trans}
+use mathlib.Core.List.{[], map, List·Memᴰ·not-nil}
+use Rattle.hyperlmntal.specs.Congruence.{_≅_}
 use Rattle.hyperlmntal.specs.Link.{_∈_}
 use Rattle.hyperlmntal.proofs.SubstitutionLaws.{substitute-nothing}
-use Rattle.sheet.specs.Graph.{termOfText}
-use Rattle.sheet.specs.Reading.{outcomeOf, noPorts}
-use Rattle.sheet.specs.declared.kind.Kind.the-variants.{Plain}
-use Rattle.sheet.specs.declared.answer.Answer.the-variants.{Passed}
-use Rattle.placing.specs.Net.{NetCell, Net, normalNet, netTerm, Apart, NormalSheet, NormalPattern}
+use Rattle.placing.specs.Net.{NetCell, Net, netTerm, Apart, NormalSheet, NormalPattern}
 use Rattle.placing.specs.Placing.{Placing, Good}
 use Rattle.placing.specs.Fillings.{Fits, byNumber, fillingFor, fillingsOf}
 use Rattle.placing.specs.Holding.{holding}
-use Rattle.placing.proofs.TextPlacing.{text-net}
-use Rattle.placing.proofs.Theorems.{placing-fillings, fillings-placing, heldSheet, sheet-net}
+use Rattle.placing.proofs.NetPlacing.{placing-fillings, fillings-placing}
 
 none-in : (F : Net) → F .contexts ≡ [] → (c : NetCell) → ¬ (c ∈ F .contexts)
 none-in F e c m = List·Memᴰ·not-nil (subst (λ l. c ∈ l) e m)
@@ -44,10 +38,3 @@ sheets-placing S F s f = (onward, λ e. fillings-placing S F s (f .normal) [] (f
     onward t =
         let u = placing-fillings S F s (sheet-pattern F f) (t .0) (t .1) in
         subst (λ T. T ≅ netTerm S) (holding-nothing F) (subst (λ θ. holding F θ ≅ netTerm S) (fillings-nothing S F (t .0) (f .no-contexts)) (u .1))
-
--- The same for two sheet texts that passed.
-pub text-sheets-placing : (a b : List ℕ) → outcomeOf Plain noPorts a .answer ≡ Passed → outcomeOf Plain noPorts b .answer ≡ Passed
-    → ((p : Placing) × Good (normalNet (heldSheet a)) (normalNet (heldSheet b)) p) ↔ (termOfText (heldSheet b) ≅ termOfText (heldSheet a))
-text-sheets-placing a b s f =
-    let t = sheets-placing (normalNet (heldSheet a)) (normalNet (heldSheet b)) (sheet-net a s) (sheet-net b f) in
-    (λ g. ≅-trans (text-net (heldSheet b)) (≅-trans (t .0 g) (≅-sym (text-net (heldSheet a)))), λ e. t .1 (≅-trans (≅-sym (text-net (heldSheet b))) (≅-trans e (text-net (heldSheet a)))))

@@ -15,44 +15,54 @@ use Rattle.placing.specs.Placing.{Placing, Good}
 use Rattle.placing.specs.Fillings.{Filling, Fits, fillingsOf, normalFillingsOf}
 use Rattle.placing.specs.Holding.{holdingTerm, holding}
 use Rattle.placing.specs.Filled.{filledNormal}
-use Rattle.placing.proofs.Reduction.{holding-congruent}
-use Rattle.placing.proofs.FillingsFit.{fillings-fit}
-use Rattle.placing.proofs.PlacedAtoms.{placed-isomorphic}
-use Rattle.placing.proofs.Origins.{Solution}
-use Rattle.placing.proofs.Landing.{placingOf}
-use Rattle.placing.proofs.OwnLinks.{good}
 use Rattle.placing.proofs.NormalTexts.{sheet-normal, pattern-normal, netBlank, textBlank, text-blanks}
-use Rattle.placing.proofs.NormalFillings.{normal-fit, normal-holding}
-use Rattle.placing.proofs.TextPlacing.{to-texts, from-texts}
+use Rattle.placing.proofs.TextPlacing.{text-net, to-texts, from-texts}
 use Rattle.placing.proofs.FilledText.{AllExactMarks}
 use Rattle.placing.proofs.FilledText as FilledText
+use Rattle.placing.proofs.NetPlacing as NetPlacing
+use Rattle.placing.proofs.Sheets.{sheets-placing}
+use Rattle.placing.proofs.Wrong.{SharedGood, DroppedGood, InnerGood, fillingsAtMarks, fillingsSomewhere}
+use Rattle.placing.proofs.Needed as Needed
+use Rattle.placing.proofs.NeededFillings as NeededFillings
 
 -- The fillings of a good placing fit, and the figure holding them is congruent to the sheet.
 pub placing-fillings : (S F : Net) → NormalSheet S → NormalPattern F → (p : Placing) → Good S F p → Fits F (fillingsOf S p F) × (holding F (fillingsOf S p F) ≅ netTerm S)
-placing-fillings S F s f p g =
-    let fit = fillings-fit S p F (s .normal) (f .normal) (f .different) g in (
-      fit,
-      (holding-congruent S F (fillingsOf S p F) fit) .1
-          (placed-isomorphic (record { sheet = S; figure = F; placing = p; sheet-normal = s .normal; no-contexts = s .no-contexts; figure-normal = f .normal; numbers = f .from-one; apart = f .different; good = g })),
-    )
+placing-fillings S F s f p g = NetPlacing.placing-fillings S F s f p g
 
 -- So do the same fillings, each as normal text of its own.
 pub placing-normal-fillings : (S F : Net) → NormalSheet S → NormalPattern F → (p : Placing) → Good S F p → Fits F (normalFillingsOf S p F) × (holding F (normalFillingsOf S p F) ≅ netTerm S)
-placing-normal-fillings S F s f p g =
-    let t = placing-fillings S F s f p g in
-    (normal-fit F (fillingsOf S p F) (t .0), ≅-trans (≅-sym (normal-holding F (fillingsOf S p F) (t .0) (netTerm F))) (t .1))
+placing-normal-fillings S F s f p g = NetPlacing.placing-normal-fillings S F s f p g
 
 -- Fillings of any size that fit, and with which the figure is congruent to the sheet, give a good placing. Here several blanks may
 -- have one number.
 pub fillings-placing : (S F : Net) → NormalSheet S → Normal F → (θ : List Filling) → Fits F θ → holding F θ ≅ netTerm S → (p : Placing) × Good S F p
-fillings-placing S F s f θ fit e =
-    let C : Solution = record { sheet = S; figure = F; fillings = θ; sheet-normal = s .normal; no-contexts = s .no-contexts; figure-normal = f; fits = fit; same = (holding-congruent S F θ fit) .0 e } in
-    (placingOf C, good C)
+fillings-placing S F s f θ fit e = NetPlacing.fillings-placing S F s f θ fit e
 
 -- Theorem D: a figure can be filled to a sheet exactly when some placing is good.
 pub fillings-iff-placing : (S F : Net) → NormalSheet S → NormalPattern F → ((θ : List Filling) × Fits F θ × (holding F θ ≅ netTerm S)) ↔ ((p : Placing) × Good S F p)
-fillings-iff-placing S F s f =
-    (λ t. fillings-placing S F s (f .normal) (t .0) (t .1) (t .2), λ t. let u = placing-fillings S F s f (t .0) (t .1) in (fillingsOf S (t .0) F, u .0, u .1))
+fillings-iff-placing S F s f = NetPlacing.fillings-iff-placing S F s f
+
+-- Its conditions are needed. With one of the wrong notions of a good placing that document 01 names, as Wrong has them, theorem D
+-- is false: two figure links share a sheet link with no blank between,
+pub shared-needs : ¬ ((S F : Net) → NormalSheet S → NormalPattern F → ((θ : List Filling) × Fits F θ × (holding F θ ≅ netTerm S)) ↔ ((p : Placing) × SharedGood S F p))
+shared-needs = Needed.shared-needs
+
+-- a sheet mark that touches no atom is dropped,
+pub mark-needs : ¬ ((S F : Net) → NormalSheet S → NormalPattern F → ((θ : List Filling) × Fits F θ × (holding F θ ≅ netTerm S)) ↔ ((p : Placing) × DroppedGood S F p))
+mark-needs = Needed.mark-needs
+
+-- the link between the atoms of two blanks is inner to one of them.
+pub inner-needs : ¬ ((S F : Net) → NormalSheet S → NormalPattern F → ((θ : List Filling) × Fits F θ × (holding F θ ≅ netTerm S)) ↔ ((p : Placing) × InnerGood S F p))
+inner-needs = Needed.inner-needs
+
+-- With one of the wrong fillings in place of the fillings of a placing, placing-fillings is false: where ports that go to one link
+-- share it only if that has a mark, the figure is not turned into the sheet,
+pub fusion-needs : ¬ ((S F : Net) → NormalSheet S → NormalPattern F → (p : Placing) → Good S F p → holding F (fillingsAtMarks S p F) ≅ netTerm S)
+fusion-needs = NeededFillings.fusion-needs
+
+-- and where a port that goes to none is left out with its mark, the fillings do not fit.
+pub port-needs : ¬ ((S F : Net) → NormalSheet S → NormalPattern F → (p : Placing) → Good S F p → Fits F (fillingsSomewhere S p F))
+port-needs = NeededFillings.port-needs
 
 -- The same for texts that passed. What the rows of a sheet text, or of a pattern text, hold:
 abbrev pub heldSheet : List ℕ → Held
@@ -91,6 +101,13 @@ text-fillings-iff-placing sheet pattern a b = (
   λ t. fillings-placing (normalNet (heldSheet sheet)) (normalNet (heldPattern pattern)) (sheet-net sheet a) (pattern-net pattern b .normal) (t .0) (t .1) (from-texts (heldSheet sheet) (heldPattern pattern) (t .0) (t .1) (t .2)),
   λ t. let u = text-placing-fillings sheet pattern a b (t .0) (t .1) in (normalFillingsOf (normalNet (heldSheet sheet)) (t .0) (normalNet (heldPattern pattern)), u .0, u .1),
 )
+
+-- One sheet text that passed has a good placing in another exactly when the two are the same.
+pub text-sheets-placing : (a b : List ℕ) → outcomeOf Plain noPorts a .answer ≡ Passed → outcomeOf Plain noPorts b .answer ≡ Passed
+    → ((p : Placing) × Good (normalNet (heldSheet a)) (normalNet (heldSheet b)) p) ↔ (termOfText (heldSheet b) ≅ termOfText (heldSheet a))
+text-sheets-placing a b s f =
+    let t = sheets-placing (normalNet (heldSheet a)) (normalNet (heldSheet b)) (sheet-net a s) (sheet-net b f) in
+    (λ g. ≅-trans (text-net (heldSheet b)) (≅-trans (t .0 g) (≅-sym (text-net (heldSheet a)))), λ e. t .1 (≅-trans (≅-sym (text-net (heldSheet b))) (≅-trans e (text-net (heldSheet a)))))
 
 -- A filled figure, as normal text, is congruent to what graph substitution makes of the figure.
 pub filled-text : (h : Held) (θ : List Filling) → AllExactMarks θ → termOf (filledNormal (graphOf h) θ) ≅ holdingTerm (termOfText h) θ

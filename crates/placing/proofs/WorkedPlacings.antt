@@ -1,118 +1,171 @@
--- What the definitions give on the worked sheets of document 01 that concern placings.
+-- The worked sheets of document 01 that concern placing and filling: what the definitions give, from the texts to the texts.
+use Prim.Native.Nat.{ℕ}
 use mathlib.Core.Path.{_≡_, refl, _∙_, ap, ap₂}
-use mathlib.Core.List.{List, [], _∷_, map}
+use mathlib.Core.List.{List, [], _∷_, _++_, map}
 use mathlib.Core.Option.{Option, none, some}
-use lib.ListN.{take}
-use Rattle.placing.specs.Net.{Net, withLinkCount}
+use native.Mathlib.Decide.{ℕ-discrete}
+use Rattle.hyperlmntal.specs.Link.{_≟_}
+use Rattle.hyperlmntal.specs.GraphSubstitution.{sameFunctor}
+use Rattle.hyperlmntal.specs.DenotedSubstitution.{connect}
+use Rattle.sheet.specs.Held.{Held}
+use Rattle.sheet.specs.Graph.{graphOf}
+use Rattle.sheet.specs.Normal.{normalForm, normalFormBy, classOf, classesBy, numberBy, marksAmong, inserted, distinct, others}
+use Rattle.sheet.specs.NormalText.{joined, textOf, normalText}
+use Rattle.sheet.specs.Reading.{outcomeOf, noPorts}
+use Rattle.sheet.specs.declared.kind.Kind.the-variants.{Plain, Pattern}
+use Rattle.sheet.specs.declared.answer.Answer.{Answer}
+use Rattle.sheet.specs.declared.answer.Answer.the-variants.{Passed}
+use Rattle.sheet.proofs.Texts.{symbol, context, edge, head, answerTo}
+use Rattle.placing.specs.Net.{Net, normalNet}
 use Rattle.placing.specs.Placing.{Placing}
-use Rattle.placing.specs.Fillings.{Filling, symbolRow, edgeRow, placesOf, withContext, byNumber, fillingsOf}
+use Rattle.placing.specs.Fillings.{placesOf, withContext, byNumber, normalFillingsOf}
+use Rattle.placing.specs.Filled.{filledNormal}
+use Rattle.placing.specs.ListText.{rowsText, listText}
 use Rattle.placing.specs.First.{firstFrom, firstList}
 use Rattle.placing.specs.Smallest.{isAmong, smallest, labelsBy}
 use Rattle.placing.proofs.FirstLaws.{firstMay}
 use Rattle.placing.proofs.Narrowed.{narrowed, narrowed-same}
 
--- The smallest good placing with the list of fillings by it; none where no placing is good.
-abbrev Placed : Type 0
-Placed = Option (Placing × List Filling)
+-- What placing gives: the smallest good placing, the text of the list of its fillings, each as normal text of its own, and the
+-- normal text of the pattern filled with them.
+record Placed : Type 0 where
+  placing : Placing
+  list : List ℕ
+  filled : List ℕ
 
+-- A sheet and a pattern, both normal texts, and what is placed; none: 11.
 record Case : Type 0 where
-  sheet : Net
-  figure : Net
-  placed : Placed
+  sheet : List ℕ
+  pattern : List ℕ
+  placed : Option Placed
 
-abbrev withFillings : Net → Net → Option Placing → Placed
-withFillings S F none = none
-withFillings S F (some p) = some (p, fillingsOf S p F)
+-- What the definitions give of two texts: the answers to them, their normal texts, and what is placed.
+record Result : Type 0 where
+  sheetAnswer : Answer
+  patternAnswer : Answer
+  sheetText : List ℕ
+  patternText : List ℕ
+  placed : Option Placed
 
-abbrev outcome : Case → Placed
-outcome c = withFillings (c .sheet) (c .figure) (smallest (c .sheet) (c .figure))
+abbrev placedBy : Net → Held → Option Placing → Option Placed
+placedBy S h none = none
+placedBy S h (some p) =
+    let θ = normalFillingsOf S p (normalNet h) in
+    some (record { placing = p; list = listText θ; filled = textOf (filledNormal (graphOf h) θ) })
 
-abbrev sooner : Case → Placed
-sooner c = withFillings (c .sheet) (c .figure) (narrowed (c .sheet) (c .figure))
+-- by any search for the smallest good placing
+abbrev resultBy : (Net → Net → Option Placing) → Case → Result
+resultBy search c =
+    let s = outcomeOf Plain noPorts (c .sheet) in
+    let f = outcomeOf Pattern noPorts (c .pattern) in
+    record {
+      sheetAnswer = s .answer;
+      patternAnswer = f .answer;
+      sheetText = normalText Plain (c .sheet);
+      patternText = normalText Pattern (c .pattern);
+      placed = placedBy (normalNet (s .held)) (f .held) (search (normalNet (s .held)) (normalNet (f .held)));
+    }
 
-abbrev emptySheet : Net
-emptySheet = withLinkCount [] [] []
+abbrev stated : Case → Result
+stated c = record { sheetAnswer = Passed; patternAnswer = Passed; sheetText = c .sheet; patternText = c .pattern; placed = c .placed }
 
--- the figure `S 10 3 1 2 3`, `B 1 2 3 4`, `B 2 1 1`, `E 2 1`, `E 4 2`
-abbrev hut : Net
-hut = withLinkCount ((10, 1 ∷ 2 ∷ 3 ∷ []) ∷ []) ((1, 3 ∷ 4 ∷ []) ∷ (2, 1 ∷ []) ∷ []) ((2, 1) ∷ (4, 2) ∷ [])
+-- `S 40 1 1`, `S 41 1 1`; `S 40 1 1`, `S 41 1 2`
+abbrev oneJoint : List ℕ
+oneJoint = symbol (40 ∷ 1 ∷ 1 ∷ []) ++ symbol (41 ∷ 1 ∷ 1 ∷ [])
+
+abbrev twoJoints : List ℕ
+twoJoints = symbol (40 ∷ 1 ∷ 1 ∷ []) ++ symbol (41 ∷ 1 ∷ 2 ∷ [])
+
+-- the rows of the stage, `S 10 3 1 2 3`, `S 21 1 1`, `E 2 1`, `E 3 2`, and of the hut, `S 10 3 1 2 3`, `B 1 2 3 4`, `B 2 1 1`, `E 2 1`, `E 4 2`
+abbrev cons : List ℕ
+cons = symbol (10 ∷ 3 ∷ 1 ∷ 2 ∷ 3 ∷ [])
+
+abbrev one : List ℕ
+one = symbol (21 ∷ 1 ∷ 1 ∷ [])
+
+abbrev stage : List ℕ
+stage = cons ++ one ++ edge 2 1 ++ edge 3 2
+
+abbrev hut : List ℕ
+hut = cons ++ context (1 ∷ 2 ∷ 3 ∷ 4 ∷ []) ++ context (2 ∷ 1 ∷ 1 ∷ []) ++ edge 2 1 ++ edge 4 2
+
+-- `H 1 2`, `E 1 1`, `E 1 2`, `H 2 1`, `S 21 1 1`, `E 1 1`
+abbrev stageList : List ℕ
+stageList = head 1 2 ++ edge 1 1 ++ edge 1 2 ++ head 2 1 ++ one ++ edge 1 1
 
 abbrev cases : List Case
 cases =
     -- figure `B 1 1 1`, empty sheet: filling `H 1 1`, `E 1 1`
     record {
-      sheet = emptySheet;
-      figure = withLinkCount [] ((1, 1 ∷ []) ∷ []) [];
-      placed = some (record { atomsTo = []; linksTo = 1 ∷ []; given = [] }, record { number = 1; ports = 1; rows = edgeRow 1 1 ∷ [] } ∷ []);
+      sheet = [];
+      pattern = context (1 ∷ 1 ∷ 1 ∷ []);
+      placed = some (record { placing = record { atomsTo = []; linksTo = 1 ∷ []; given = [] }; list = head 1 1 ++ edge 1 1; filled = [] });
     }
     -- figure `B 1 0`, `B 2 0`, sheet `S 50 0`: `H 1 0`, `S 50 0`, `H 2 0`
     ∷ record {
-      sheet = withLinkCount ((50, []) ∷ []) [] [];
-      figure = withLinkCount [] ((1, []) ∷ (2, []) ∷ []) [];
-      placed = some (
-        record { atomsTo = []; linksTo = []; given = 1 ∷ [] },
-        record { number = 1; ports = 0; rows = symbolRow 50 [] ∷ [] } ∷ record { number = 2; ports = 0; rows = [] } ∷ [],
-      );
+      sheet = symbol (50 ∷ 0 ∷ []);
+      pattern = context (1 ∷ 0 ∷ []) ++ context (2 ∷ 0 ∷ []);
+      placed = some (record {
+        placing = record { atomsTo = []; linksTo = []; given = 1 ∷ [] };
+        list = head 1 0 ++ symbol (50 ∷ 0 ∷ []) ++ head 2 0;
+        filled = symbol (50 ∷ 0 ∷ []);
+      });
     }
-    -- sheet `S 40 1 1`, `S 41 1 1`; figure `S 40 1 1`, `S 41 1 2`, `B 1 2 1 2`: `H 1 2`, `E 1 1`, `E 1 2`
+    -- two local joints made one by `B 1 2 1 2`: `H 1 2`, `E 1 1`, `E 1 2`
     ∷ record {
-      sheet = withLinkCount ((40, 1 ∷ []) ∷ (41, 1 ∷ []) ∷ []) [] [];
-      figure = withLinkCount ((40, 1 ∷ []) ∷ (41, 2 ∷ []) ∷ []) ((1, 1 ∷ 2 ∷ []) ∷ []) [];
-      placed = some (
-        record { atomsTo = 1 ∷ 2 ∷ []; linksTo = 1 ∷ 1 ∷ []; given = 0 ∷ 0 ∷ [] },
-        record { number = 1; ports = 2; rows = edgeRow 1 1 ∷ edgeRow 1 2 ∷ [] } ∷ [],
-      );
+      sheet = oneJoint;
+      pattern = twoJoints ++ context (1 ∷ 2 ∷ 1 ∷ 2 ∷ []);
+      placed = some (record {
+        placing = record { atomsTo = 1 ∷ 2 ∷ []; linksTo = 1 ∷ 1 ∷ []; given = 0 ∷ 0 ∷ [] };
+        list = head 1 2 ++ edge 1 1 ++ edge 1 2;
+        filled = oneJoint;
+      });
     }
     -- 'Without the B row: 11'
+    ∷ record { sheet = oneJoint; pattern = twoJoints; placed = none }
+    -- stage and hut
     ∷ record {
-      sheet = withLinkCount ((40, 1 ∷ []) ∷ (41, 1 ∷ []) ∷ []) [] [];
-      figure = withLinkCount ((40, 1 ∷ []) ∷ (41, 2 ∷ []) ∷ []) [] [];
-      placed = none;
+      sheet = stage;
+      pattern = hut;
+      placed = some (record { placing = record { atomsTo = 1 ∷ []; linksTo = 1 ∷ 2 ∷ 3 ∷ 3 ∷ []; given = 0 ∷ 2 ∷ [] }; list = stageList; filled = stage });
     }
-    -- stage and hut: sheet `S 10 3 1 2 3`, `S 21 1 1`, `E 2 1`, `E 3 2`; `H 1 2`, `E 1 1`, `E 1 2`, `H 2 1`, `S 21 1 1`, `E 1 1`
+    -- the stage's S rows in the other order: the same list; the filled hut has its own S row first
     ∷ record {
-      sheet = withLinkCount ((10, 1 ∷ 2 ∷ 3 ∷ []) ∷ (21, 1 ∷ []) ∷ []) [] ((2, 1) ∷ (3, 2) ∷ []);
-      figure = hut;
-      placed = some (
-        record { atomsTo = 1 ∷ []; linksTo = 1 ∷ 2 ∷ 3 ∷ 3 ∷ []; given = 0 ∷ 2 ∷ [] },
-        record { number = 1; ports = 2; rows = edgeRow 3 1 ∷ edgeRow 3 2 ∷ [] } ∷ record { number = 2; ports = 1; rows = symbolRow 21 (1 ∷ []) ∷ edgeRow 1 1 ∷ [] } ∷ [],
-      );
+      sheet = one ++ cons ++ edge 2 1 ++ edge 3 2;
+      pattern = hut;
+      placed = some (record { placing = record { atomsTo = 2 ∷ []; linksTo = 1 ∷ 2 ∷ 3 ∷ 3 ∷ []; given = 2 ∷ 0 ∷ [] }; list = stageList; filled = stage });
     }
-    -- stage and hut with the hut's row first: the same fillings
+    -- the hut's B rows in the other order: the same list
     ∷ record {
-      sheet = withLinkCount ((21, 1 ∷ []) ∷ (10, 1 ∷ 2 ∷ 3 ∷ []) ∷ []) [] ((2, 1) ∷ (3, 2) ∷ []);
-      figure = hut;
-      placed = some (
-        record { atomsTo = 2 ∷ []; linksTo = 1 ∷ 2 ∷ 3 ∷ 3 ∷ []; given = 2 ∷ 0 ∷ [] },
-        record { number = 1; ports = 2; rows = edgeRow 3 1 ∷ edgeRow 3 2 ∷ [] } ∷ record { number = 2; ports = 1; rows = symbolRow 21 (1 ∷ []) ∷ edgeRow 1 1 ∷ [] } ∷ [],
-      );
+      sheet = stage;
+      pattern = cons ++ context (2 ∷ 1 ∷ 1 ∷ []) ++ context (1 ∷ 2 ∷ 3 ∷ 4 ∷ []) ++ edge 2 1 ++ edge 4 2;
+      placed = some (record { placing = record { atomsTo = 1 ∷ []; linksTo = 1 ∷ 2 ∷ 3 ∷ 3 ∷ []; given = 0 ∷ 2 ∷ [] }; list = stageList; filled = stage });
     }
-    -- sheet `S 10 3 1 2 3`, `S 21 1 1`, `S 10 3 4 5 2`, `S 22 1 4`, `E 5 1`, `E 3 2`, the same figure: blank 1 gets
-    -- `S 10 3 1 2 3`, `S 21 1 1`, `E 2 1`, `E 3 2`; blank 2 gets `S 22 1 1`, `E 1 1`
+    -- sheet `S 10 3 1 2 3`, `S 21 1 1`, `S 10 3 4 5 2`, `S 22 1 4`, `E 5 1`, `E 3 2`, the hut: blank 1 gets `S 10 3 1 2 3`, `S 21 1 1`,
+    -- `E 2 1`, `E 3 2`; blank 2 gets `S 22 1 1`, `E 1 1`
     ∷ record {
-      sheet = withLinkCount ((10, 1 ∷ 2 ∷ 3 ∷ []) ∷ (21, 1 ∷ []) ∷ (10, 4 ∷ 5 ∷ 2 ∷ []) ∷ (22, 4 ∷ []) ∷ []) [] ((5, 1) ∷ (3, 2) ∷ []);
-      figure = hut;
-      placed = some (
-        record { atomsTo = 3 ∷ []; linksTo = 4 ∷ 5 ∷ 2 ∷ 3 ∷ []; given = 1 ∷ 1 ∷ 0 ∷ 2 ∷ [] },
-        record { number = 1; ports = 2; rows = symbolRow 10 (1 ∷ 2 ∷ 3 ∷ []) ∷ symbolRow 21 (1 ∷ []) ∷ edgeRow 2 1 ∷ edgeRow 3 2 ∷ [] }
-            ∷ record { number = 2; ports = 1; rows = symbolRow 22 (4 ∷ []) ∷ edgeRow 4 1 ∷ [] } ∷ [],
-      );
+      sheet = cons ++ one ++ symbol (10 ∷ 3 ∷ 4 ∷ 5 ∷ 2 ∷ []) ++ symbol (22 ∷ 1 ∷ 4 ∷ []) ++ edge 5 1 ++ edge 3 2;
+      pattern = hut;
+      placed = some (record {
+        placing = record { atomsTo = 3 ∷ []; linksTo = 4 ∷ 5 ∷ 2 ∷ 3 ∷ []; given = 1 ∷ 1 ∷ 0 ∷ 2 ∷ [] };
+        list = head 1 2 ++ stage ++ head 2 1 ++ symbol (22 ∷ 1 ∷ 1 ∷ []) ++ edge 1 1;
+        filled = cons ++ symbol (10 ∷ 3 ∷ 4 ∷ 3 ∷ 5 ∷ []) ++ symbol (21 ∷ 1 ∷ 4 ∷ []) ++ symbol (22 ∷ 1 ∷ 1 ∷ []) ++ edge 2 1 ++ edge 5 2;
+      });
     }
     ∷ []
 
-same-sooner : (l : List Case) → map outcome l ≡ map sooner l
+same-sooner : (l : List Case) → map (resultBy smallest) l ≡ map (resultBy narrowed) l
 same-sooner [] = refl
-same-sooner (c ∷ l) = ap₂ _∷_ (ap (withFillings (c .sheet) (c .figure)) (narrowed-same (c .sheet) (c .figure))) (same-sooner l)
+same-sooner (c ∷ l) =
+    let r = resultBy smallest c in
+    let S = normalNet (outcomeOf Plain noPorts (c .sheet) .held) in
+    let h = outcomeOf Pattern noPorts (c .pattern) .held in
+    ap₂ _∷_ (ap (λ (o : Option Placing). record { sheetAnswer = r .sheetAnswer; patternAnswer = r .patternAnswer; sheetText = r .sheetText; patternText = r .patternText; placed = placedBy S h o }) (narrowed-same S (normalNet h))) (same-sooner l)
 
--- The rows of a filling have the sheet's link numbers, which its normal text numbers anew.
-worked-placings : map outcome cases ≡ map (λ c. c .placed) cases
-unfolding labelsBy firstFrom firstMay narrowed placesOf withContext byNumber
+-- The table.
+pub worked-placings : map (resultBy smallest) cases ≡ map stated cases
+unfolding answerTo ℕ-discrete sameFunctor connect _≟_ normalForm normalFormBy classOf classesBy numberBy marksAmong inserted distinct others joined labelsBy firstFrom firstMay narrowed placesOf withContext byNumber rowsText listText
 worked-placings = same-sooner cases ∙ refl
-
--- The definition as it stands finds the same where the sheet is small: all but the last.
-plainly : map outcome (take 5 cases) ≡ map (λ c. c .placed) (take 5 cases)
-unfolding labelsBy firstFrom firstList smallest placesOf withContext byNumber
-plainly = refl
 
 -- The first list that has a 2, within the bounds 1, 2, 2 and within the bounds 1, 1.
 first-two : firstList (isAmong 2) (1 ∷ 2 ∷ 2 ∷ []) ≡ some (0 ∷ 0 ∷ 2 ∷ [])

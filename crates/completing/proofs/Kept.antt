@@ -1,0 +1,49 @@
+-- What placings with the same atoms share, and links carried from one placing to another.
+use Prim.Native.Nat.{ℕ, _-_}
+use mathlib.Core.Path.{_≡_, sym, _∙_, ap, subst}
+use mathlib.Core.List.{List, [], Memᴰ·of-map}
+use native.Mathlib.Omega.{arith}
+use lib.ListN.{length}
+use Rattle.hyperlmntal.specs.Link.{_∈_}
+use Rattle.placing.specs.Net.{NetCell, Net, Range, Normal}
+use Rattle.placing.specs.Placing.{Placing, numberAt, cellAt, atomTo, linkTo, Taken, At, Linked, here, step, Across}
+use Rattle.placing.proofs.Lists.{getD-member}
+use Rattle.placing.proofs.Standing.{atom-link}
+use Rattle.completing.specs.Fault.{Used}
+
+-- a link of atom i of a normal net
+pub atom-of : (N : Net) → Normal N → (i x : ℕ) → Range (length (N .atoms)) i → x ∈ (cellAt (N .atoms) i) .1 → Range (N .links) x
+atom-of N normal i x r m = atom-link N normal (cellAt (N .atoms) i) x (getD-member (N .atoms) (i - 1) (0, []) (omega (arith, r .0, r .1))) m
+
+module _ (S F : Net) where
+  pub linked-map : (p q : Placing) (y z : ℕ) (f : ℕ → ℕ) → ((row : NetCell) → row ∈ F .contexts → (x : ℕ) → x ∈ row .1 → f x ∈ row .1)
+      → ((x : ℕ) → At S F p x y → At S F q (f x) z) → {x x′ : ℕ} → Linked S F p y x x′ → Linked S F q z (f x) (f x′)
+  linked-map p q y z f keep at here = here
+  linked-map p q y z f keep at (step {x = x} {x′ = x′} s l) = step
+      (record {
+        row = s .row;
+        of-figure = s .of-figure;
+        first = keep (s .row) (s .of-figure) x (s .first);
+        second = keep (s .row) (s .of-figure) x′ (s .second);
+        first-at = at x (s .first-at);
+        second-at = at x′ (s .second-at);
+      })
+      (linked-map p q y z f keep at l)
+
+  pub taken-same : (p q : Placing) → p .atomsTo ≡ q .atomsTo → (j : ℕ) → Taken S F p j → Taken S F q j
+  taken-same p q e j t = record { by = t .by; of-figure = t .of-figure; there = ap (λ (l : List ℕ). numberAt l (t .by)) (sym e) ∙ t .there }
+
+  module _ (normal : Normal F) (q : Placing) (across : (i : ℕ) → Range (length (F .atoms)) i → Across S F q i) where
+    -- figure links go to the links of a sheet atom that is taken
+    pub taken-used : (j y : ℕ) → Taken S F q j → y ∈ (cellAt (S .atoms) j) .1 → Used S F q y
+    taken-used j y t m = (w .0, atom-of F normal (t .by) (w .0) (t .of-figure) (w .1), w .2)
+      where
+        places : y ∈ (cellAt (S .atoms) (atomTo q (t .by))) .1
+        places = subst (λ (z : ℕ). y ∈ (cellAt (S .atoms) z) .1) (sym (t .there)) m
+
+        w : (x : ℕ) × (x ∈ (cellAt (F .atoms) (t .by)) .1) × (linkTo q x ≡ y)
+        w = Memᴰ·of-map (linkTo q) ((cellAt (F .atoms) (t .by)) .1) (subst (λ (l : List ℕ). y ∈ l) (sym (across (t .by) (t .of-figure) .places)) places)
+
+    -- so an atom on a link to which no figure link goes is not taken
+    pub unused-other : (y : ℕ) → ¬ Used S F q y → (j : ℕ) → y ∈ (cellAt (S .atoms) j) .1 → ¬ Taken S F q j
+    unused-other y u j m t = u (taken-used j y t m)

@@ -1,0 +1,22 @@
+-- Lists, and what is decided.
+pub mod Lists
+pub mod Reaching
+pub mod Decide
+-- Faults, and what they need.
+pub mod Kept
+pub mod Needs
+-- One link settled.
+pub mod Put
+pub mod Interchange
+-- Without a fault.
+pub mod Completed
+pub mod NoFault
+pub mod Completing
+-- A component, grown by a loop.
+pub mod Growing
+pub mod Chains
+-- The least completion.
+pub mod Settling
+pub mod SettlingLoop
+pub mod State
+pub mod Leaf

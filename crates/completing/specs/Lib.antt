@@ -1,0 +1,5 @@
+pub mod Completion
+pub mod Reach
+pub mod Fault
+pub mod Growing
+pub mod Leaf

@@ -1,0 +1,1 @@
+// Completing a placing whose atoms are chosen: definitions in specs/, laws in proofs/.

@@ -1,0 +1,3 @@
+pub mod NetIn
+pub mod Nowhere
+pub mod NetRead

@@ -1,0 +1,3 @@
+pub mod Begun
+pub mod NetIn
+pub mod Ready

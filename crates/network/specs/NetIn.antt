@@ -1,0 +1,60 @@
+-- The arrays of a `Normal` as a net.
+use Prim.Native.Nat.{ℕ, _+_, _≤_, _<_}
+use mathlib.Core.Path.{_≡_}
+use mathlib.Core.List.{List, [], _∷_, map}
+use lib.ListN.{length, take, getD}
+use Rattle.sheet.specs.Format.{mostLinks}
+use Rattle.sheet.specs.Limits.{sheetAtoms, sheetLinks, sheetMarks, figureContexts}
+use Rattle.sheet.specs.declared.Atom.{Atom}
+use Rattle.sheet.specs.declared.Context.{Context}
+use Rattle.sheet.specs.declared.normal.Normal as form
+use Rattle.placing.specs.Net.{NetCell, Net, Range}
+
+abbrev pub atomIn : Atom → NetCell
+atomIn a = (a .name, take (a .count) (a .links))
+
+abbrev pub contextIn : Context → NetCell
+contextIn c = (c .number, take (c .count) (c .links))
+
+-- two lists side by side, as far as both go
+abbrev pub paired : List ℕ → List ℕ → List (ℕ × ℕ)
+paired [] m = []
+paired (x ∷ l) [] = []
+paired (x ∷ l) (y ∷ m) = (x, y) ∷ paired l m
+
+-- the parts of each array that are used; a mark stands behind its link
+abbrev pub netIn : form.Normal → Net
+netIn n =
+    record {
+      atoms = map atomIn (take (n .«atom_count») (n .atoms));
+      contexts = map contextIn (take (n .«context_count») (n .contexts));
+      marks = paired (take (n .«mark_count») (n .marked)) (take (n .«mark_count») (n .marks));
+      links = n .«class_count»;
+    }
+
+-- what code reads at an index from 0; past an array's end the logic reads zeros and an empty list
+abbrev pub atomAt : form.Normal → ℕ → Atom
+atomAt n i = getD (n .atoms) i (record { name = 0; count = 0; links = [] })
+
+abbrev pub contextAt : form.Normal → ℕ → Context
+contextAt n i = getD (n .contexts) i (record { number = 0; count = 0; links = []; row = 0 })
+
+-- The first `count` of these links are numbers of links, of which there are n.
+pub record Used (n count : ℕ) (links : List ℕ) : Type 0 where
+  pub few : count ≤ mostLinks
+  pub width : length links ≡ mostLinks
+  pub numbered : (k : ℕ) → k < count → Range n (getD links k 0)
+
+-- The counts are within the limits of a sheet and the room of the arrays, and the links that are used are numbers of links.
+pub record Fit (n : form.Normal) : Type 0 where
+  pub atom-count : n .«atom_count» ≤ sheetAtoms
+  pub context-count : n .«context_count» ≤ figureContexts
+  pub mark-count : n .«mark_count» ≤ sheetMarks
+  pub class-count : n .«class_count» ≤ sheetLinks
+  pub atom-room : length (n .atoms) ≡ sheetAtoms + 1
+  pub context-room : length (n .contexts) ≡ figureContexts + 1
+  pub mark-room : length (n .marks) ≡ sheetMarks + 1
+  pub marked-room : length (n .marked) ≡ sheetMarks + 1
+  pub atoms : (i : ℕ) → i < n .«atom_count» → Used (n .«class_count») (atomAt n i .count) (atomAt n i .links)
+  pub contexts : (i : ℕ) → i < n .«context_count» → Used (n .«class_count») (contextAt n i .count) (contextAt n i .links)
+  pub marked : (i : ℕ) → i < n .«mark_count» → Range (n .«class_count») (getD (n .marked) i 0)

@@ -1,0 +1,1 @@
+// Placings as the search sees them: definitions in specs/, laws in proofs/.
