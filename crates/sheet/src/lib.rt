@@ -3,12 +3,12 @@ pub mod answer;
 pub mod filling;
 pub mod kind;
 pub mod normal;
-mod normal_text;
+pub mod normal_text;
 pub mod normalise;
 pub mod read;
 mod row;
-mod take;
-mod write;
+pub mod take;
+pub mod write;
 
 ghost use mathlib.Core.Path.{_≡_};
 ghost use Rattle.sheet.specs.Held.{nothing};

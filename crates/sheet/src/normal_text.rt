@@ -111,7 +111,7 @@ fn put_marks(normal: Normal, out: &mut [u8], at: usize) -> usize
 }
 
 // All rows from byte 0 on, the S rows first and the E rows last; the number of bytes.
-pub(crate) fn write_normal(normal: Normal, out: &mut [u8]) -> usize
+pub fn write_normal(normal: Normal, out: &mut [u8]) -> usize
     requires { ⌜ Writable normal ⌝ }
     requires { ⌜ (normal .«atom_count» + normal .«context_count» + normal .«mark_count») * rowWidth ≤ length (now out) ⌝ }
     ensures { λ r. ⌜ r ≡ length (normalRows normal) ⌝ }

@@ -16,7 +16,7 @@ ghost use Rattle.sheet.specs.Packed.{packed};
 ghost use Rattle.sheet.specs.Steps.{Makes, Rewires, Wired, Room, Ranged, withPorts};
 
 // The place of x among the first n numbers, or n where it is not there.
-pub(crate) fn index_of(s: &[u16], n: usize, x: u16) -> usize
+pub fn index_of(s: &[u16], n: usize, x: u16) -> usize
     requires { ⌜ n ≤ length (now s) ⌝ }
     ensures { λ r. ⌜ r ≡ indexOf x (take n (now (s .entry))) ⌝ }
 {

@@ -62,7 +62,7 @@ fn put_fields(out: &mut [u8], at: usize, nums: [u16; Sheet::FIELDS], count: usiz
 }
 
 // A row with this letter and the first count numbers, from byte `at` on.
-pub(crate) fn put_row(
+pub fn put_row(
     out: &mut [u8],
     at: usize,
     letter: u8,
