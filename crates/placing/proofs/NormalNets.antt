@@ -119,7 +119,7 @@ shown-node label F x m = side (List·Memᴰ·append-cases (portNodes (F .atoms))
         on-fusions (normalFormBy label F) (Memᴰ·cast (ap (λ y. inner (numberBy label F y)) (sym (t .2))) ((ends-in {e = markedBy label F (t .0)} (Memᴰ·map (markedBy label F) (t .1))) .0))
 
 -- So every number up to the number of classes is there.
-number-used : (F : Flat ℕ) (n : ℕ) → Range (classCount F) n → inner n ∈ nodes (normalForm F)
+pub number-used : (F : Flat ℕ) (n : ℕ) → Range (classCount F) n → inner n ∈ nodes (normalForm F)
 unfolding normalForm classesBy numberBy
 number-used F n h =
     let label = classOf (F .fusions) in

@@ -114,7 +114,7 @@ module _ (sheet pattern : List ℕ) where
       }
 
   module _ (a : outcomeOf Plain noPorts sheet .answer ≡ Passed) (b : outcomeOf Pattern noPorts pattern .answer ≡ Passed) (p : Placing) (good : Good S F p) where
-    text-fits : ListFits (normalFillingsOf S p F)
+    pub text-fits : ListFits (normalFillingsOf S p F)
     text-fits = placed-fits S F (sheet-net sheet a) (pattern-net pattern b) text-small p good
 
     -- The list of fillings that a good placing gives passes as a list of fillings.

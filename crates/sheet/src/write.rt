@@ -62,13 +62,7 @@ fn put_fields(out: &mut [u8], at: usize, nums: [u16; Sheet::FIELDS], count: usiz
 }
 
 // A row with this letter and the first count numbers, from byte `at` on.
-pub fn put_row(
-    out: &mut [u8],
-    at: usize,
-    letter: u8,
-    nums: [u16; Sheet::FIELDS],
-    count: usize,
-)
+pub fn put_row(out: &mut [u8], at: usize, letter: u8, nums: [u16; Sheet::FIELDS], count: usize)
     requires { ⌜ at + rowWidth ≤ length (now out) ⌝ }
     requires { ⌜ count ≤ fieldCount ⌝ }
     requires { ⌜ ((k : ℕ) → k < count → getD nums k 0 ≤ 9999) ⌝ }

@@ -1,0 +1,183 @@
+-- The laws of giving contexts to components.
+use Prim.Native.Nat.{ℕ, suc, _+_, _-_, _≤_, _<_}
+use mathlib.Core.Path.{_≡_, refl, sym, _∙_, ap, subst}
+use mathlib.Core.Logic.{_⊎_, inl, inr, ⊎-elim, _≢_}
+use mathlib.Core.List.{List}
+use mathlib.Core.Bool.{true, false}
+use native.Mathlib.Decide.{ℕ-discrete}
+use native.Mathlib.Omega.{arith}
+use lib.ListN.{length, getD, set, length-set, replicate}
+use lib.Seq.{getD-set-same, getD-set-other}
+use Rattle.hyperlmntal.specs.Link.{_∈_}
+use Rattle.sheet.specs.Limits.{sheetAtoms}
+use Rattle.sheet.specs.declared.normal.Normal as form
+use Rattle.placing.specs.Net.{NetCell, Net, Range}
+use Rattle.placing.specs.Placing.{Placing, numberAt, cellAt, Taken}
+use Rattle.network.specs.NetIn.{netIn, contextIn, contextAt, Fit}
+use Rattle.network.proofs.NetIn.{atoms-length}
+use Rattle.completing.specs.Fault.{Other, LeastContext}
+use Rattle.completing.specs.Growing.{Serves}
+use Rattle.completing.proofs.Growing.{part-other, part-cut-off, grown-least}
+use Rattle.faults.specs.declared.growth.Growth.{Growth}
+use Rattle.faults.specs.declared.fault.Given.{Given}
+use Rattle.faults.specs.Grows.{Sized, atomsOf, WholeAt, Least}
+use Rattle.faults.specs.Parts.{CutLinks, Rows}
+use Rattle.faults.specs.Gives.{Gave, GivenAt, GivesAt, TakenFlags}
+use Rattle.faults.proofs.Tables.{below-next, store-flag, zeros, zeros-not}
+use Rattle.faults.proofs.Reading.{context-cell, context-in, context-of}
+use Rattle.faults.proofs.Growing.{listed-in, listed-of}
+
+pub rows-in : (figure : form.Normal) → Fit figure → Rows (netIn figure) (figure .«context_count»)
+rows-in figure f row m = let c = context-of figure f row m in (c .0, c .1, ap (λ (r : NetCell). r .0) (context-cell figure f (c .0) (c .1) ∙ c .2))
+
+-- One context more.
+module _ (figure : form.Normal) (left : List ℕ) (n best : ℕ) (h : n < figure .«context_count») (room : best ≤ figure .«context_count») where
+  abbrev number : ℕ → ℕ
+  number c = contextAt figure c .number
+
+  abbrev Low : ℕ → ℕ → Type 0
+  Low m c = getD left c 0 ≡ 1 → number m ≤ number c
+
+  pub least-step : (m : ℕ) → Least figure left n best
+      → ((getD left n 0 ≡ 1) × (best ≡ figure .«context_count») × (m ≡ n))
+      ⊎ (((getD left n 0 ≡ 1) × (best ≢ figure .«context_count») × (number n < number best) × (m ≡ n))
+      ⊎ (((getD left n 0 ≡ 1) × (best ≢ figure .«context_count») × (number best ≤ number n) × (m ≡ best))
+      ⊎ ((getD left n 0 ≢ 1) × (m ≡ best))))
+      → (m ≤ figure .«context_count») × Least figure left (n + 1) m
+  least-step m (inl l) (inl w) = let a : best < n = l .0 in let b : best ≡ figure .«context_count» = w .1 in absurd (omega arith)
+  least-step m (inr l) (inl w) = subst (λ (k : ℕ). (k ≤ figure .«context_count») × Least figure left (n + 1) k) (sym (w .2))
+      (omega arith, inl (omega arith, w .0, below-next (Low n) n (λ c k e. absurd (l .1 c k e)) (λ e. omega arith)))
+  least-step m (inl l) (inr (inl w)) = subst (λ (k : ℕ). (k ≤ figure .«context_count») × Least figure left (n + 1) k) (sym (w .3))
+      (omega arith, inl (omega arith, w .0, below-next (Low n) n (λ c k e. let a = l .2 c k e in let b : number n < number best = w .2 in omega arith) (λ e. omega arith)))
+  least-step m (inr l) (inr (inl w)) = absurd (w .1 (l .0))
+  least-step m (inl l) (inr (inr (inl w))) = subst (λ (k : ℕ). (k ≤ figure .«context_count») × Least figure left (n + 1) k) (sym (w .3))
+      (room, inl ((let a : best < n = l .0 in omega arith), l .1, below-next (Low best) n (l .2) (λ e. w .2)))
+  least-step m (inr l) (inr (inr (inl w))) = absurd (w .1 (l .0))
+  least-step m (inl l) (inr (inr (inr w))) = subst (λ (k : ℕ). (k ≤ figure .«context_count») × Least figure left (n + 1) k) (sym (w .1))
+      (room, inl ((let a : best < n = l .0 in omega arith), l .1, below-next (Low best) n (l .2) (λ e. absurd (w .0 e))))
+  least-step m (inr l) (inr (inr (inr w))) = subst (λ (k : ℕ). (k ≤ figure .«context_count») × Least figure left (n + 1) k) (sym (w .1))
+      (room, inr (l .0, below-next (λ c. getD left c 0 ≢ 1) n (l .1) (w .0)))
+
+-- One atom more has the context.
+pub gave-start : (given : Given) (g : Growth) (number : ℕ) → length (given .contexts) ≡ sheetAtoms → length (given .done) ≡ sheetAtoms → Gave given g number 0 given
+gave-start given g number a b = record { contexts-room = a; done-room = b; all-done = λ h l. absurd (omega arith); each = λ j. inr (refl, refl) }
+
+pub gave-next : (given r : Given) (g : Growth) (number n : ℕ) → getD (g .order) n 0 < sheetAtoms → Gave given g number n r
+    → Gave given g number (n + 1) (record { contexts = set (r .contexts) (getD (g .order) n 0) number; done = set (r .done) (getD (g .order) n 0) 1 })
+gave-next given r g number n h w = record {
+  contexts-room = simp length-set (w .contexts-room);
+  done-room = simp length-set (w .done-room);
+  all-done = below-next (λ i. getD (set (r .done) at 1) (getD (g .order) i 0) 0 ≡ 1) n (λ i l. store-flag (r .done) at room (getD (g .order) i 0) .1 (inl (w .all-done i l))) (getD-set-same (r .done) at 1 0 room);
+  each = λ j. go j (ℕ-discrete j at);
+}
+  where
+    at : ℕ
+    at = getD (g .order) n 0
+
+    room : at < length (r .done)
+    room = let e = w .done-room in omega arith
+
+    next : Given
+    next = record { contexts = set (r .contexts) at number; done = set (r .done) at 1 }
+
+    Each : ℕ → Type 0
+    Each j = ((i : ℕ) × (i < n + 1) × (getD (g .order) i 0 ≡ j) × (getD (next .contexts) j 0 ≡ number))
+        ⊎ ((getD (next .contexts) j 0 ≡ getD (given .contexts) j 0) × (getD (next .done) j 0 ≡ getD (given .done) j 0))
+
+    go : (j : ℕ) → Dec (j ≡ at) → Each j
+    go j (yes e) = inl (n, omega arith, sym e, subst (λ (k : ℕ). getD (next .contexts) k 0 ≡ number) (sym e) (getD-set-same (r .contexts) at number 0 (let i = w .contexts-room in omega arith)))
+    go j (no e) = ⊎-elim (λ t. let l : t .0 < n = t .1 in inl (t .0, omega arith, t .2, a ∙ t .3)) (λ t. inr (a ∙ t .0, b ∙ t .1)) (w .each j)
+      where
+        a : getD (next .contexts) j 0 ≡ getD (r .contexts) j 0
+        a = getD-set-other (r .contexts) at j number 0 e
+
+        b : getD (next .done) j 0 ≡ getD (r .done) j 0
+        b = getD-set-other (r .done) at j 1 0 e
+
+module _ (S : Net) (figure : form.Normal) (f : Fit figure) (q : Placing) (root : ℕ) (g : Growth) (w : WholeAt S (netIn figure) q root (figure .«context_count») g) where
+  abbrev F : Net
+  F = netIn figure
+
+  abbrev seen : List ℕ
+  seen = w .grows .seen
+
+  cell-number : (c : ℕ) → c < figure .«context_count» → (cellAt (F .contexts) (suc c)) .0 ≡ contextAt figure c .number
+  cell-number c h = ap (λ (r : NetCell). r .0) (context-cell figure f c h)
+
+  -- a context that serves is left
+  is-left : (row : NetCell) → row ∈ F .contexts → Serves S F q seen (row .0) → (c : ℕ) × (c < figure .«context_count») × (contextAt figure c .number ≡ row .0) × (getD (g .left) c 0 ≡ 1)
+  is-left row m s =
+      let c = context-of figure f row m in
+      let e : contextAt figure (c .0) .number ≡ row .0 = ap (λ (r : NetCell). r .0) (c .2) in
+      (c .0, c .1, e, w .grows .serves (c .0) (c .1) .1 (subst (Serves S F q seen) (sym (cell-number (c .0) (c .1) ∙ e)) s))
+
+  -- none is left
+  pub none-left : ((c : ℕ) → c < figure .«context_count» → getD (g .left) c 0 ≢ 1) → CutLinks S F q (g .seen)
+  none-left n = (atomsOf g, seen, part-cut-off S F q root (atomsOf g) seen (w .grows .holds .part) (λ row m s. let c = is-left row m s in n (c .0) (c .1) (c .3)), w .grows .holds .looked)
+
+  -- the best of those left
+  module _ (best : ℕ) (h : best < figure .«context_count») (b : getD (g .left) best 0 ≡ 1)
+      (low : (c : ℕ) → c < figure .«context_count» → getD (g .left) c 0 ≡ 1 → contextAt figure best .number ≤ contextAt figure c .number) where
+    best-least : (j : ℕ) → j ∈ atomsOf g → LeastContext S F q j (contextAt figure best .number)
+    best-least j m = grown-least S F q root (atomsOf g) seen (w .grows .holds .part) (w .grown) (contextAt figure best .number)
+        (contextIn (contextAt figure best), context-in figure f best h, refl)
+        (subst (Serves S F q seen) (cell-number best h) (w .grows .serves best h .0 b))
+        (λ d n s. let c = is-left (n .0) (n .1) (subst (Serves S F q seen) (sym (n .2)) s) in
+        let e : contextAt figure (c .0) .number ≡ d = c .2 ∙ n .2 in
+        let k = low (c .0) (c .1) (c .3) in omega arith) j m
+
+    pub given-more : (atoms : ℕ) → Sized atoms g → (given r : Given) → Gave given g (contextAt figure best .number) (g .count) r → GivenAt S F q given → GivenAt S F q r
+    given-more atoms s given r v a = record {
+      least = λ j e. ⊎-elim (λ t. hit j t) (λ t. let o = a .least j (sym (t .1) ∙ e) in (o .0, subst (LeastContext S F q (suc j)) (sym (t .0)) (o .1))) (v .each j);
+      not-yet = λ j n. ⊎-elim (λ t. absurd (n (subst (λ (i : ℕ). getD (r .done) i 0 ≡ 1) (t .2) (v .all-done (t .0) (t .1))))) (λ t. t .0 ∙ a .not-yet j (λ e. n (t .1 ∙ e))) (v .each j);
+    }
+      where
+        hit : (j : ℕ) → (i : ℕ) × (i < g .count) × (getD (g .order) i 0 ≡ j) × (getD (r .contexts) j 0 ≡ contextAt figure best .number) → Other S F q (suc j) × LeastContext S F q (suc j) (getD (r .contexts) j 0)
+        hit j t =
+            let m : suc j ∈ atomsOf g = subst (λ (i : ℕ). suc i ∈ atomsOf g) (t .2) (listed-in g (t .0) (let o = s .order-room in let k = s .most in omega arith) (t .1)) in
+            (part-other S F q root (atomsOf g) seen (w .grows .holds .part) (suc j) m, subst (LeastContext S F q (suc j)) (sym (t .3)) (best-least (suc j) m))
+
+-- an atom that had a context or is in the component has one now
+pub done-more : (g : Growth) (given r : Given) (number j : ℕ) → Gave given g number (g .count) r → (getD (given .done) j 0 ≡ 1) ⊎ (suc j ∈ atomsOf g) → getD (r .done) j 0 ≡ 1
+done-more g given r number j v (inl e) = ⊎-elim (λ t. subst (λ (i : ℕ). getD (r .done) i 0 ≡ 1) (t .2) (v .all-done (t .0) (t .1))) (λ t. t .1 ∙ e) (v .each j)
+done-more g given r number j v (inr m) =
+    let t = listed-of g (suc j) m in
+    let e : getD (g .order) (t .0) 0 ≡ j = (let i : suc (getD (g .order) (t .0) 0) ≡ suc j = t .2 in omega arith) in
+    subst (λ (i : ℕ). getD (r .done) i 0 ≡ 1) e (v .all-done (t .0) (t .1))
+
+-- At the start, and at the end.
+pub given-start : (S F : Net) (q : Placing) → GivenAt S F q (record { contexts = replicate 64 0; done = replicate 64 0 })
+given-start S F q = record { least = λ j e. absurd (zeros-not 64 j e); not-yet = λ j n. zeros 64 j }
+
+module _ (sheet figure : form.Normal) (f : Fit sheet) (q : Placing) (taken : List ℕ) (t : TakenFlags sheet (netIn figure) q taken) where
+  abbrev atoms : ℕ
+  atoms = sheet .«atom_count»
+
+  pub other-at : (j : ℕ) → j < atoms → getD taken j 0 ≢ 1 → Other (netIn sheet) (netIn figure) q (suc j)
+  other-at j h n = ((omega arith, (let e = atoms-length sheet f in omega arith)), λ k. n (t j h .1 k))
+
+  pub all-given : (given : Given) (links : List ℕ) → length (given .contexts) ≡ sheetAtoms → ((j : ℕ) → j < atoms → (getD taken j 0 ≡ 1) ⊎ (getD (given .done) j 0 ≡ 1)) → GivenAt (netIn sheet) (netIn figure) q given
+      → GivesAt (netIn sheet) (netIn figure) q (record { found = false; links = links; given = given .contexts })
+  all-given given links room d a = record {
+    room = room;
+    none-found = λ e. (
+      (λ j o. let r = place j (o .0) in ⊎-elim (λ k. absurd (o .1 (subst (Taken (netIn sheet) (netIn figure) q) (r .1) (t (j - 1) (r .0) .0 k))))
+          (λ k. subst (λ (i : ℕ). LeastContext (netIn sheet) (netIn figure) q i (numberAt (given .contexts) j)) (r .1) (a .least (j - 1) k .1)) (d (j - 1) (r .0))),
+      (λ j o k. let r = place j o in go j r k (ℕ-discrete (getD (given .done) (j - 1) 0) 1)),
+    );
+    some-found = λ e. absurd (let z : _≡_ {A = ℕ} 0 1 = cc in omega arith);
+  }
+    where
+      place : (j : ℕ) → Range (length (netIn sheet .atoms)) j → (j - 1 < atoms) × (suc (j - 1) ≡ j)
+      place j r = let low : 1 ≤ j = r .0 in let high : j ≤ length (netIn sheet .atoms) = r .1 in let e = atoms-length sheet f in (omega arith, omega arith)
+
+      go : (j : ℕ) → (j - 1 < atoms) × (suc (j - 1) ≡ j) → Taken (netIn sheet) (netIn figure) q j → Dec (getD (given .done) (j - 1) 0 ≡ 1) → numberAt (given .contexts) j ≡ 0
+      go j r k (yes e) = absurd (a .least (j - 1) e .0 .1 (subst (Taken (netIn sheet) (netIn figure) q) (sym (r .1)) k))
+      go j r k (no n) = a .not-yet (j - 1) n
+
+pub cut-gives : (S F : Net) (q : Placing) (links given : List ℕ) → length given ≡ sheetAtoms → CutLinks S F q links → GivesAt S F q (record { found = true; links = links; given = given })
+cut-gives S F q links given room c = record {
+  room = room;
+  none-found = λ e. absurd (let z : _≡_ {A = ℕ} 0 1 = cc in omega arith);
+  some-found = λ e. c;
+}

@@ -1,0 +1,67 @@
+-- No index leaves its array.
+use borrow.Author.Needs.{needs}
+use Prim.Native.Nat.{_-_, _≤_}
+use native.Mathlib.Omega.{arith}
+use Rattle.faults.proofs.ways.mark_atom.Statement.{statement}
+use Rattle.faults.proofs.ways.mark_atom.Tie as tie
+
+abbrev Inv-loop : tie.InvT-loop
+Inv-loop parent used ports count j contexts links next₀ k₀ next k = k ≤ count
+
+abbrev μ-loop : tie.MeasureT-loop
+μ-loop parent used ports count j contexts links next₀ k₀ next k = count - k
+
+loop-holds : tie.Need-loop-holds Inv-loop μ-loop
+loop-holds c = search needs
+
+mul-y : tie.Need-mul-y Inv-loop μ-loop
+mul-y c = search needs
+
+array-read-y : tie.Need-array-read-y Inv-loop μ-loop
+array-read-y c = search needs
+
+sub-y : tie.Need-sub-y Inv-loop μ-loop
+sub-y c = let r = c .before .before .pre .1 (c .before .loop .k) (c .loop-test .taken) in omega (arith, r .0, r .1)
+
+cast-y : tie.Need-cast-y Inv-loop μ-loop
+cast-y c = let r = c .before .before .pre .1 (c .before .loop .k) (c .loop-test .taken) in omega (arith, r .0, r .1)
+
+element-copy-out-if1 : tie.Need-element-copy-out-if1 Inv-loop μ-loop
+element-copy-out-if1 c = let s = c .before .before in let r = s .pre .1 (c .before .loop .k) (c .loop-test .taken) in omega (arith, r .0, r .1)
+
+fewer-requires : tie.Need-fewer-requires Inv-loop μ-loop
+fewer-requires c κs = let s = c .before .before .before .before .before in let r = s .pre .1 (c .before .before .before .before .loop .k) (c .before .before .before .loop-test .taken) in (omega (arith, r .0, r .1), s .pre .2)
+
+with-end-requires : tie.Need-with-end-requires Inv-loop μ-loop
+with-end-requires c κs = let s = c .before .before .before .before .before .before .before in let r = s .pre .1 (c .before .before .before .before .before .before .loop .k) (c .before .before .before .before .before .loop-test .taken) in (omega (arith, r .0, r .1), s .pre .2, s .pre .3)
+
+add-k : tie.Need-add-k Inv-loop μ-loop
+add-k c = search needs
+
+loop-less : tie.Need-loop-less Inv-loop μ-loop
+loop-less c = search needs
+
+loop-again : tie.Need-loop-again Inv-loop μ-loop
+loop-again c = search needs
+
+returns : tie.Need-returns Inv-loop μ-loop
+returns c = search needs
+
+pub mark-atom-spec : {M : Type 1} → statement M
+mark-atom-spec =
+    tie.close
+    (tie.spec
+    Inv-loop
+    μ-loop
+    loop-holds
+    mul-y
+    array-read-y
+    sub-y
+    cast-y
+    element-copy-out-if1
+    fewer-requires
+    with-end-requires
+    add-k
+    loop-less
+    loop-again
+    returns)

@@ -1,0 +1,59 @@
+-- Labels of figure links: two links have one label exactly when steps lead from one to the other.
+use Prim.Native.Nat.{ℕ, suc, _<_}
+use mathlib.Core.Path.{_≡_}
+use mathlib.Core.Logic.{_≢_}
+use mathlib.Core.List.{List}
+use lib.ListN.{getD}
+use Rattle.sheet.specs.Limits.{sheetLinks}
+use Rattle.sheet.specs.declared.normal.Normal as form
+use Rattle.placing.specs.Placing.{numberAt}
+use Rattle.network.specs.NetIn.{contextAt}
+use Rattle.completing.specs.Reach.{Reach}
+
+-- two links of one context that go to one sheet link
+pub record Tie (figure : form.Normal) (to : List ℕ) (none : ℕ) (x z : ℕ) : Type 0 where
+  pub row : ℕ
+  pub first : ℕ
+  pub second : ℕ
+  pub row-in : row < figure .«context_count»
+  pub first-in : first < contextAt figure row .count
+  pub second-in : second < contextAt figure row .count
+  pub one : getD (contextAt figure row .links) first 0 ≡ x
+  pub two : getD (contextAt figure row .links) second 0 ≡ z
+  pub together : numberAt to x ≡ numberAt to z
+  pub not-none : numberAt to x ≢ none
+
+-- links with one label are tied
+abbrev pub Sound : form.Normal → List ℕ → ℕ → List ℕ → Type 0
+Sound figure to none labels = (x z : ℕ) → x < sheetLinks → z < sheetLinks → getD labels x 0 ≡ getD labels z 0 → Reach (Tie figure to none) (suc x) (suc z)
+
+-- From labels to next: what has one label keeps one label, and the new ones are tied if these ports are those of a context.
+pub record Grew (to : List ℕ) (none : ℕ) (ports : List ℕ) (count : ℕ) (labels next : List ℕ) : Type 0 where
+  pub kept : (x z : ℕ) → x < sheetLinks → z < sheetLinks → getD labels x 0 ≡ getD labels z 0 → getD next x 0 ≡ getD next z 0
+  pub sound : (figure : form.Normal) (row : ℕ) → row < figure .«context_count» → contextAt figure row .count ≡ count → contextAt figure row .links ≡ ports
+      → Sound figure to none labels → Sound figure to none next
+
+-- the port has the label of each that goes to the same sheet link
+abbrev pub Tied : List ℕ → ℕ → List ℕ → ℕ → List ℕ → ℕ → Type 0
+Tied to none ports count labels k =
+    (i : ℕ) → i < count → numberAt to (getD ports i 0) ≡ numberAt to (getD ports k 0) → numberAt to (getD ports k 0) ≢ none
+    → numberAt labels (getD ports i 0) ≡ numberAt labels (getD ports k 0)
+
+pub record Labelled (figure : form.Normal) (to : List ℕ) (none : ℕ) (labels : List ℕ) : Type 0 where
+  pub sound : Sound figure to none labels
+  pub complete : (c k : ℕ) → c < figure .«context_count» → k < contextAt figure c .count → Tied to none (contextAt figure c .links) (contextAt figure c .count) labels k
+
+-- x and z, from 0, are figure links that go to y, and y is not none
+pub record Meet (figure : form.Normal) (to : List ℕ) (none x z y : ℕ) : Type 0 where
+  pub first-in : x < figure .«class_count»
+  pub second-in : z < figure .«class_count»
+  pub first-at : getD to x 0 ≡ y
+  pub second-at : getD to z 0 ≡ y
+  pub not-none : y ≢ none
+
+-- By labels: 0 where links that meet have one label, else where two meet that have not.
+pub record Apart (figure : form.Normal) (to : List ℕ) (none y : ℕ) : Type 0 where
+  pub labels : List ℕ
+  pub labelled : Labelled figure to none labels
+  pub all-one : y ≡ 0 → (x z w : ℕ) → Meet figure to none x z w → getD labels x 0 ≡ getD labels z 0
+  pub two-apart : y ≢ 0 → (x : ℕ) × (z : ℕ) × Meet figure to none x z y × (getD labels x 0 ≢ getD labels z 0)

@@ -1,0 +1,6 @@
+pub mod Labels
+pub mod Flags
+pub mod Grows
+pub mod Gives
+pub mod Parts
+pub mod Finds

@@ -1,0 +1,60 @@
+-- A part of a component that no context serves.
+use Prim.Native.Nat.{ℕ, suc, _+_, _*_, _<_}
+use mathlib.Core.Path.{_≡_}
+use mathlib.Core.Logic.{_↔_, _≢_}
+use mathlib.Core.List.{List}
+use lib.ListN.{getD}
+use Rattle.hyperlmntal.specs.Link.{_∈_}
+use Rattle.sheet.specs.Limits.{sheetLinks}
+use Rattle.sheet.specs.declared.normal.Normal as form
+use Rattle.placing.specs.Net.{NetCell, Net}
+use Rattle.placing.specs.Placing.{Placing, cellAt}
+use Rattle.network.specs.NetIn.{netIn}
+use Rattle.network.specs.Ready.{Flag}
+use Rattle.completing.specs.Fault.{Used, Other, CutOff}
+use Rattle.faults.specs.Grows.{atomsOf, Around, Tables, Holds}
+use Rattle.faults.specs.declared.growth.Growth.{Growth}
+
+-- some links make it a connected part
+abbrev pub HoldsSome : Net → Net → Placing → ℕ → Growth → Type 0
+HoldsSome S F q root g = (seen : List ℕ) × Holds S F q root g seen
+
+-- 1s say where figure links go
+abbrev pub UsedFlags : Net → Net → Placing → List ℕ → Type 0
+UsedFlags S F q used = (y : ℕ) → y < S .links → (getD used y 0 ≡ 1) ↔ Used S F q (suc y)
+
+abbrev pub WithStep : List ℕ → List ℕ → ℕ → ℕ → Growth → Growth → Type 0
+WithStep touches used atoms links p r =
+    (S F : Net) (q : Placing) (root : ℕ) → S .links ≡ links → Around S F q touches atoms → UsedFlags S F q used → HoldsSome S F q root p → HoldsSome S F q root r
+
+abbrev pub WithEnds : List ℕ → ℕ → Growth → Growth → Type 0
+WithEnds links count p r =
+    (S F : Net) (q : Placing) (root j : ℕ) → j ∈ atomsOf p → ((k : ℕ) → k < count → getD links k 0 ∈ (cellAt (S .atoms) j) .1) → HoldsSome S F q root p → HoldsSome S F q root r
+
+abbrev pub WithMarked : form.Normal → List ℕ → List ℕ → Growth → Growth → Type 0
+WithMarked sheet touches used p r =
+    (F : Net) (q : Placing) (root : ℕ) → Around (netIn sheet) F q touches (sheet .«atom_count») → UsedFlags (netIn sheet) F q used
+    → HoldsSome (netIn sheet) F q root p → HoldsSome (netIn sheet) F q root r
+
+abbrev pub HoldsPart : form.Normal → List ℕ → List ℕ → ℕ → Growth → Type 0
+HoldsPart sheet touches used root r =
+    (F : Net) (q : Placing) → Around (netIn sheet) F q touches (sheet .«atom_count») → UsedFlags (netIn sheet) F q used → Other (netIn sheet) F q (suc root)
+    → HoldsSome (netIn sheet) F q (suc root) r
+
+-- the context of row c has no port at some link looked at where a figure link goes
+abbrev pub Cut : List ℕ → List ℕ → List ℕ → ℕ → ℕ → Type 0
+Cut seen used ports links c = (y : ℕ) × (y < links) × (getD seen y 0 ≡ 1) × (getD used y 0 ≡ 1) × (getD ports (c * sheetLinks + y) 0 ≢ 1)
+
+-- a set that is cut off, with its links flagged
+abbrev pub CutLinks : Net → Net → Placing → List ℕ → Type 0
+CutLinks S F q links = (set : List ℕ) × (seen : List ℕ) × CutOff S F q set seen × ((y : ℕ) → y ∈ seen → Flag links y)
+
+-- the rows of contexts by their places
+abbrev pub Rows : Net → ℕ → Type 0
+Rows F contexts = (row : NetCell) → row ∈ F .contexts → (c : ℕ) × (c < contexts) × ((cellAt (F .contexts) (suc c)) .0 ≡ row .0)
+
+-- where all links of the component are those of a cut, so are these
+abbrev pub Cuts : form.Normal → List ℕ → List ℕ → List ℕ → ℕ → ℕ → List ℕ → List ℕ → Type 0
+Cuts sheet touches used ports root contexts all links =
+    (F : Net) (q : Placing) → Tables (netIn sheet) F q touches used ports (sheet .«atom_count») contexts → Other (netIn sheet) F q (suc root) → Rows F contexts
+    → CutLinks (netIn sheet) F q all → CutLinks (netIn sheet) F q links

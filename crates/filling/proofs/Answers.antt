@@ -1,0 +1,170 @@
+-- What filling answers and writes, in each of its cases.
+use Prim.Native.Nat.{ℕ, suc, _+_, _*_, _<_, _≤_}
+use mathlib.Core.Path.{_≡_, refl, ap, ap₂, sym, _∙_, subst}
+use mathlib.Core.Bool.{Bool, true, false}
+use mathlib.Core.List.{List, [], _∷_}
+use native.Mathlib.Omega.{arith}
+use borrow.Author.Tests.{lt-ltb, le-ltb}
+use lib.Dec.{eqb, ltb}
+use lib.ListN.{length, take, length-take}
+use Rattle.sheet.specs.Pick.{pick, or}
+use Rattle.sheet.specs.Format.{rowWidth}
+use Rattle.sheet.specs.Limits.{sheetAtoms, sheetLinks, figureContexts}
+use Rattle.sheet.specs.Packed.{noContext, portTable, packed}
+use Rattle.sheet.specs.NormalSheet.{packedNormal}
+use Rattle.sheet.specs.NormalText.{slipLength}
+use Rattle.sheet.specs.NormalRows.{normalRows, Writable}
+use Rattle.sheet.specs.Reading.{outcomeOf, noPorts}
+use Rattle.sheet.specs.declared.Context.{Context}
+use Rattle.sheet.specs.declared.normal.Normal.{Normal}
+use Rattle.sheet.specs.declared.answer.Refusal.{Refusal}
+use Rattle.sheet.specs.declared.answer.Answer.the-variants.{Passed, Refused}
+use Rattle.sheet.specs.declared.kind.Kind.{Kind}
+use Rattle.sheet.specs.declared.kind.Kind.the-variants.{Figure, Fillings}
+use Rattle.sheet.proofs.Padding.{take-padded}
+use Rattle.sheet.proofs.Ports.{table-at}
+use Rattle.sheet.proofs.Ranges.{Every, ContextRange}
+use Rattle.filling.specs.Read.{listHeld}
+use Rattle.filling.specs.Done.{slipAfter}
+use Rattle.filling.specs.Fill.{figureHeld, firstLacking, firstDiffering, filledBy, filledText, tooLarge, filledAnswer, fillAnswer, fillSlip}
+use Rattle.filling.specs.Parts.{firstUnported}
+use Rattle.filling.specs.Glued.{Own, joinedAll, allPairs, Glues}
+use Rattle.filling.specs.Classes.{Made}
+use Rattle.filling.specs.declared.done.Done.{Done}
+use Rattle.filling.specs.declared.done.Done.the-variants as done
+use Rattle.filling.proofs.Exact.{Rowed, none-lacking, exact-each}
+use Rattle.filling.proofs.Parts.{figure-within, list-within}
+use Rattle.filling.proofs.Located.{Right}
+use Rattle.filling.proofs.Labelled.{labels}
+use Rattle.filling.proofs.Shown.{taken-contexts}
+use Rattle.filling.proofs.Result.{classes, class-count}
+use Rattle.filling.proofs.Written.{madeAtoms, atom-count, labels-seen, rows-are, made-writable}
+
+rowed : (kind : Kind) (l : List Context) → Every (ContextRange kind) l → Rowed l
+rowed kind [] r = tt
+rowed kind (c ∷ l) r = (r .0 .row .0, rowed kind l (r .1))
+
+unported : (heads l : List Context) → Every (ContextRange Figure) l → firstUnported (portTable heads) l ≡ firstLacking heads l
+unfolding firstUnported firstLacking
+unported heads [] r = refl
+unported heads (c ∷ l) r =
+    ap₂ (λ (n m : ℕ). pick (eqb n (suc (c .count))) m (c .row)) (table-at heads (c .number) (omega (arith, r .0 .number .1))) (unported heads l (r .1))
+
+-- Refusals 8 and 9 as the code finds them.
+module _ (figure list : List ℕ) where
+  pub lacking-made : firstUnported (packed (listHeld list) .ports) (take (packed (figureHeld figure) .«context_count») (packed (figureHeld figure) .contexts)) ≡ firstLacking (listHeld list .contexts) (figureHeld figure .contexts)
+  lacking-made =
+      ap (firstUnported (portTable (listHeld list .contexts))) (take-padded (figureContexts + 1) noContext (figureHeld figure .contexts))
+      ∙ unported (listHeld list .contexts) (figureHeld figure .contexts) (figure-within figure .ranges .contexts)
+
+  pub differing-made : firstDiffering list (take (packed (listHeld list) .«context_count») (packed (listHeld list) .contexts)) ≡ firstDiffering list (listHeld list .contexts)
+  differing-made = ap (firstDiffering list) (take-padded (figureContexts + 1) noContext (listHeld list .contexts))
+
+  pub right-fillings : firstLacking (listHeld list .contexts) (figureHeld figure .contexts) ≡ 0 → firstDiffering list (listHeld list .contexts) ≡ 0 → Right figure list
+  right-fillings a b =
+      record {
+        ported = none-lacking (listHeld list .contexts) (figureHeld figure .contexts) (rowed Figure (figureHeld figure .contexts) (figure-within figure .ranges .contexts)) a;
+        exact = exact-each list (listHeld list .contexts) (rowed Fillings (listHeld list .contexts) (list-within list .ranges .contexts)) b;
+      }
+
+  above : (n : ℕ) → (n ≡ 0 → ⊥) → ltb 0 n ≡ true
+  above n h = lt-ltb 0 n (omega (arith, h))
+
+  none : (n : ℕ) → n ≡ 0 → ltb 0 n ≡ false
+  none n e = le-ltb 0 n (omega arith)
+
+  pub answer-lacking : (n : ℕ) → n ≡ firstLacking (listHeld list .contexts) (figureHeld figure .contexts) → (n ≡ 0 → ⊥) → done.BlankClash 1 n ≡ filledAnswer figure list
+  unfolding filledAnswer
+  answer-lacking n e h = rw (← e, above n h)
+
+  pub answer-differing : firstLacking (listHeld list .contexts) (figureHeld figure .contexts) ≡ 0 → (n : ℕ) → n ≡ firstDiffering list (listHeld list .contexts) → (n ≡ 0 → ⊥) → done.EdgeDiffers 2 n ≡ filledAnswer figure list
+  unfolding filledAnswer
+  answer-differing z n e h = rw (none (firstLacking (listHeld list .contexts) (figureHeld figure .contexts)) z, ← e, above n h)
+
+  module _ (a : firstLacking (listHeld list .contexts) (figureHeld figure .contexts) ≡ 0) (b : firstDiffering list (listHeld list .contexts) ≡ 0) where
+    pub answer-large : tooLarge (filledBy figure list) ≡ true → done.TooLarge ≡ filledAnswer figure list
+    unfolding filledAnswer
+    answer-large t = rw (none (firstLacking (listHeld list .contexts) (figureHeld figure .contexts)) a, none (firstDiffering list (listHeld list .contexts)) b) (ap (λ t. pick t done.TooLarge (done.Written (length (filledText figure list)))) (sym t))
+
+    pub answer-written : tooLarge (filledBy figure list) ≡ false → done.Written (length (filledText figure list)) ≡ filledAnswer figure list
+    unfolding filledAnswer
+    answer-written t = rw (none (firstLacking (listHeld list .contexts) (figureHeld figure .contexts)) a, none (firstDiffering list (listHeld list .contexts)) b) (ap (λ t. pick t done.TooLarge (done.Written (length (filledText figure list)))) (sym t))
+
+  -- The normal form that the code makes.
+  module _ (right : Right figure list) (r : Normal) (made : (l : List ℕ) × (Glues list (packedNormal (figureHeld figure)) l × Made list l (packedNormal (figureHeld figure)) r)) where
+    own : List ℕ
+    own = made .1 .0 .0
+
+    O : Own own
+    unfolding own
+    O = made .1 .0 .1
+
+    is-made : Made list (labels figure list right own O) (packedNormal (figureHeld figure)) r
+    unfolding own O
+    is-made =
+        subst (λ l. Made list l (packedNormal (figureHeld figure)) r)
+        (made .1 .0 .2 ∙ ap (λ l. joinedAll (made .1 .0 .0) (allPairs list 1 l)) (taken-contexts figure list right own O)) (made .1 .1)
+
+    atoms-size : r .«atom_count» ≡ length (take (sheetAtoms + 1) (madeAtoms figure list right own O))
+    atoms-size = is-made .atomCount
+
+    large : (p q : ℕ) → length (filledBy figure list .atoms) ≡ p → length (classes figure list right own O) ≡ q → tooLarge (filledBy figure list) ≡ or (ltb sheetAtoms p) (ltb sheetLinks q)
+    large p q e f = ap₂ (λ (n m : ℕ). or (ltb sheetAtoms n) (ltb sheetLinks m)) e (class-count figure list right own O ∙ f)
+
+    pub large-atoms : sheetAtoms < r .«atom_count» → tooLarge (filledBy figure list) ≡ true
+    large-atoms h =
+        let n = length (madeAtoms figure list right own O) in
+        let q : sheetAtoms < n = omega (arith, atoms-size, length-take (sheetAtoms + 1) (madeAtoms figure list right own O)) in
+        large n (length (classes figure list right own O)) (atom-count figure list right own O) refl ∙ ap (λ t. or t (ltb sheetLinks (length (classes figure list right own O)))) (lt-ltb sheetAtoms n q)
+
+    module _ (few : r .«atom_count» ≤ sheetAtoms) where
+      small : length (madeAtoms figure list right own O) ≤ sheetAtoms
+      small = omega (arith, atoms-size, length-take (sheetAtoms + 1) (madeAtoms figure list right own O))
+
+      classes-size : r .«class_count» ≡ length (take (sheetLinks + 1) (classes figure list right own O))
+      classes-size = is-made .classCount ∙ ap length (labels-seen figure list right own O small)
+
+      by-classes : (t : Bool) → ltb sheetLinks (length (classes figure list right own O)) ≡ t → tooLarge (filledBy figure list) ≡ t
+      by-classes t e =
+          large (length (madeAtoms figure list right own O)) (length (classes figure list right own O)) (atom-count figure list right own O) refl
+          ∙ ap₂ or (le-ltb sheetAtoms (length (madeAtoms figure list right own O)) small) e
+
+      pub large-classes : sheetLinks < r .«class_count» → tooLarge (filledBy figure list) ≡ true
+      large-classes h = by-classes true (lt-ltb sheetLinks (length (classes figure list right own O)) (omega (arith, classes-size, length-take (sheetLinks + 1) (classes figure list right own O))))
+
+      module _ (narrow : r .«class_count» ≤ sheetLinks) where
+        thin : length (classes figure list right own O) ≤ sheetLinks
+        thin = omega (arith, classes-size, length-take (sheetLinks + 1) (classes figure list right own O))
+
+        pub not-large : tooLarge (filledBy figure list) ≡ false
+        not-large = by-classes false (le-ltb sheetLinks (length (classes figure list right own O)) thin)
+
+        pub rows-written : normalRows r ≡ filledText figure list
+        rows-written = rows-are figure list right own O r is-made small thin
+
+        pub rows-writable : Writable r × ((r .«atom_count» + r .«context_count» + r .«mark_count») * rowWidth ≤ slipLength)
+        rows-writable = made-writable figure list right own O r is-made small thin
+
+-- The whole call.
+module _ (figure list slip : List ℕ) where
+  pub fill-short : length slip < slipLength → (done.ShortSlip ≡ fillAnswer figure list (length slip)) × (slip ≡ fillSlip figure list slip)
+  unfolding fillAnswer fillSlip
+  fill-short h = (rw (lt-ltb (length slip) slipLength h), rw (lt-ltb (length slip) slipLength h))
+
+  module _ (h : slipLength ≤ length slip) where
+    pub fill-figure : (why : Refusal) (row : ℕ) → outcomeOf Figure noPorts figure .answer ≡ Refused why row → (done.Refused 1 why row ≡ fillAnswer figure list (length slip)) × (slip ≡ fillSlip figure list slip)
+    unfolding fillAnswer fillSlip
+    fill-figure why row e = (rw (le-ltb (length slip) slipLength h, e), rw (le-ltb (length slip) slipLength h, e))
+
+    module _ (p : outcomeOf Figure noPorts figure .answer ≡ Passed) where
+      pub fill-list : (why : Refusal) (row : ℕ) → outcomeOf Fillings noPorts list .answer ≡ Refused why row → (done.Refused 2 why row ≡ fillAnswer figure list (length slip)) × (slip ≡ fillSlip figure list slip)
+      unfolding fillAnswer fillSlip
+      fill-list why row e = (rw (le-ltb (length slip) slipLength h, p, e), rw (le-ltb (length slip) slipLength h, p, e))
+
+      pub fill-passed : outcomeOf Fillings noPorts list .answer ≡ Passed → (d : Done) → d ≡ filledAnswer figure list → (out : List ℕ) → out ≡ slipAfter d (filledText figure list) slip
+          → (d ≡ fillAnswer figure list (length slip)) × (out ≡ fillSlip figure list slip)
+      unfolding fillAnswer fillSlip
+      fill-passed q d e out o = (
+        rw (le-ltb (length slip) slipLength h, p, q) e,
+        rw (le-ltb (length slip) slipLength h, p, q) (o ∙ ap (λ (x : Done). slipAfter x (filledText figure list) slip) e),
+      )

@@ -1,0 +1,153 @@
+-- The list that place hands out fills the pattern: no blank lacks its filling, no filling has other marks, and what is written is the same as the sheet.
+use Prim.Native.Nat.{ℕ, zero, suc, _+_}
+use mathlib.Core.Path.{_≡_, refl, ap, sym, _∙_, subst}
+use mathlib.Core.Logic.{_⊎_, inl, inr}
+use mathlib.Core.Bool.{Bool, true, false, true≢false}
+use mathlib.Core.List.{List, [], _∷_, List·Memᴰ·head, List·Memᴰ·tail, List·Memᴰ·cases-cons, List·Memᴰ·not-nil, Memᴰ·map, Memᴰ·of-map}
+use native.Mathlib.Omega.{arith}
+use borrow.Author.Tests.{eqb-true, eqb-false}
+use lib.Dec.{eqb, leb}
+use lib.ListN.{length, getD, drop}
+use Rattle.hyperlmntal.specs.Link.{_∈_}
+use Rattle.hyperlmntal.specs.Congruence.{_≅_, ≅-trans}
+use Rattle.sheet.specs.Pick.{pick, and, not}
+use Rattle.sheet.specs.Format.{rowWidth}
+use Rattle.sheet.specs.Held.{Held, nothing, withRow}
+use Rattle.sheet.specs.Packed.{portsOf}
+use Rattle.sheet.specs.Graph.{termOfText}
+use Rattle.sheet.specs.Limits.{rowLimit}
+use Rattle.sheet.specs.Reading.{Verdict, taken, refused, Outcome, strange, lastNumber, clashOf, clashes, firstOf, tests, passed, refusedAfter, settled, readFrom, outcomeOf, noPorts}
+use Rattle.sheet.specs.declared.Context.{Context}
+use Rattle.sheet.specs.declared.answer.Refusal.{Refusal}
+use Rattle.sheet.specs.declared.answer.Answer.the-variants.{Passed, Refused}
+use Rattle.sheet.specs.declared.kind.Kind.the-variants.{Plain, Pattern, Figure}
+use Rattle.sheet.proofs.Ranges.{Every}
+use Rattle.sheet.proofs.Taken.{rowAt, Taken, tests-none, none-tests}
+use Rattle.placing.specs.Net.{NetCell, Net, normalNet}
+use Rattle.placing.specs.Placing.{Placing, Good}
+use Rattle.placing.specs.Fillings.{Filling, Fits, normalFillingsOf}
+use Rattle.placing.specs.Holding.{holdingTerm}
+use Rattle.placing.specs.ListText.{listText}
+use Rattle.placing.proofs.NormalTexts.{netBlank, textBlank}
+use Rattle.placing.proofs.Theorems.{heldSheet, heldPattern, pattern-blanks, text-placing-fillings}
+use Rattle.filling.specs.Read.{listHeld, fillingRead, fillingsRead}
+use Rattle.filling.specs.Fill.{figureHeld, isExact, filledText, fillAnswer}
+use Rattle.filling.specs.declared.done.Done.the-variants as done
+use Rattle.filling.proofs.Exact.{marks-exact}
+use Rattle.filling.proofs.Located.{Right}
+use Rattle.filling.proofs.Back.{placed-back}
+use Rattle.filling.proofs.Denotes.{fill-congruent}
+
+-- A pattern that passed reads the same as a figure.
+row-clash : (pattern : List ℕ) (contexts : List Context) (text : List ℕ) → clashes Pattern pattern contexts (rowAt text) ≡ false → clashes Figure pattern contexts (rowAt text) ≡ false
+unfolding clashes clashOf
+row-clash pattern contexts text =
+    let r = rowAt text in
+    go (eqb (r .letter) 4) (eqb (r .letter) 1) (eqb (portsOf contexts (getD (r .nums) 0 0)) 0) (eqb (portsOf contexts (getD (r .nums) 0 0)) (suc (getD (r .nums) 1 0))) (leb (getD (r .nums) 0 0) (lastNumber contexts))
+  where
+    go : (a b c d x : Bool) → pick a x (pick b (not c) false) ≡ false → pick a x (pick b (and (not c) (not d)) false) ≡ false
+    go true b c d x e = e
+    go false true true d x e = refl
+    go false true false d x e = absurd (true≢false e)
+    go false false c d x e = refl
+
+as-figure : (pattern : List ℕ) (h : Held) (text : List ℕ) → Taken Pattern pattern h text → Taken Figure pattern h text
+unfolding strange
+as-figure pattern h text t =
+    record {
+      rows = t .rows;
+      whole = t .whole;
+      allowed = t .allowed;
+      good = t .good;
+      atoms = t .atoms;
+      contexts = t .contexts;
+      links = t .links;
+      marks = t .marks;
+      agrees = row-clash pattern (h .contexts) text (t .agrees);
+    }
+
+read-as-figure : (n : ℕ) (pattern : List ℕ) (h g : Held) (text : List ℕ) → readFrom n Pattern pattern h text ≡ passed g → readFrom n Figure pattern h text ≡ passed g
+unfolding readFrom
+read-as-figure zero pattern h g text e = e
+read-as-figure (suc n) pattern h g text e = go (eqb (length text) 0) (firstOf (tests Pattern pattern h text)) refl e (read-as-figure n pattern (withRow h (rowAt text)) g (drop rowWidth text))
+  where
+    never : (why : Refusal) → refusedAfter h why ≡ passed g → ⊥
+    never why q = let p : Refused why (h .rows + 1) ≡ Passed = ap (λ (o : Outcome). o .answer) q in let z : _≡_ {A = ℕ} 0 1 = cc in omega arith
+
+    go : (b : Bool) (v : Verdict) → firstOf (tests Pattern pattern h text) ≡ v → pick b (passed h) (settled v h (readFrom n Pattern pattern (withRow h (rowAt text)) (drop rowWidth text))) ≡ passed g
+        → (readFrom n Pattern pattern (withRow h (rowAt text)) (drop rowWidth text) ≡ passed g → readFrom n Figure pattern (withRow h (rowAt text)) (drop rowWidth text) ≡ passed g)
+        → pick b (passed h) (settled (firstOf (tests Figure pattern h text)) h (readFrom n Figure pattern (withRow h (rowAt text)) (drop rowWidth text))) ≡ passed g
+    go true v q e ih = e
+    go false taken q e ih =
+        ap (λ v. settled v h (readFrom n Figure pattern (withRow h (rowAt text)) (drop rowWidth text))) (none-tests Figure pattern h text (as-figure pattern h text (tests-none Pattern pattern h text q))) ∙ ih e
+    go false (refused why) q e ih = absurd (never why e)
+
+pub pattern-figure : (text : List ℕ) → outcomeOf Pattern noPorts text .answer ≡ Passed → outcomeOf Figure noPorts text ≡ outcomeOf Pattern noPorts text
+unfolding outcomeOf
+pattern-figure text e =
+    let o = readFrom (rowLimit + 1) Pattern noPorts nothing text in
+    let p : o ≡ passed (o .held) = λ i. record { answer = e i; held = o .held } in
+    read-as-figure (rowLimit + 1) noPorts nothing (o .held) text p ∙ sym p
+
+-- The port count of a number, where all of that number have one count.
+ports-first : (l : List Context) (x n : ℕ) → ((c : Context) → c ∈ l → c .number ≡ x → c .count ≡ n) → (c : Context) → c ∈ l → c .number ≡ x → portsOf l x ≡ suc n
+unfolding portsOf
+ports-first [] x n same c i q = absurd (List·Memᴰ·not-nil i)
+ports-first (d ∷ l) x n same c i q = go (eqb (d .number) x) refl (List·Memᴰ·cases-cons i) (λ j. ports-first l x n (λ b k. same b (List·Memᴰ·tail k)) c j q)
+  where
+    go : (b : Bool) → eqb (d .number) x ≡ b → (c ≡ d) ⊎ (c ∈ l) → (c ∈ l → portsOf l x ≡ suc n) → pick b (suc (d .count)) (portsOf l x) ≡ suc n
+    go true e k ih = ap suc (same d (List·Memᴰ·head refl) (eqb-true (d .number) x e))
+    go false e (inl p) ih = absurd (eqb-false (d .number) x e (ap (λ (b : Context). b .number) (sym p) ∙ q))
+    go false e (inr j) ih = ih j
+
+every-in : {A : Type 0} (P : A → Type 0) (l : List A) → ((a : A) → a ∈ l → P a) → Every P l
+every-in P [] f = tt
+every-in P (x ∷ l) f = (f x (List·Memᴰ·head refl), every-in P l (λ a i. f a (List·Memᴰ·tail i)))
+
+module _ (sheet pattern : List ℕ) (a : outcomeOf Plain noPorts sheet .answer ≡ Passed) (b : outcomeOf Pattern noPorts pattern .answer ≡ Passed)
+    (p : Placing) (good : Good (normalNet (heldSheet sheet)) (normalNet (heldPattern pattern)) p) where
+  abbrev F : Net
+  F = normalNet (heldPattern pattern)
+
+  abbrev θ : List Filling
+  θ = normalFillingsOf (normalNet (heldSheet sheet)) p F
+
+  abbrev pub placedList : List ℕ
+  placedList = listText θ
+
+  fit : Fits F θ
+  fit = text-placing-fillings sheet pattern a b p good .0
+
+  same-held : figureHeld pattern ≡ heldPattern pattern
+  same-held = ap (λ (o : Outcome). o .held) (pattern-figure pattern b)
+
+  read-back : fillingsRead placedList ≡ θ
+  read-back = placed-back sheet pattern a b p good
+
+  is-placed : (c : Context) → c ∈ listHeld placedList .contexts → fillingRead placedList c ∈ θ
+  is-placed c i = subst (λ l. fillingRead placedList c ∈ l) read-back (Memᴰ·map (fillingRead placedList) i)
+
+  ported : (c : Context) → c ∈ heldPattern pattern .contexts → portsOf (listHeld placedList .contexts) (c .number) ≡ suc (c .count)
+  ported c i =
+      let t : (d : NetCell) × (d ∈ F .contexts) × (netBlank d ≡ textBlank c) = Memᴰ·of-map netBlank (F .contexts) (subst (λ l. textBlank c ∈ l) (sym (pattern-blanks pattern)) (Memᴰ·map textBlank i)) in
+      let x : t .0 .0 ≡ c .number = ap (λ (e : ℕ × ℕ). e .0) (t .2) in
+      let n : length (t .0 .1) ≡ c .count = ap (λ (e : ℕ × ℕ). e .1) (t .2) in
+      let f = fit .for-each (t .0) (t .1) in
+      let u : (d : Context) × (d ∈ listHeld placedList .contexts) × (fillingRead placedList d ≡ f .0) = Memᴰ·of-map (fillingRead placedList) (listHeld placedList .contexts) (subst (λ l. f .0 ∈ l) (sym read-back) (f .1)) in
+      ports-first (listHeld placedList .contexts) (c .number) (c .count)
+      (λ d k q. ap (λ (g : Filling). g .ports) (fit .one (fillingRead placedList d) (f .0) (is-placed d k) (f .1) (q ∙ sym x ∙ sym (f .2))) ∙ f .3 ∙ n)
+      (u .0) (u .1) (ap (λ (g : Filling). g .number) (u .2) ∙ f .2 ∙ x)
+
+  pub placed-right : Right pattern placedList
+  placed-right =
+      record {
+        ported = every-in (λ (c : Context). portsOf (listHeld placedList .contexts) (c .number) ≡ suc (c .count)) (figureHeld pattern .contexts) (λ c i. ported c (subst (λ (h : Held). c ∈ h .contexts) same-held i));
+        exact = every-in (λ (c : Context). isExact (fillingRead placedList c) ≡ true) (listHeld placedList .contexts) (λ c i. marks-exact (fillingRead placedList c) (fit .exact (fillingRead placedList c) (is-placed c i)));
+      }
+
+  -- What fill writes of the pattern and that list is the same as the sheet.
+  pub placed-fill : (slip : List ℕ) (n : ℕ) → fillAnswer pattern placedList (length slip) ≡ done.Written n → termOfText (outcomeOf Plain noPorts (filledText pattern placedList) .held) ≅ termOfText (heldSheet sheet)
+  placed-fill slip n e =
+      ≅-trans (fill-congruent pattern placedList slip n e)
+      (subst (λ (η : List Filling). holdingTerm (termOfText (figureHeld pattern)) η ≅ termOfText (heldSheet sheet)) (sym read-back)
+      (subst (λ (h : Held). holdingTerm (termOfText h) θ ≅ termOfText (heldSheet sheet)) (sym same-held) (text-placing-fillings sheet pattern a b p good .1)))

@@ -1,0 +1,205 @@
+-- One turn of each loop, over plain variables.
+use Prim.Native.Nat.{ℕ, zero, suc, _+_, _-_, _<_, _≤_}
+use mathlib.Core.Path.{_≡_, refl, ap, ap₂, sym, _∙_, subst}
+use mathlib.Core.Bool.{Bool, true, false}
+use mathlib.Core.List.{List, [], _∷_, _++_, map, map-append, append-nil, append-assoc}
+use native.Mathlib.Decide.{decLe}
+use native.Mathlib.Numerals.{add-one}
+use native.Mathlib.Omega.{arith}
+use borrow.Author.Tests.{eqb-true, eqb-false, lt-ltb, le-ltb}
+use lib.Dec.{eqb}
+use lib.ListN.{length, getD, take, drop, set, length-append, length-take, drop-of-length-le}
+use lib.Seq.{take-all, take-append-le, take-suc, take-suc-set, length-take-le, getD-set-same, getD-set-other}
+use Rattle.sheet.specs.Pick.{pick, and}
+use Rattle.sheet.specs.Limits.{sheetAtoms, sheetLinks}
+use Rattle.sheet.specs.Held.{indexOf, isIn}
+use Rattle.sheet.specs.declared.Atom.{Atom}
+use Rattle.sheet.specs.declared.Context.{Context}
+use Rattle.sheet.proofs.Lists.{mapped, index-below}
+use Rattle.sheet.proofs.Numbered.{part-cons, part-end}
+use Rattle.placing.specs.Smallest.{numbersFrom, numbersTo, sameList}
+use Rattle.filling.specs.Read.{fillingRead}
+use Rattle.filling.specs.Fill.{firstDiffering, isExact}
+use Rattle.filling.specs.Parts.{partNormal, firstUnported, places}
+use Rattle.filling.specs.Glued.{placeOf, joinedAt, joinedAll, portPairs, contextPairs, allPairs}
+use Rattle.filling.specs.Whole.{partAtoms, contextAtoms, roomFor, wholeAtoms, Grown}
+use Rattle.filling.specs.Classes.{withLabel, withLabels, linksIn}
+use Rattle.filling.specs.declared.whole.Whole.{Whole}
+use Rattle.filling.proofs.Join.{all-append}
+use Rattle.filling.proofs.Numbered.{labels-append}
+
+pub mapped-whole : {A : Type 0} (f : A → A) (l : List A) (n : ℕ) → length l ≡ n → mapped f n l ≡ map f l
+mapped-whole f l n e =
+    let h : length l ≤ n = omega arith in
+    ap₂ (λ a b. map f a ++ b) (take-all n l h) (drop-of-length-le l h) ∙ append-nil (map f l)
+
+-- Labels that are their own places, up to one.
+pub own-next : (labels : List ℕ) (k : ℕ) → k < length labels → ((j : ℕ) → j < k → getD labels j 0 ≡ j) → (j : ℕ) → j < k + 1 → getD (set labels k k) j 0 ≡ j
+own-next labels k h own j l = go (eqb j k) refl
+  where
+    go : (b : Bool) → eqb j k ≡ b → getD (set labels k k) j 0 ≡ j
+    go true e = let q : j ≡ k = eqb-true j k e in subst (λ i. getD (set labels k k) i 0 ≡ i) (sym q) (getD-set-same labels k k 0 h)
+    go false e = let q : j ≡ k → ⊥ = eqb-false j k e in getD-set-other labels k j k 0 q ∙ own j (omega (arith, q))
+
+-- A port more.
+module _ (p count k : ℕ) (links marked labels : List ℕ) where
+  pub ports-next : count ≤ length links → count ≤ length marked → k < count
+      → joinedAll labels (portPairs p (drop k (take count links)) (drop k (take count marked)))
+      ≡ joinedAll (joinedAt labels (getD links k 0, placeOf p (getD marked k 0))) (portPairs p (drop (k + 1) (take count links)) (drop (k + 1) (take count marked)))
+  unfolding joinedAll portPairs
+  ports-next a b h = rw (part-cons links count k 0 a h, part-cons marked count k 0 b h)
+
+  pub ports-end : count ≤ k → joinedAll labels (portPairs p (drop k (take count links)) (drop k (take count marked))) ≡ labels
+  unfolding joinedAll portPairs
+  ports-end h = rw (part-end links count k h)
+
+-- A context more.
+module _ (list : List ℕ) (contexts : List Context) (count i : ℕ) (d : Context) where
+  pub pairs-next : (labels : List ℕ) (p : ℕ) → count ≤ length contexts → i < count
+      → joinedAll labels (allPairs list p (drop i (take count contexts))) ≡ joinedAll (joinedAll labels (contextPairs list p (getD contexts i d))) (allPairs list (p + 1) (drop (i + 1) (take count contexts)))
+  unfolding allPairs
+  pairs-next labels p a h = rw (part-cons contexts count i d a h) (all-append labels (contextPairs list p (getD contexts i d)) (allPairs list (p + 1) (drop (i + 1) (take count contexts))))
+
+  pub pairs-end : (labels : List ℕ) (p : ℕ) → count ≤ i → joinedAll labels (allPairs list p (drop i (take count contexts))) ≡ labels
+  unfolding joinedAll allPairs
+  pairs-end labels p h = rw (part-end contexts count i h)
+
+  pub atoms-next : (labels : List ℕ) (p : ℕ) → count ≤ length contexts → i < count
+      → contextAtoms list labels p (drop i (take count contexts)) ≡ partAtoms labels p (partNormal list (getD contexts i d .number)) ++ contextAtoms list labels (p + 1) (drop (i + 1) (take count contexts))
+  unfolding contextAtoms
+  atoms-next labels p a h = rw (part-cons contexts count i d a h)
+
+  pub atoms-end : (labels : List ℕ) (p : ℕ) → count ≤ i → contextAtoms list labels p (drop i (take count contexts)) ≡ []
+  unfolding contextAtoms
+  atoms-end labels p h = rw (part-end contexts count i h)
+
+  pub lacking-next : (ports : List ℕ) → count ≤ length contexts → i < count → (b : Bool) → eqb (getD ports (getD contexts i d .number) 0) (suc (getD contexts i d .count)) ≡ b
+      → firstUnported ports (drop i (take count contexts)) ≡ pick b (firstUnported ports (drop (i + 1) (take count contexts))) (getD contexts i d .row)
+  unfolding firstUnported
+  lacking-next ports a h b e = rw (part-cons contexts count i d a h, e)
+
+  pub lacking-end : (ports : List ℕ) → count ≤ i → firstUnported ports (drop i (take count contexts)) ≡ 0
+  unfolding firstUnported
+  lacking-end ports h = rw (part-end contexts count i h)
+
+  pub differing-next : count ≤ length contexts → i < count → (b : Bool) → isExact (fillingRead list (getD contexts i d)) ≡ b
+      → firstDiffering list (drop i (take count contexts)) ≡ pick b (firstDiffering list (drop (i + 1) (take count contexts))) (getD contexts i d .row)
+  unfolding firstDiffering
+  differing-next a h b e = rw (part-cons contexts count i d a h) (ap (λ t. pick t (firstDiffering list (drop (i + 1) (take count contexts))) (getD contexts i d .row)) e)
+
+  pub differing-end : count ≤ i → firstDiffering list (drop i (take count contexts)) ≡ 0
+  unfolding firstDiffering
+  differing-end h = rw (part-end contexts count i h)
+
+-- As many atoms as there is room for.
+pub room-twice : (a b : List Atom) → roomFor (roomFor a ++ b) ≡ roomFor (a ++ b)
+room-twice a b = go (decLe (length a) (sheetAtoms + 1))
+  where
+    go : Dec (length a ≤ sheetAtoms + 1) → roomFor (roomFor a ++ b) ≡ roomFor (a ++ b)
+    go (yes h) = ap (λ l. roomFor (l ++ b)) (take-all (sheetAtoms + 1) a h)
+    go (no k) =
+        let n : sheetAtoms + 1 ≤ length a = omega arith in
+        let m : length (roomFor a) ≡ sheetAtoms + 1 = length-take-le (sheetAtoms + 1) a n in
+        take-append-le (sheetAtoms + 1) (roomFor a) b (omega arith) ∙ take-all (sheetAtoms + 1) (roomFor a) (omega arith) ∙ sym (take-append-le (sheetAtoms + 1) a b n)
+
+pub room-all : (l : List Atom) → length l ≤ sheetAtoms + 1 → roomFor l ≡ l
+room-all l h = take-all (sheetAtoms + 1) l h
+
+pub room-one : (l : List Atom) (n : ℕ) (a : Atom) → length l ≡ sheetAtoms + 1 → n < sheetAtoms + 1 → take (n + 1) (set l n a) ≡ roomFor (take n l ++ (a ∷ []))
+room-one l n a e h =
+    let m : length (take n l) ≡ n = length-take-le n l (omega arith) in
+    rw (add-one n) (take-suc-set l n a (omega arith) ∙ sym (room-all (take n l ++ (a ∷ [])) (simp length-append (omega arith))))
+
+pub room-full : (l : List Atom) (n : ℕ) (a : Atom) → length l ≡ sheetAtoms + 1 → n ≤ sheetAtoms + 1 → sheetAtoms + 1 ≤ n → take n l ≡ roomFor (take n l ++ (a ∷ []))
+room-full l n a e h k =
+    let m : length (take n l) ≡ n = length-take-le n l (omega arith) in
+    sym (take-append-le (sheetAtoms + 1) (take n l) (a ∷ []) (omega arith) ∙ room-all (take n l) (omega arith))
+
+pub grown-none : (w : Whole) → w .count ≤ sheetAtoms + 1 → Grown w w []
+grown-none w h = record { atoms = sym (ap roomFor (append-nil (wholeAtoms w)) ∙ room-all (wholeAtoms w) (omega (arith, length-take (w .count) (w .atoms)))); few = h }
+
+pub grown-then : (w r s : Whole) (a b : List Atom) → Grown w r a → Grown r s b → Grown w s (a ++ b)
+grown-then w r s a b g h =
+    record {
+      atoms = h .atoms ∙ ap (λ l. roomFor (l ++ b)) (g .atoms) ∙ room-twice (wholeAtoms w ++ a) b ∙ ap roomFor (append-assoc (wholeAtoms w) a b);
+      few = h .few;
+    }
+
+pub mapped-next : {A B : Type 0} (f : A → B) (l : List A) (i : ℕ) (d : A) → i < length l → map f (take i l) ++ (f (getD l i d) ∷ []) ≡ map f (take (i + 1) l)
+mapped-next f l i d h = rw (add-one i) (rw (take-suc l i d h) (sym (map-append f (take i l) (getD l i d ∷ []))))
+
+-- A label more.
+module _ (l : List ℕ) (n x : ℕ) (e : length l ≡ sheetLinks + 1) (h : n ≤ sheetLinks + 1) where
+  size : length (take n l) ≡ n
+  size = length-take-le n l (omega arith)
+
+  pub label-new : indexOf x (take n l) ≡ n → n < sheetLinks + 1 → take (n + 1) (set l n x) ≡ withLabel (take n l) x
+  unfolding withLabel
+  label-new q k =
+      let s = size in
+      let new : isIn x (take n l) ≡ false = le-ltb (indexOf x (take n l)) (length (take n l)) (omega arith) in
+      rw (add-one n) (take-suc-set l n x (omega arith) ∙ sym (ap (λ b. pick b (take n l) (take (sheetLinks + 1) (take n l ++ (x ∷ [])))) new ∙ take-all (sheetLinks + 1) (take n l ++ (x ∷ [])) (simp length-append (omega arith))))
+
+  pub label-full : indexOf x (take n l) ≡ n → sheetLinks + 1 ≤ n → take n l ≡ withLabel (take n l) x
+  unfolding withLabel
+  label-full q k =
+      let s = size in
+      let new : isIn x (take n l) ≡ false = le-ltb (indexOf x (take n l)) (length (take n l)) (omega arith) in
+      sym (ap (λ b. pick b (take n l) (take (sheetLinks + 1) (take n l ++ (x ∷ [])))) new ∙ take-append-le (sheetLinks + 1) (take n l) (x ∷ []) (omega arith) ∙ take-all (sheetLinks + 1) (take n l) (omega arith))
+
+  pub label-old : (indexOf x (take n l) ≡ n → ⊥) → take n l ≡ withLabel (take n l) x
+  unfolding withLabel
+  label-old q =
+      let s = size in
+      let old : isIn x (take n l) ≡ true = lt-ltb (indexOf x (take n l)) (length (take n l)) (omega (arith, index-below x n l, q)) in
+      sym (ap (λ b. pick b (take n l) (take (sheetLinks + 1) (take n l ++ (x ∷ [])))) old)
+
+pub one-label : (l : List ℕ) (x : ℕ) → withLabels l (x ∷ []) ≡ withLabel l x
+unfolding withLabels
+one-label l x = refl
+
+pub labels-next : (s links : List ℕ) (count k : ℕ) → count ≤ length links → k < count
+    → withLabels s (drop k (take count links)) ≡ withLabels (withLabels s (getD links k 0 ∷ [])) (drop (k + 1) (take count links))
+unfolding withLabels
+labels-next s links count k a h = rw (part-cons links count k 0 a h)
+
+pub labels-end : (s links : List ℕ) (count k : ℕ) → count ≤ k → withLabels s (drop k (take count links)) ≡ s
+unfolding withLabels
+labels-end s links count k h = rw (part-end links count k h)
+
+pub links-next : (s : List ℕ) (atoms : List Atom) (count i : ℕ) (d : Atom) → count ≤ length atoms → i < count
+    → withLabels s (linksIn (drop i (take count atoms))) ≡ withLabels (withLabels s (take (getD atoms i d .count) (getD atoms i d .links))) (linksIn (drop (i + 1) (take count atoms)))
+unfolding linksIn
+links-next s atoms count i d a h = rw (part-cons atoms count i d a h) (labels-append s (take (getD atoms i d .count) (getD atoms i d .links)) (linksIn (drop (i + 1) (take count atoms))))
+
+pub links-end : (s : List ℕ) (atoms : List Atom) (count i : ℕ) → count ≤ i → withLabels s (linksIn (drop i (take count atoms))) ≡ s
+unfolding withLabels linksIn
+links-end s atoms count i h = rw (part-end atoms count i h)
+
+-- Marks that are to be 1 to n.
+pub marks-next : (marks : List ℕ) (n k : ℕ) → n ≤ length marks → k < n → (b : Bool) → eqb (getD marks k 0) (k + 1) ≡ b
+    → sameList (drop k (take n marks)) (numbersFrom (k + 1) (n - k)) ≡ and b (sameList (drop (k + 1) (take n marks)) (numbersFrom (k + 1 + 1) (n - (k + 1))))
+marks-next marks n k a h b e =
+    let q : n - k ≡ suc (n - (k + 1)) = omega arith in
+    ap₂ (λ l m. sameList l (numbersFrom (k + 1) m)) (part-cons marks n k 0 a h) q
+    ∙ ap₂ (λ (t : Bool) (s : ℕ). and t (sameList (drop (k + 1) (take n marks)) (numbersFrom s (n - (k + 1))))) e (let z : suc (k + 1) ≡ k + 1 + 1 = omega arith in z)
+
+pub marks-end : (marks : List ℕ) (n k : ℕ) → n ≤ k → sameList (drop k (take n marks)) (numbersFrom (k + 1) (n - k)) ≡ true
+marks-end marks n k h = let q : n - k ≡ 0 = omega arith in ap₂ (λ l m. sameList l (numbersFrom (k + 1) m)) (part-end marks n k h) q
+
+list-sizes : (l m : List ℕ) → (length l ≡ length m → ⊥) → sameList l m ≡ false
+list-sizes [] [] h = absurd (h refl)
+list-sizes [] (y ∷ m) h = refl
+list-sizes (x ∷ l) [] h = refl
+list-sizes (x ∷ l) (y ∷ m) h = go (eqb x y) (list-sizes l m (λ e. h (ap suc e)))
+  where
+    go : (b : Bool) → sameList l m ≡ false → and b (sameList l m) ≡ false
+    go true e = e
+    go false e = refl
+
+numbers-size : (s n : ℕ) → length (numbersFrom s n) ≡ n
+numbers-size s zero = refl
+numbers-size s (suc n) = ap suc (numbers-size (suc s) n)
+
+pub marks-other : (marks : List ℕ) (c n : ℕ) → c ≤ length marks → (c ≡ n → ⊥) → sameList (take c marks) (numbersTo n) ≡ false
+marks-other marks c n h k = list-sizes (take c marks) (numbersTo n) (λ e. k (sym (length-take-le c marks h) ∙ e ∙ numbers-size 1 n))

@@ -1,0 +1,51 @@
+-- The part of a list that is one filling agrees with its hypergraph.
+use borrow.Author.Needs.{needs}
+use Prim.Native.Nat.{ℕ}
+use mathlib.Core.Path.{_≡_, ap, _∙_}
+use mathlib.Core.List.{List}
+use Rattle.sheet.specs.Packed.{packed}
+use Rattle.sheet.specs.Reading.{outcomeOf, readingOf, noPorts}
+use Rattle.sheet.specs.declared.read.Reading.{Reading}
+use Rattle.sheet.specs.declared.kind.Kind.the-variants.{Fillings}
+use Rattle.filling.specs.Read.{partHeld}
+use Rattle.filling.specs.Parts.{withoutHeads}
+use Rattle.filling.proofs.Parts.{part-agrees, part-numberable}
+use Rattle.filling.proofs.part.part_of.Statement.{statement}
+use Rattle.filling.proofs.part.part_of.Tie as tie
+
+filling-of-requires : tie.Need-filling-of-requires
+filling-of-requires c κs = search needs
+
+read-list-requires : tie.Need-read-list-requires
+read-list-requires c κs = search needs
+
+without-heads-requires : tie.Need-without-heads-requires
+without-heads-requires c κs = search needs
+
+normal-of-requires : tie.Need-normal-of-requires
+normal-of-requires c κs = let w = c in
+    let r = w .before .before in
+    let f = r .before in
+    let a = f .before .before .args in
+    let e : w .without-heads .result ≡ packed (withoutHeads (partHeld (a .list .now) (a .number))) =
+    w .without-heads .ensures (partHeld (a .list .now) (a .number)) (ap (λ (x : Reading). x .sheet) (r .read-list .ensures ∙ ap (λ (t : List ℕ). readingOf (outcomeOf Fillings noPorts t)) (f .filling-of .ensures))) in
+    rw e (part-numberable (a .list .now) (a .number))
+
+returns : tie.Need-returns
+returns c = let w = c .before in
+    let r = w .before .before in
+    let f = r .before in
+    let a = f .before .before .args in
+    let e : w .without-heads .result ≡ packed (withoutHeads (partHeld (a .list .now) (a .number))) =
+    w .without-heads .ensures (partHeld (a .list .now) (a .number)) (ap (λ (x : Reading). x .sheet) (r .read-list .ensures ∙ ap (λ (t : List ℕ). readingOf (outcomeOf Fillings noPorts t)) (f .filling-of .ensures))) in
+    c .normal-of .ensures (withoutHeads (partHeld (a .list .now) (a .number))) (part-agrees (a .list .now) (a .number)) e
+
+pub part-of-spec : {M : Type 1} → statement M
+part-of-spec =
+    tie.close
+    (tie.spec
+    filling-of-requires
+    read-list-requires
+    without-heads-requires
+    normal-of-requires
+    returns)

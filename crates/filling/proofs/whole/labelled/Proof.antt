@@ -1,0 +1,93 @@
+-- Invariant: the labels of the first k links are written.
+use borrow.Author.Needs.{needs}
+use native.Mathlib.Omega.{arith}
+use Prim.Native.Nat.{_≤_, _-_}
+use mathlib.Core.Path.{_≡_, refl}
+use mathlib.Core.List.{map}
+use lib.ListN.{length, getD, take, length-set}
+use Rattle.sheet.specs.Format.{mostLinks}
+use Rattle.sheet.specs.Packed.{padded}
+use Rattle.sheet.proofs.Padding.{stored-next}
+use Rattle.filling.specs.Parts.{places}
+use Rattle.filling.specs.Glued.{placeOf}
+use Rattle.filling.proofs.whole.labelled.Statement.{statement}
+use Rattle.filling.proofs.whole.labelled.Tie as tie
+
+abbrev Inv-loop : tie.InvT-loop
+Inv-loop p count labels links more₀ k₀ more k = (k ≤ count) × (length links ≡ mostLinks) × (length labels ≡ places) × (length more ≡ mostLinks) × (more ≡ padded mostLinks 0 (map (λ x. getD labels (placeOf p x) 0) (take k links)))
+
+abbrev μ-loop : tie.MeasureT-loop
+μ-loop p count labels links more₀ k₀ more k = count - k
+
+loop-holds : tie.Need-loop-holds Inv-loop μ-loop
+unfolding padded
+loop-holds c = (search needs, search needs, search needs, search needs, refl)
+
+mul-more : tie.Need-mul-more Inv-loop μ-loop
+mul-more c = search needs
+
+mul-more-2 : tie.Need-mul-more-2 Inv-loop μ-loop
+mul-more-2 c = search needs
+
+array-read-more : tie.Need-array-read-more Inv-loop μ-loop
+array-read-more c = search needs
+
+cast-more : tie.Need-cast-more Inv-loop μ-loop
+cast-more c = search needs
+
+add-more : tie.Need-add-more Inv-loop μ-loop
+add-more c = omega (arith, c .before .before .pre .0, c .before .before .pre .2 (c .before .loop .k))
+
+mul-more-3 : tie.Need-mul-more-3 Inv-loop μ-loop
+mul-more-3 c = omega (arith, c .before .before .pre .0, c .before .before .pre .2 (c .before .loop .k))
+
+array-read-more-2 : tie.Need-array-read-more-2 Inv-loop μ-loop
+array-read-more-2 c = omega (arith, c .before .before .pre .0, c .before .before .pre .2 (c .before .loop .k))
+
+mul-more-4 : tie.Need-mul-more-4 Inv-loop μ-loop
+mul-more-4 c = search needs
+
+array-write-more : tie.Need-array-write-more Inv-loop μ-loop
+array-write-more c = search needs
+
+add-k : tie.Need-add-k Inv-loop μ-loop
+add-k c = search needs
+
+loop-less : tie.Need-loop-less Inv-loop μ-loop
+loop-less c = search needs
+
+loop-again : tie.Need-loop-again Inv-loop μ-loop
+loop-again c = let l = c .before in
+    let a = l .before .args in (
+      search needs,
+      l .loop .inv .1,
+      l .loop .inv .2,
+      simp length-set (l .loop .inv .3),
+      stored-next mostLinks (λ x. getD (a .t1) (placeOf (a .p) x) 0) (a .t3) (l .loop .more) (l .loop .k) (l .loop .inv .4) (omega (arith, l .loop .inv .1)) (omega arith),
+    )
+
+returns : tie.Need-returns Inv-loop μ-loop
+returns c = let l = c .before in
+    let e : l .loop .k ≡ l .before .args .count = omega arith in
+    rw e at (l .loop .inv .4)
+
+pub labelled-spec : {M : Type 1} → statement M
+labelled-spec =
+    tie.close
+    (tie.spec
+    Inv-loop
+    μ-loop
+    loop-holds
+    mul-more
+    mul-more-2
+    array-read-more
+    cast-more
+    add-more
+    mul-more-3
+    array-read-more-2
+    mul-more-4
+    array-write-more
+    add-k
+    loop-less
+    loop-again
+    returns)

@@ -1,0 +1,81 @@
+-- Labels in the order in which they first appear, and atoms and marks with the numbers of their labels.
+use Prim.Native.Nat.{ℕ, suc, _+_, _≤_}
+use mathlib.Core.Path.{_≡_}
+use mathlib.Core.List.{List, [], _∷_, _++_, map}
+use lib.ListN.{length, take, getD}
+use Rattle.sheet.specs.Pick.{pick}
+use Rattle.sheet.specs.Format.{mostLinks}
+use Rattle.sheet.specs.Limits.{sheetLinks, sheetMarks}
+use Rattle.sheet.specs.Held.{indexOf, isIn}
+use Rattle.sheet.specs.Packed.{padded}
+use Rattle.sheet.specs.declared.Atom.{Atom}
+use Rattle.sheet.specs.declared.normal.Normal.{Normal}
+use Rattle.filling.specs.Whole.{allAtoms, roomFor, wholeAtoms}
+use Rattle.filling.specs.declared.whole.Whole.{Whole}
+use Rattle.filling.specs.declared.classes.Classes.{Classes}
+
+abbrev pub seen : Classes → List ℕ
+seen c = take (c .count) (c .labels)
+
+-- a label that is new comes last, where there is room
+unfoldable pub withLabel : List ℕ → ℕ → List ℕ
+withLabel l x = pick (isIn x l) l (take (sheetLinks + 1) (l ++ (x ∷ [])))
+
+unfoldable pub withLabels : List ℕ → List ℕ → List ℕ
+withLabels l [] = l
+withLabels l (x ∷ more) = withLabels (withLabel l x) more
+
+-- r has what c has, and these labels
+pub record Sees (c r : Classes) (more : List ℕ) : Type 0 where
+  pub labels : seen r ≡ withLabels (seen c) more
+  pub few : r .count ≤ sheetLinks + 1
+
+-- the links of atoms, in order
+unfoldable pub linksIn : List Atom → List ℕ
+linksIn [] = []
+linksIn (a ∷ l) = take (a .count) (a .links) ++ linksIn l
+
+-- the number of a label
+abbrev pub numberIn : List ℕ → ℕ → ℕ
+numberIn labels x = suc (indexOf x labels)
+
+abbrev pub numberedLinks : List ℕ → ℕ → List ℕ → List ℕ
+numberedLinks labels count links = padded mostLinks 0 (map (numberIn labels) (take count links))
+
+abbrev pub numberedAtom : List ℕ → Atom → Atom
+numberedAtom labels a = record { name = a .name; count = a .count; links = numberedLinks labels (a .count) (a .links) }
+
+-- the labels of the figure's marks
+abbrev pub markLabels : List ℕ → Normal → List ℕ
+markLabels labels figure = map (λ x. getD labels x 0) (take (figure .«mark_count») (figure .marked))
+
+-- atoms and labels of the filled figure
+abbrev pub shownAtoms : List ℕ → List ℕ → Normal → List Atom
+shownAtoms list labels figure = roomFor (allAtoms list labels figure)
+
+-- the labels of these atoms, then of these marks
+abbrev pub labelsOf : List Atom → List ℕ → List ℕ
+labelsOf atoms marks = withLabels (withLabels [] (linksIn atoms)) marks
+
+abbrev pub shownLabels : List ℕ → List ℕ → Normal → List ℕ
+shownLabels list labels figure = labelsOf (shownAtoms list labels figure) (markLabels labels figure)
+
+-- r has these atoms and the figure's marks, of which these are the labels, with their numbers
+pub record Numbered (figure : Normal) (whole : Whole) (labelled : List ℕ) (r : Normal) : Type 0 where
+  pub atoms : take (r .«atom_count») (r .atoms) ≡ map (numberedAtom (labelsOf (wholeAtoms whole) (take (figure .«mark_count») labelled))) (wholeAtoms whole)
+  pub atomCount : r .«atom_count» ≡ length (wholeAtoms whole)
+  pub contextCount : r .«context_count» ≡ 0
+  pub marks : r .marks ≡ figure .marks
+  pub marked : r .marked ≡ padded (sheetMarks + 1) 0 (map (numberIn (labelsOf (wholeAtoms whole) (take (figure .«mark_count») labelled))) (take (figure .«mark_count») labelled))
+  pub markCount : r .«mark_count» ≡ figure .«mark_count»
+  pub classCount : r .«class_count» ≡ length (labelsOf (wholeAtoms whole) (take (figure .«mark_count») labelled))
+
+-- r is the figure filled from the list, where these are the labels of its classes
+pub record Made (list labels : List ℕ) (figure r : Normal) : Type 0 where
+  pub atoms : take (r .«atom_count») (r .atoms) ≡ map (numberedAtom (shownLabels list labels figure)) (shownAtoms list labels figure)
+  pub atomCount : r .«atom_count» ≡ length (shownAtoms list labels figure)
+  pub contextCount : r .«context_count» ≡ 0
+  pub marks : r .marks ≡ figure .marks
+  pub marked : r .marked ≡ padded (sheetMarks + 1) 0 (map (numberIn (shownLabels list labels figure)) (markLabels labels figure))
+  pub markCount : r .«mark_count» ≡ figure .«mark_count»
+  pub classCount : r .«class_count» ≡ length (shownLabels list labels figure)

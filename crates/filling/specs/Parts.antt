@@ -1,0 +1,53 @@
+-- One filling as a normal form of its own, and the bounds of a normal form's numbers.
+use Prim.Native.Nat.{ℕ, suc, _+_, _*_, _<_, _≤_}
+use mathlib.Core.List.{List, [], _∷_}
+use lib.Dec.{eqb}
+use lib.ListN.{getD}
+use Rattle.sheet.specs.Pick.{pick}
+use Rattle.sheet.specs.Format.{mostLinks}
+use Rattle.sheet.specs.Limits.{sheetAtoms, figureContexts, sheetMarks, fillingLinks}
+use Rattle.sheet.specs.Held.{Held}
+use Rattle.sheet.specs.NormalSheet.{packedNormal}
+use Rattle.sheet.specs.NormalRows.{pastAtoms, pastContexts}
+use Rattle.sheet.specs.declared.Context.{Context}
+use Rattle.sheet.specs.declared.Sheet.{Sheet}
+use Rattle.sheet.specs.declared.normal.Normal.{Normal}
+use Rattle.filling.specs.Read.{partHeld}
+
+-- what is held, without H rows
+abbrev pub withoutHeads : Held → Held
+withoutHeads h = record { rows = h .rows; atoms = h .atoms; contexts = []; fusions = h .fusions; edges = h .edges; wiring = h .wiring }
+
+-- the filling of this number
+abbrev pub partNormal : List ℕ → ℕ → Normal
+partNormal list number = packedNormal (withoutHeads (partHeld list number))
+
+-- the first context whose number has no such count in a table of port counts and 1
+unfoldable pub firstUnported : List ℕ → List Context → ℕ
+firstUnported ports [] = 0
+firstUnported ports (c ∷ l) = pick (eqb (getD ports (c .number) 0) (suc (c .count))) (firstUnported ports l) (c .row)
+
+-- the numbers and counts of a text's contexts are in their ranges
+pub record Counted (s : Sheet) : Type 0 where
+  pub few : s .«context_count» ≤ figureContexts
+  pub number : (i : ℕ) → getD (s .contexts) i pastContexts .number < 5
+  pub count : (i : ℕ) → getD (s .contexts) i pastContexts .count ≤ mostLinks
+
+-- the classes of one part, which are counted from 1
+abbrev pub partRoom : ℕ
+partRoom = fillingLinks + mostLinks
+
+-- the figure, and a filling for each context
+abbrev pub places : ℕ
+places = (figureContexts + 1) * partRoom
+
+-- a normal form whose numbers are in their ranges; past an array's end the logic reads zeros and an empty list
+pub record Low (n : Normal) : Type 0 where
+  pub atoms : n .«atom_count» ≤ sheetAtoms
+  pub contexts : n .«context_count» ≤ figureContexts
+  pub marks : n .«mark_count» ≤ sheetMarks
+  pub atomCounts : (i : ℕ) → getD (n .atoms) i pastAtoms .count ≤ mostLinks
+  pub atomLinks : (i k : ℕ) → getD (getD (n .atoms) i pastAtoms .links) k 0 < partRoom
+  pub contextCounts : (i : ℕ) → getD (n .contexts) i pastContexts .count ≤ mostLinks
+  pub contextLinks : (i k : ℕ) → getD (getD (n .contexts) i pastContexts .links) k 0 < partRoom
+  pub marked : (k : ℕ) → getD (n .marked) k 0 < partRoom

@@ -1,0 +1,68 @@
+// The task fill: a figure with its contexts filled from a list, as normal text, into an output buffer.
+use crate::done::Done;
+use crate::filled::filled;
+use crate::part::first_differing;
+use crate::part::first_lacking;
+use sheet::Sheet;
+use sheet::answer::Answer;
+use sheet::normal::normal_of;
+use sheet::normal_text::write_normal;
+use sheet::read::read_figure;
+use sheet::read::read_list;
+ghost use mathlib.Core.Path.{_≡_};
+ghost use mathlib.Core.List.{List};
+ghost use Prim.Native.Nat.{ℕ, _≤_};
+ghost use lib.ListN.{length};
+ghost use Rattle.sheet.specs.Packed.{packed};
+ghost use Rattle.sheet.specs.NormalText.{slipLength};
+ghost use Rattle.filling.specs.Read.{listHeld};
+ghost use Rattle.filling.specs.Done.{slipAfter};
+ghost use Rattle.filling.specs.Fill.{figureHeld, filledText, filledAnswer, fillAnswer, fillSlip};
+
+// A figure and a list that passed row by row.
+fn fill_read(figure: Sheet, heads: Sheet, list: &[u8], out: &mut [u8]) -> Done
+    requires { ⌜ ((text : List ℕ) × (figure ≡ packed (figureHeld text))) × (heads ≡ packed (listHeld (now list))) ⌝ }
+    requires { ⌜ slipLength ≤ length (now out) ⌝ }
+    ensures { λ r. ⌜ ((text : List ℕ) → figure ≡ packed (figureHeld text) → r ≡ filledAnswer text (now (list .entry))) ⌝ }
+    ensures { λ r. ⌜ ((text : List ℕ) → figure ≡ packed (figureHeld text) → now (out .exit) ≡ slipAfter r (filledText text (now (list .entry))) (now (out .entry))) ⌝ }
+{
+    let lacking = first_lacking(figure, heads);
+    if lacking != 0 {
+        return Done::BlankClash(1, lacking);
+    }
+    let differing = first_differing(heads, list);
+    if differing != 0 {
+        return Done::EdgeDiffers(2, differing);
+    }
+    let normal = filled(normal_of(figure), list);
+    if Sheet::ATOMS < normal.atom_count {
+        return Done::TooLarge;
+    }
+    if Sheet::LINKS < normal.class_count {
+        return Done::TooLarge;
+    }
+    let bytes = write_normal(normal, out);
+    Done::Written(bytes)
+}
+
+pub fn fill(figure: &[u8], list: &[u8], out: &mut [u8]) -> Done
+    ensures { λ r. ⌜ r ≡ fillAnswer (now (figure .entry)) (now (list .entry)) (length (now (out .entry))) ⌝ }
+    ensures { λ _. ⌜ now (out .exit) ≡ fillSlip (now (figure .entry)) (now (list .entry)) (now (out .entry)) ⌝ }
+{
+    if out.len() < Sheet::SLIP {
+        return Done::ShortSlip;
+    }
+    let figure_reading = read_figure(figure);
+    let figure_answer = figure_reading.answer;
+    let figure_sheet = figure_reading.sheet;
+    let list_reading = read_list(list);
+    let list_answer = list_reading.answer;
+    let heads = list_reading.sheet;
+    match figure_answer {
+        Answer::Passed => match list_answer {
+            Answer::Passed => fill_read(figure_sheet, heads, list, out),
+            Answer::Refused(why, row) => Done::Refused(2, why, row),
+        },
+        Answer::Refused(why, row) => Done::Refused(1, why, row),
+    }
+}

@@ -1,0 +1,70 @@
+// The normal form of a filled figure.
+use crate::classes::Classes;
+use crate::glue::PLACES;
+use crate::glue::glued;
+use crate::whole::Whole;
+use crate::whole::whole_of;
+use sheet::Sheet;
+use sheet::normal::Normal;
+ghost use mathlib.Core.Path.{_≡_};
+ghost use mathlib.Core.List.{List};
+ghost use Prim.Native.Nat.{ℕ, _+_, _≤_};
+ghost use lib.ListN.{take, getD};
+ghost use Rattle.sheet.specs.Format.{mostLinks};
+ghost use Rattle.sheet.specs.Limits.{sheetAtoms, sheetMarks};
+ghost use Rattle.sheet.specs.NormalRows.{pastAtoms};
+ghost use Rattle.filling.specs.Parts.{Low};
+ghost use Rattle.filling.specs.Glued.{Glues};
+ghost use Rattle.filling.specs.Whole.{wholeAtoms};
+ghost use Rattle.filling.specs.Classes.{markLabels, Numbered, Made};
+
+// The labels of the classes that have the figure's marks.
+fn mark_labels(labels: [u16; PLACES], figure: Normal) -> [u16; Sheet::MARK_ROOM]
+    requires { ⌜ Low figure ⌝ }
+    ensures { λ r. ⌜ take (figure .«mark_count») r ≡ markLabels labels figure ⌝ }
+{
+    let mut marked = [0u16; Sheet::MARK_ROOM];
+    let mut k = 0;
+    while k < figure.mark_count {
+        marked[k] = labels[figure.marked[k] as usize];
+        k += 1;
+    }
+    marked
+}
+
+// These atoms and the figure's marks, of which `labelled` has the labels, with the numbers of their classes.
+fn numbered(figure: Normal, whole: Whole, labelled: [u16; Sheet::MARK_ROOM]) -> Normal
+    requires { ⌜ (figure .«mark_count» ≤ sheetMarks) × (whole .count ≤ sheetAtoms + 1) × ((i : ℕ) → getD (wholeAtoms whole) i pastAtoms .count ≤ mostLinks) ⌝ }
+    ensures { λ r. ⌜ Numbered figure whole labelled r ⌝ }
+{
+    let count = figure.mark_count;
+    let classes = Classes::none()
+        .with_atoms(whole)
+        .with_marks(labelled, count);
+    let atoms = classes.atoms(whole);
+    let marked = classes.marks(labelled, count);
+    let none = Sheet::empty();
+    let contexts = none.contexts;
+    let marks = figure.marks;
+    Normal {
+        atoms,
+        atom_count: whole.count,
+        contexts,
+        context_count: 0,
+        marks,
+        marked,
+        mark_count: count,
+        class_count: classes.count,
+    }
+}
+
+// The normal form, where its counts are within a sheet's limits; else one of them is above its limit.
+pub(crate) fn filled(figure: Normal, list: &[u8]) -> Normal
+    requires { ⌜ Low figure ⌝ }
+    ensures { λ r. ⌜ ((labels : List ℕ) × (Glues (now (list .entry)) figure labels × Made (now (list .entry)) labels figure r)) ⌝ }
+{
+    let labels = glued(figure, list);
+    let whole = whole_of(figure, list, labels);
+    let labelled = mark_labels(labels, figure);
+    numbered(figure, whole, labelled)
+}

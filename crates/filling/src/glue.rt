@@ -1,0 +1,90 @@
+// Which link classes of a figure and of the fillings put in are one: class n of part p has place
+// p * PART + n, part 0 being the figure and part i + 1 the filling put for context i; two places have
+// the same label exactly when they are one.
+use crate::part::part_of;
+use sheet::Sheet;
+use sheet::normal::Normal;
+ghost use mathlib.Core.Path.{_≡_};
+ghost use Prim.Native.Nat.{ℕ, _≤_, _<_};
+ghost use lib.ListN.{length, take, getD};
+ghost use Rattle.sheet.specs.Format.{mostLinks};
+ghost use Rattle.sheet.specs.Limits.{figureContexts};
+ghost use Rattle.filling.specs.Parts.{partRoom, places, Low};
+ghost use Rattle.filling.specs.Glued.{Own, joinedAt, joinedAll, portPairs, Glues};
+
+// Room for the classes of one part, which are counted from 1.
+pub(crate) const PART: usize = Sheet::LINK_ROOM;
+
+pub(crate) const PLACES: usize = (Sheet::FIGURE_CONTEXTS + 1) * PART;
+
+// Each place has a label of its own.
+fn own_labels() -> [u16; PLACES]
+    ensures { λ r. ⌜ Own r ⌝ }
+{
+    let mut labels = [0u16; PLACES];
+    let mut k = 0;
+    while k < PLACES {
+        labels[k] = k as u16;
+        k += 1;
+    }
+    labels
+}
+
+// The labels with those of the two places made one.
+fn merged(labels: [u16; PLACES], a: usize, b: usize) -> [u16; PLACES]
+    requires { ⌜ (a < places) × (b < places) ⌝ }
+    ensures { λ r. ⌜ r ≡ joinedAt labels (a, b) ⌝ }
+{
+    let from = labels[b];
+    let to = labels[a];
+    let mut more = labels;
+    let mut k = 0;
+    while k < PLACES {
+        if more[k] == from {
+            more[k] = to;
+        }
+        k += 1;
+    }
+    more
+}
+
+// Mark i of the filling that is part p is link i of its context.
+fn with_ports(
+    labels: [u16; PLACES],
+    p: usize,
+    links: [u16; Sheet::MOST_LINKS],
+    count: usize,
+    marked: [u16; Sheet::MARK_ROOM],
+) -> [u16; PLACES]
+    requires { ⌜ (p ≤ figureContexts) × (count ≤ mostLinks) ⌝ }
+    requires { ⌜ ((k : ℕ) → (getD links k 0 < partRoom) × (getD marked k 0 < partRoom)) ⌝ }
+    ensures { λ r. ⌜ r ≡ joinedAll labels (portPairs p (take count links) (take count marked)) ⌝ }
+{
+    let mut more = labels;
+    let mut k = 0;
+    while k < count {
+        let next = merged(more, links[k] as usize, p * PART + marked[k] as usize);
+        more = next;
+        k += 1;
+    }
+    more
+}
+
+// The labels when every context has its filling.
+pub(crate) fn glued(figure: Normal, list: &[u8]) -> [u16; PLACES]
+    requires { ⌜ Low figure ⌝ }
+    ensures { λ r. ⌜ Glues (now (list .entry)) figure r ⌝ }
+{
+    let mut labels = own_labels();
+    let mut i = 0;
+    while i < figure.context_count {
+        let context = figure.contexts[i];
+        let links = context.links;
+        let part = part_of(list, context.number);
+        let marked = part.marked;
+        let next = with_ports(labels, i + 1, links, context.count as usize, marked);
+        labels = next;
+        i += 1;
+    }
+    labels
+}

@@ -1,0 +1,122 @@
+-- What is read of a sheet atom that may be given to a context.
+use Prim.Native.Nat.{ℕ, zero, suc, _+_, _-_, _*_, _<_, _≤_}
+use mathlib.Core.Path.{_≡_, refl, ap, sym, _∙_, subst}
+use mathlib.Core.List.{List, [], _∷_, _++_, map, append-nil, append-assoc, List·Memᴰ·not-nil, List·Memᴰ·append-cases}
+use mathlib.Core.Bool.{Bool, true, false}
+use mathlib.Core.Logic.{_⊎_, inl, inr}
+use native.Mathlib.Omega.{arith}
+use borrow.Author.Tests.{eq-eqb, ne-eqb}
+use lib.Dec.{eqb}
+use lib.ListN.{length, getD, take, length-append, length-map, length-take}
+use lib.Seq.{length-take-le}
+use Rattle.hyperlmntal.specs.Link.{_∈_}
+use Rattle.sheet.specs.Pick.{pick}
+use Rattle.sheet.specs.Format.{mostLinks, fieldCount}
+use Rattle.sheet.specs.Packed.{padded}
+use Rattle.sheet.specs.RowText.{rowBytes}
+use Rattle.sheet.specs.declared.normal.Normal as form
+use Rattle.sheet.proofs.Padding.{take-padded, getD-padding}
+use Rattle.placing.specs.Net.{NetCell, cellLinks}
+use Rattle.network.specs.NetIn.{atomIn, atomAt, Fit}
+use Rattle.network.proofs.NetIn.{used-range}
+use Rattle.listing.specs.Numbers.{linkRoom}
+use Rattle.listing.specs.Writing.{givenAt, givenBelow, symbolsBytes}
+
+pub cell-links-append : (a b : List NetCell) → cellLinks (a ++ b) ≡ cellLinks a ++ cellLinks b
+cell-links-append [] b = refl
+cell-links-append (c ∷ a) b = rw (cell-links-append a b) (sym (append-assoc (c .1) (cellLinks a) (cellLinks b)))
+
+module _ (sheet : form.Normal) (given : List ℕ) (k i : ℕ) where
+  pub given-one : getD given i 0 ≡ k → givenAt sheet given k i ≡ atomIn (atomAt sheet i) ∷ []
+  given-one e = rw (eq-eqb (getD given i 0) k e)
+
+  pub given-none : (getD given i 0 ≡ k → ⊥) → givenAt sheet given k i ≡ []
+  given-none e = rw (ne-eqb (getD given i 0) k e)
+
+  pub one-links : getD given i 0 ≡ k → cellLinks (givenAt sheet given k i) ≡ take (atomAt sheet i .count) (atomAt sheet i .links)
+  one-links e = ap cellLinks (given-one e) ∙ append-nil (take (atomAt sheet i .count) (atomAt sheet i .links))
+
+-- More places, no fewer atoms.
+module _ (sheet : form.Normal) (given : List ℕ) (k : ℕ) where
+  later : (i d : ℕ) → length (givenBelow sheet given k i) ≤ length (givenBelow sheet given k (d + i))
+  unfolding givenBelow
+  later i zero = let e : 0 + i ≡ i = omega arith in rw e (omega arith)
+  later i (suc d) =
+      let e : suc d + i ≡ suc (d + i) = omega arith in
+      rw e (omega (arith, later i d, length-append (givenBelow sheet given k (d + i)) (givenAt sheet given k (d + i))))
+
+  pub below-grows : (i n : ℕ) → i ≤ n → length (givenBelow sheet given k i) ≤ length (givenBelow sheet given k n)
+  below-grows i n h = let e : n - i + i ≡ n = omega arith in subst (λ m. length (givenBelow sheet given k i) ≤ length (givenBelow sheet given k m)) e (later i (n - i))
+
+module _ (sheet : form.Normal) (fit : Fit sheet) (given : List ℕ) (k : ℕ) where
+  -- Few links, and each has a place in the table.
+  pub atom-low : (i : ℕ) → i < sheet .«atom_count» → (j : ℕ) → j < atomAt sheet i .count → getD (atomAt sheet i .links) j 0 < linkRoom
+  atom-low i h j q = let u = (fit .atoms i h) .numbered j q in omega (arith, u .1, fit .class-count)
+
+  few-links : (i : ℕ) → i < sheet .«atom_count» → (t : Bool) → length (cellLinks (pick t (atomIn (atomAt sheet i) ∷ []) [])) ≤ mostLinks
+  few-links i h true =
+      let u = fit .atoms i h in
+      let a = take (atomAt sheet i .count) (atomAt sheet i .links) in
+      omega (arith, ap length (append-nil a), length-take (atomAt sheet i .count) (atomAt sheet i .links), u .few)
+  few-links i h false = omega arith
+
+  pub given-few : (i : ℕ) → i < sheet .«atom_count» → length (cellLinks (givenAt sheet given k i)) ≤ mostLinks
+  given-few i h = few-links i h (eqb (getD given i 0) k)
+
+  pub below-few : (i : ℕ) → i ≤ sheet .«atom_count» → length (cellLinks (givenBelow sheet given k i)) ≤ mostLinks * i
+  unfolding givenBelow
+  below-few zero h = omega arith
+  below-few (suc i) h =
+      omega (
+        arith,
+        ap length (cell-links-append (givenBelow sheet given k i) (givenAt sheet given k i)),
+        length-append (cellLinks (givenBelow sheet given k i)) (cellLinks (givenAt sheet given k i)),
+        below-few i (omega arith),
+        given-few i (omega arith),
+      )
+
+  cell-low : (i : ℕ) → i < sheet .«atom_count» → (t : Bool) → (x : ℕ) → x ∈ cellLinks (pick t (atomIn (atomAt sheet i) ∷ []) []) → x < linkRoom
+  cell-low i h true x m =
+      let u = fit .atoms i h in
+      let r = used-range (sheet .«class_count») (atomAt sheet i .count) (atomAt sheet i .links) u x (subst (λ l. x ∈ l) (append-nil (take (atomAt sheet i .count) (atomAt sheet i .links))) m) in
+      omega (arith, r .1, fit .class-count)
+  cell-low i h false x m = absurd (List·Memᴰ·not-nil m)
+
+  pub below-low : (i : ℕ) → i ≤ sheet .«atom_count» → (x : ℕ) → x ∈ cellLinks (givenBelow sheet given k i) → x < linkRoom
+  unfolding givenBelow
+  below-low zero h x m = absurd (List·Memᴰ·not-nil m)
+  below-low (suc i) h x m = at (List·Memᴰ·append-cases (cellLinks (givenBelow sheet given k i)) (subst (λ l. x ∈ l) (cell-links-append (givenBelow sheet given k i) (givenAt sheet given k i)) m)) (below-low i (omega arith) x)
+    where
+      at : (x ∈ cellLinks (givenBelow sheet given k i)) ⊎ (x ∈ cellLinks (givenAt sheet given k i)) → (x ∈ cellLinks (givenBelow sheet given k i) → x < linkRoom) → x < linkRoom
+      at (inl p) f = f p
+      at (inr p) f = cell-low i (omega arith) (eqb (getD given i 0) k) x p
+
+-- The numbers of an S row.
+mapped-low : (f : ℕ → ℕ) (l : List ℕ) → ((x : ℕ) → f x ≤ 9999) → (k : ℕ) → getD (map f l) k 0 ≤ 9999
+mapped-low f [] h k = omega arith
+mapped-low f (x ∷ l) h zero = h x
+mapped-low f (x ∷ l) h (suc k) = mapped-low f l h k
+
+module _ (f : ℕ → ℕ) (a b : ℕ) (l nums : List ℕ) (e : nums ≡ padded fieldCount 0 (a ∷ b ∷ map f (take b l))) where
+  first-low : a ≤ 9999 → b ≤ 9999 → ((x : ℕ) → f x ≤ 9999) → (k : ℕ) → getD (a ∷ b ∷ map f (take b l)) k 0 ≤ 9999
+  first-low p q h zero = p
+  first-low p q h (suc zero) = q
+  first-low p q h (suc (suc k)) = mapped-low f (take b l) h k
+
+  pub row-low : a ≤ 9999 → b ≤ 9999 → ((x : ℕ) → f x ≤ 9999) → (k : ℕ) → getD nums k 0 ≤ 9999
+  row-low p q h k = rw (e, getD-padding fieldCount 0 (a ∷ b ∷ map f (take b l)) k) (first-low p q h k)
+
+  pub row-taken : b ≤ length l → take (b + 2) nums ≡ a ∷ b ∷ map f (take b l)
+  row-taken h =
+      let w : length (a ∷ b ∷ map f (take b l)) ≡ b + 2 = omega (arith, length-map (take b l) f, length-take-le b l h) in
+      rw (e, ← w) (take-padded fieldCount 0 (a ∷ b ∷ map f (take b l)))
+
+-- The S row of an atom that is given.
+pub one-symbol : (f : ℕ → ℕ) (sheet : form.Normal) (given : List ℕ) (k i : ℕ) → getD given i 0 ≡ k → atomAt sheet i .count ≤ length (atomAt sheet i .links)
+    → symbolsBytes f (givenAt sheet given k i) ≡ rowBytes 83 (atomAt sheet i .name ∷ atomAt sheet i .count ∷ map f (take (atomAt sheet i .count) (atomAt sheet i .links)))
+unfolding symbolsBytes
+one-symbol f sheet given k i e h =
+    let a = atomAt sheet i in
+    ap (symbolsBytes f) (given-one sheet given k i e)
+    ∙ append-nil (rowBytes 83 (a .name ∷ length (take (a .count) (a .links)) ∷ map f (take (a .count) (a .links))))
+    ∙ ap (λ n. rowBytes 83 (a .name ∷ n ∷ map f (take (a .count) (a .links)))) (length-take-le (a .count) (a .links) h)

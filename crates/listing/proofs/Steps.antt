@@ -1,0 +1,96 @@
+-- One turn of each loop.
+use Prim.Native.Nat.{ℕ, _+_, _*_, _<_, _≤_}
+use mathlib.Core.Path.{_≡_, ap, sym, _∙_}
+use mathlib.Core.List.{List, [], _∷_, _++_, map, map-append}
+use native.Mathlib.Numerals.{add-one}
+use native.Mathlib.Omega.{arith}
+use borrow.Author.Tests.{lt-ltb, le-ltb}
+use lib.Dec.{ltb}
+use lib.ListN.{length, getD, take, set, length-map, length-append}
+use lib.Seq.{take-suc, length-take-le}
+use Rattle.sheet.specs.Pick.{pick}
+use Rattle.sheet.specs.Format.{rowWidth}
+use Rattle.sheet.specs.Packed.{padded}
+use Rattle.sheet.specs.declared.normal.Normal as form
+use Rattle.sheet.proofs.Padding.{set-padded}
+use Rattle.sheet.proofs.RowBytes.{over, over-more}
+use Rattle.placing.specs.Net.{NetCell, cellLinks}
+use Rattle.listing.specs.Numbers.{withLink, withLinks}
+use Rattle.listing.specs.Writing.{givenAt, givenBelow, symbolsBytes, portBytes, portsBytes, fillingBytes, listBytes, below}
+use Rattle.listing.specs.declared.numbering.Numbering.{Numbering}
+use Rattle.listing.proofs.Appearing.{with-links-append, with-links-snoc}
+use Rattle.listing.proofs.Atoms.{cell-links-append}
+use Rattle.listing.proofs.Texts.{symbols-append, symbols-length, ports-snoc, ports-length, list-snoc}
+use Rattle.listing.proofs.Ranks.{below-snoc}
+
+take-next : {A : Type 0} (l : List A) (k : ℕ) (d : A) → k < length l → take (k + 1) l ≡ take k l ++ (getD l k d ∷ [])
+take-next l k d h = rw (add-one k) (take-suc l k d h)
+
+-- One link numbered more.
+pub links-next : (from n : Numbering) (l : List ℕ) (k : ℕ) → k < length l → n ≡ withLinks from (take k l) → withLink n (getD l k 0) ≡ withLinks from (take (k + 1) l)
+links-next from n l k h e = ap (λ m. withLink m (getD l k 0)) e ∙ sym (with-links-snoc from (take k l) (getD l k 0)) ∙ ap (withLinks from) (sym (take-next l k 0 h))
+
+-- One sheet atom more.
+module _ (sheet : form.Normal) (given : List ℕ) (k i : ℕ) where
+  below-next : givenBelow sheet given k (i + 1) ≡ givenBelow sheet given k i ++ givenAt sheet given k i
+  unfolding givenBelow
+  below-next = rw (add-one i)
+
+  pub atoms-next : (from n : Numbering) → n ≡ withLinks from (cellLinks (givenBelow sheet given k i))
+      → withLinks n (cellLinks (givenAt sheet given k i)) ≡ withLinks from (cellLinks (givenBelow sheet given k (i + 1)))
+  atoms-next from n e =
+      ap (λ m. withLinks m (cellLinks (givenAt sheet given k i))) e
+      ∙ sym (with-links-append from (cellLinks (givenBelow sheet given k i)) (cellLinks (givenAt sheet given k i)))
+      ∙ ap (withLinks from) (sym (cell-links-append (givenBelow sheet given k i) (givenAt sheet given k i)) ∙ ap cellLinks (sym below-next))
+
+  pub below-length : length (givenBelow sheet given k (i + 1)) ≡ length (givenBelow sheet given k i) + length (givenAt sheet given k i)
+  below-length = ap length below-next ∙ length-append (givenBelow sheet given k i) (givenAt sheet given k i)
+
+  -- its row is written: `new` is what stands there then
+  pub symbols-put : (f : ℕ → ℕ) (l new : List ℕ) (at : ℕ) → at + length (givenBelow sheet given k i) * rowWidth ≤ length l
+      → new ≡ over (over l at (symbolsBytes f (givenBelow sheet given k i)) (length (givenBelow sheet given k i) * rowWidth)) (at + length (givenBelow sheet given k i) * rowWidth)
+      (symbolsBytes f (givenAt sheet given k i)) (length (givenAt sheet given k i) * rowWidth)
+      → new ≡ over l at (symbolsBytes f (givenBelow sheet given k (i + 1))) (length (givenBelow sheet given k (i + 1)) * rowWidth)
+  symbols-put f l new at room e =
+      let a = givenBelow sheet given k i in
+      let b = givenAt sheet given k i in
+      let z : length (givenBelow sheet given k (i + 1)) * rowWidth ≡ length a * rowWidth + length b * rowWidth = omega (arith, below-length) in
+      let m : symbolsBytes f (givenBelow sheet given k (i + 1)) ≡ symbolsBytes f a ++ symbolsBytes f b = ap (symbolsBytes f) below-next ∙ symbols-append f a b in
+      e ∙ over-more l at (symbolsBytes f a) (length a * rowWidth) (symbols-length f a) room (symbolsBytes f b) (length b * rowWidth) ∙ rw (z, m)
+
+-- One port more.
+pub ports-put : (f : ℕ → ℕ) (l new : List ℕ) (at : ℕ) (ports : List ℕ) (k : ℕ) → k < length ports → at + (k + 1) * rowWidth ≤ length l
+    → new ≡ over (over l at (portsBytes f 1 (take k ports)) (k * rowWidth)) (at + k * rowWidth) (portBytes f (k + 1) (getD ports k 0)) rowWidth
+    → new ≡ over l at (portsBytes f 1 (take (k + 1) ports)) ((k + 1) * rowWidth)
+ports-put f l new at ports k h room e =
+    let w : length (take k ports) ≡ k = length-take-le k ports (omega arith) in
+    let z : (k + 1) * rowWidth ≡ k * rowWidth + rowWidth = omega arith in
+    let n : length (portsBytes f 1 (take k ports)) ≡ k * rowWidth = ports-length f 1 (take k ports) ∙ rw w in
+    let q : 1 + length (take k ports) ≡ k + 1 = omega arith in
+    let m : portsBytes f 1 (take (k + 1) ports) ≡ portsBytes f 1 (take k ports) ++ portBytes f (k + 1) (getD ports k 0)
+    = ap (portsBytes f 1) (take-next ports k 0 h) ∙ ports-snoc f 1 (take k ports) (getD ports k 0) ∙ rw q in
+    e ∙ over-more l at (portsBytes f 1 (take k ports)) (k * rowWidth) n (omega arith) (portBytes f (k + 1) (getD ports k 0)) rowWidth ∙ rw (z, m)
+
+-- One number more in a row.
+pub numbers-next : (n : ℕ) (f : ℕ → ℕ) (a b : ℕ) (l r : List ℕ) (k : ℕ) → r ≡ padded n 0 (a ∷ b ∷ map f (take k l)) → k < length l → k + 2 < n
+    → set r (k + 2) (f (getD l k 0)) ≡ padded n 0 (a ∷ b ∷ map f (take (k + 1) l))
+numbers-next n f a b l r k e h room =
+    let w : length (map f (take k l)) ≡ k = length-map (take k l) f ∙ length-take-le k l (omega arith) in
+    let m : map f (take (k + 1) l) ≡ map f (take k l) ++ (f (getD l k 0) ∷ []) = ap (map f) (take-next l k 0 h) ∙ map-append f (take k l) (getD l k 0 ∷ []) in
+    rw (e, m) (set-padded n 0 (a ∷ b ∷ map f (take k l)) (f (getD l k 0)) (k + 2) (omega arith) (omega arith))
+
+-- One context more.
+module _ (number : ℕ) (l : List NetCell) (j rank : ℕ) (h : j < length l) (e : rank ≡ below number (take j l)) where
+  snoc : below number (take (j + 1) l) ≡ below number (take j l) + pick (ltb (getD l j (0, []) .0) number) 1 0
+  snoc = ap (below number) (take-next l j (0, []) h) ∙ below-snoc number (take j l) (getD l j (0, []))
+
+  pub rank-more : getD l j (0, []) .0 < number → rank + 1 ≡ below number (take (j + 1) l)
+  rank-more p = let q = rw (lt-ltb _ _ p) at snoc in omega arith
+
+  pub rank-same : number ≤ getD l j (0, []) .0 → rank ≡ below number (take (j + 1) l)
+  rank-same p = let q = rw (le-ltb _ _ p) at snoc in omega arith
+
+-- One filling more.
+module _ (sheet : form.Normal) (links given : List ℕ) (l : List NetCell) (i : ℕ) (h : i < length l) where
+  pub list-next : listBytes sheet links given (take (i + 1) l) ≡ listBytes sheet links given (take i l) ++ fillingBytes sheet links given (getD l i (0, []))
+  list-next = ap (listBytes sheet links given) (take-next l i (0, []) h) ∙ list-snoc sheet links given (take i l) (getD l i (0, []))

@@ -1,0 +1,88 @@
+-- Document 01, 'A placing' and 'Rows': the bytes of a list of fillings, as they are written from arrays.
+use Prim.Native.Nat.{ℕ, zero, suc, _+_, _-_, _<_, _≤_}
+use mathlib.Core.List.{List, [], _∷_, _++_, map}
+use lib.Dec.{eqb, ltb}
+use lib.ListN.{length, take, getD}
+use Rattle.sheet.specs.Pick.{pick}
+use Rattle.sheet.specs.Held.{indexOf}
+use Rattle.sheet.specs.Normal.{distinct}
+use Rattle.sheet.specs.RowText.{rowBytes}
+use Rattle.sheet.specs.declared.normal.Normal as form
+use Rattle.placing.specs.Net.{NetCell, cellLinks}
+use Rattle.placing.specs.Placing.{Placing}
+use Rattle.placing.specs.Fillings.{normalFillingsOf}
+use Rattle.placing.specs.ListText.{listText}
+use Rattle.network.specs.NetIn.{netIn, atomIn, atomAt, contextAt}
+
+-- a name has three digits at most and the number of a context four, so that they fit the columns of a row
+pub record Columns (sheet figure : form.Normal) : Type 0 where
+  pub names : (i : ℕ) → i < sheet .«atom_count» → atomAt sheet i .name ≤ 999
+  pub numbers : (i : ℕ) → i < figure .«context_count» → contextAt figure i .number ≤ 9999
+
+-- the placing whose links and contexts stand in arrays; where atoms go plays no part in its fillings
+abbrev pub placingIn : form.Normal → form.Normal → List ℕ → List ℕ → List ℕ → Placing
+placingIn sheet figure atoms links given = record { atomsTo = atoms; linksTo = take (figure .«class_count») links; given = take (sheet .«atom_count») given }
+
+-- the text of its list of fillings
+abbrev pub fillingsText : form.Normal → form.Normal → List ℕ → List ℕ → List ℕ → List ℕ
+fillingsText sheet figure atoms links given = listText (normalFillingsOf (netIn sheet) (placingIn sheet figure atoms links given) (netIn figure))
+
+-- S rows of atoms, whose links are numbered by f
+abbrev pub symbolBytes : (ℕ → ℕ) → NetCell → List ℕ
+symbolBytes f c = rowBytes 83 (c .0 ∷ length (c .1) ∷ map f (c .1))
+
+unfoldable pub symbolsBytes : (ℕ → ℕ) → List NetCell → List ℕ
+symbolsBytes f [] = []
+symbolsBytes f (c ∷ l) = symbolBytes f c ++ symbolsBytes f l
+
+-- E rows of the links where ports stand, from port i on
+abbrev pub portBytes : (ℕ → ℕ) → ℕ → ℕ → List ℕ
+portBytes f i x = rowBytes 69 (f x ∷ i ∷ [])
+
+unfoldable pub portsBytes : (ℕ → ℕ) → ℕ → List ℕ → List ℕ
+portsBytes f i [] = []
+portsBytes f i (x ∷ l) = portBytes f i x ++ portsBytes f (suc i) l
+
+-- sheet atom i, from 0, where it is given to context k
+abbrev pub givenAt : form.Normal → List ℕ → ℕ → ℕ → List NetCell
+givenAt sheet given k i = pick (eqb (getD given i 0) k) (atomIn (atomAt sheet i) ∷ []) []
+
+-- those below a place
+unfoldable pub givenBelow : form.Normal → List ℕ → ℕ → ℕ → List NetCell
+givenBelow sheet given k zero = []
+givenBelow sheet given k (suc i) = givenBelow sheet given k i ++ givenAt sheet given k i
+
+abbrev pub givenCells : form.Normal → List ℕ → ℕ → List NetCell
+givenCells sheet given k = givenBelow sheet given k (sheet .«atom_count»)
+
+-- where the port of figure link x stands, on a sheet with n links
+abbrev pub standsAt : ℕ → List ℕ → ℕ → ℕ
+standsAt n linksTo x = pick (ltb n (getD linksTo (x - 1) 0)) (n + x) (getD linksTo (x - 1) 0)
+
+abbrev pub portLinks : form.Normal → List ℕ → List ℕ → List ℕ
+portLinks sheet linksTo l = map (standsAt (sheet .«class_count») linksTo) l
+
+-- the links of a filling with these atoms and ports, in the order in which they appear
+abbrev pub appearing : List NetCell → List ℕ → List ℕ
+appearing cells ports = cellLinks cells ++ ports
+
+-- 'Classes are numbered from 1 by first appearance'
+abbrev pub numberAmong : List ℕ → ℕ → ℕ
+numberAmong l x = suc (indexOf x (distinct l))
+
+-- the rows of a filling: H, then S, then E
+abbrev pub rowsBytes : (ℕ → ℕ) → ℕ → List NetCell → List ℕ → List ℕ
+rowsBytes f k cells ports = rowBytes 72 (k ∷ length ports ∷ []) ++ (symbolsBytes f cells ++ portsBytes f 1 ports)
+
+unfoldable pub fillingBytes : form.Normal → List ℕ → List ℕ → NetCell → List ℕ
+fillingBytes sheet linksTo given c =
+    rowsBytes (numberAmong (appearing (givenCells sheet given (c .0)) (portLinks sheet linksTo (c .1)))) (c .0) (givenCells sheet given (c .0)) (portLinks sheet linksTo (c .1))
+
+unfoldable pub listBytes : form.Normal → List ℕ → List ℕ → List NetCell → List ℕ
+listBytes sheet linksTo given [] = []
+listBytes sheet linksTo given (c ∷ l) = fillingBytes sheet linksTo given c ++ listBytes sheet linksTo given l
+
+-- how many contexts have a smaller number
+unfoldable pub below : ℕ → List NetCell → ℕ
+below n [] = 0
+below n (c ∷ l) = pick (ltb (c .0) n) (suc (below n l)) (below n l)

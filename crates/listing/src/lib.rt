@@ -1,0 +1,79 @@
+// The list of the fillings of a placing, written as text.
+mod numbering;
+mod order;
+mod ports;
+mod rows;
+
+use crate::numbering::Numbering;
+use crate::order::context_ranked;
+use crate::ports::ports_of;
+use crate::rows::put_pair;
+use crate::rows::put_ports;
+use crate::rows::put_symbols;
+use sheet::Context;
+use sheet::Sheet;
+use sheet::normal::Normal;
+ghost use mathlib.Core.Path.{_≡_};
+ghost use mathlib.Core.List.{List, _++_};
+ghost use Prim.Native.Nat.{ℕ, _+_, _<_, _≤_};
+ghost use lib.ListN.{length, take, drop, getD};
+ghost use Rattle.sheet.specs.Limits.{sheetAtoms, sheetLinks};
+ghost use Rattle.sheet.specs.NormalText.{slipLength};
+ghost use Rattle.placing.specs.Net.{Apart};
+ghost use Rattle.network.specs.NetIn.{netIn, contextIn, atomAt, Used, Fit};
+ghost use Rattle.network.specs.Ready.{Ready, LinksIn};
+ghost use Rattle.listing.specs.Numbers.{linkRoom};
+ghost use Rattle.listing.specs.Writing.{Columns, fillingsText, standsAt, fillingBytes};
+
+// The filling of a context, from byte `at` on; the byte after it.
+fn put_filling(
+    sheet: Normal,
+    context: Context,
+    links_to: [u16; Sheet::LINKS],
+    given: [u16; Sheet::ATOMS],
+    out: &mut [u8],
+    at: usize,
+) -> usize
+    requires { ⌜ Fit sheet × (length given ≡ sheetAtoms) × ((i : ℕ) → i < sheet .«atom_count» → atomAt sheet i .name ≤ 999) × Used sheetLinks (context .count) (context .links) × (context .number ≤ 9999) ⌝ }
+    requires { ⌜ ((k : ℕ) → k < context .count → standsAt (sheet .«class_count») «links_to» (getD (context .links) k 0) < linkRoom) ⌝ }
+    requires { ⌜ at + length (fillingBytes sheet «links_to» given (contextIn context)) ≤ length (now out) ⌝ }
+    ensures { λ r. ⌜ r ≡ at + length (fillingBytes sheet «links_to» given (contextIn context)) ⌝ }
+    ensures { λ _. ⌜ now (out .exit) ≡ take at (now (out .entry)) ++ fillingBytes sheet «links_to» given (contextIn context) ++ drop (at + length (fillingBytes sheet «links_to» given (contextIn context))) (now (out .entry)) ⌝ }
+{
+    let number = context.number;
+    let links = context.links;
+    let count = context.count as usize;
+    let ports = ports_of(sheet.class_count, links_to, links, count);
+    let numbering = Numbering::none()
+        .with_given(sheet, given, number)
+        .with_links(ports, count);
+    let numbers = numbering.numbers;
+    put_pair(out, at, b'H', number, context.count);
+    let end = put_symbols(numbers, sheet, given, number, out, at + Sheet::ROW);
+    put_ports(numbers, ports, count, out, end)
+}
+
+// The fillings of the figure's contexts by a placing, each as normal text of its own after its head, in
+// ascending order of the contexts' numbers; the number of bytes.
+pub fn write_fillings(
+    sheet: Normal,
+    figure: Normal,
+    links_to: [u16; Sheet::LINKS],
+    given: [u16; Sheet::ATOMS],
+    out: &mut [u8],
+) -> usize
+    requires { ⌜ Ready sheet figure × LinksIn sheet figure «links_to» × (length given ≡ sheetAtoms) × Apart (netIn figure .contexts) × Columns sheet figure ⌝ }
+    requires { ⌜ slipLength ≤ length (now out) ⌝ }
+    ensures { λ r. ⌜ ((atoms : List ℕ) → r ≡ length (fillingsText sheet figure atoms «links_to» given)) ⌝ }
+    ensures { λ _. ⌜ ((atoms : List ℕ) → now (out .exit) ≡ fillingsText sheet figure atoms «links_to» given ++ drop (length (fillingsText sheet figure atoms «links_to» given)) (now (out .entry))) ⌝ }
+{
+    let mut at = 0;
+    let mut i = 0;
+    while i < figure.context_count {
+        let j = context_ranked(figure, i);
+        let context = figure.contexts[j];
+        at = put_filling(sheet, context, links_to, given, out, at);
+        i += 1;
+    }
+    at
+}

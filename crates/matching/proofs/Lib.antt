@@ -1,0 +1,7 @@
+pub mod SearchLaws
+pub mod SearchTurns
+pub mod SearchWhole
+pub mod Comparing
+pub mod Theorems
+pub mod WorkedCompare
+pub mod ChosenLaws

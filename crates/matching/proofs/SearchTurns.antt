@@ -1,0 +1,167 @@
+-- One turn of the search's loop, on the arrays that the code holds.
+use Prim.Native.Nat.{ℕ, zero, suc, _+_, _-_, _*_, _≤_, _<_}
+use mathlib.Core.Path.{_≡_, refl, ap, ap₂, sym, _∙_, subst, subst₂}
+use mathlib.Core.Logic.{_≢_, inl, inr}
+use mathlib.Core.List.{List, [], _∷_, _++_, append-assoc}
+use mathlib.Core.Bool.{true, false}
+use native.Mathlib.Decide.{ℕ-discrete, decLt}
+use native.Mathlib.Numerals.{add-one}
+use native.Mathlib.Omega.{arith}
+use lib.ListN.{length, getD, take, set, replicate, length-set}
+use lib.Seq.{length-take-le, take-suc-set, getD-set-same, getD-set-other, getD-append-seam}
+use Rattle.sheet.specs.Limits.{sheetAtoms}
+use Rattle.sheet.specs.declared.normal.Normal as form
+use Rattle.placing.specs.Net.{Net, Range}
+use Rattle.placing.specs.Placing.{atomTo, numberAt}
+use Rattle.placing.proofs.Tests.{says-eq}
+use Rattle.placing.proofs.FirstLaws.{both-ways, Tried}
+use Rattle.network.specs.NetIn.{netIn}
+use Rattle.network.specs.Begun.{Begun, testAfter, leastAfter}
+use Rattle.network.proofs.NetIn.{atoms-length}
+use Rattle.network.specs.Ready.{Ready, AtomsIn}
+use Rattle.matching.specs.Search.{mayIn, KeepsIn, searchFrom, foundList, foundIn, Skipped}
+use Rattle.narrowing.specs.Sets.{Keeps}
+use Rattle.narrowing.specs.Tables.{mayAtom, mayLink}
+use Rattle.narrowing.specs.declared.Sets.{Sets}
+use Rattle.symmetry.specs.Checks.{Follows}
+use Rattle.matching.specs.declared.search.Found.{Found}
+use Rattle.matching.proofs.SearchLaws.{nothing-found, none-found, some-found, none-begun, begun-none, restBounds, tried-start, tried-next, tried-end, tried-found}
+
+-- What the loop keeps: sheet atoms 1 to t were tried in vain, and those with a cost failed.
+pub record Tries (sheet figure : form.Normal) (pre failed : List ℕ) (work t : ℕ) : Type 0 where
+  pub within : t ≤ sheet .«atom_count»
+  pub tried : Tried (testAfter (netIn sheet) (netIn figure) pre) (suc t) (restBounds (netIn sheet) (netIn figure) pre)
+  pub failures : (u : ℕ) → getD failed u 0 ≢ 0 → ¬ Begun (netIn sheet) (netIn figure) (pre ++ (suc u ∷ []))
+  pub worked : 1 ≤ work
+
+pub tries-same : {sheet figure : form.Normal} {pre failed failed′ : List ℕ} {work work′ t : ℕ} → failed′ ≡ failed → work′ ≡ work
+    → Tries sheet figure pre failed work t → Tries sheet figure pre failed′ work′ t
+tries-same {sheet} {figure} {pre} {failed} {failed′} {work} {work′} {t} e f u = subst (λ (w : ℕ). Tries sheet figure pre failed′ w t) (sym f) (subst (λ (l : List ℕ). Tries sheet figure pre l work t) (sym e) u)
+
+no-cost : (n u : ℕ) → _≡_ {A = ℕ} (getD (replicate n 0) u 0) 0
+no-cost zero u = refl
+no-cost (suc n) zero = refl
+no-cost (suc n) (suc u) = no-cost n u
+
+pub some-left : (left : ℕ) → left ≢ 0 → 0 < left
+some-left left h = go (decLt 0 left)
+  where
+    go : Dec (0 < left) → 0 < left
+    go (yes k) = k
+    go (no k) = absurd (h (omega arith))
+
+module _ (sheet figure : form.Normal) (ready : Ready sheet figure) (chosen : List ℕ) (left : ℕ) (few : left ≤ figure .«atom_count») (atoms : AtomsIn sheet (figure .«atom_count» - left) chosen) where
+  abbrev S : Net
+  S = netIn sheet
+
+  abbrev F : Net
+  F = netIn figure
+
+  abbrev pre : List ℕ
+  pre = take (figure .«atom_count» - left) chosen
+
+  pub pre-length : length pre ≡ figure .«atom_count» - left
+  pre-length = length-take-le (figure .«atom_count» - left) chosen (omega (arith, atoms .room, ready .figure-fit .atom-count))
+
+  figure-atoms : length (F .atoms) ≡ figure .«atom_count»
+  figure-atoms = atoms-length figure (ready .figure-fit)
+
+  sheet-atoms : length (S .atoms) ≡ sheet .«atom_count»
+  sheet-atoms = atoms-length sheet (ready .sheet-fit)
+
+  pub nothing-begun : ¬ Begun S F pre → (r : Found) → r .ok ≡ false → foundIn sheet figure r ≡ searchFrom S F pre
+  nothing-begun n r h = nothing-found sheet figure r h ∙ sym (begun-none S F pre (omega (arith, pre-length, figure-atoms)) n)
+
+  module _ (unfinished : left ≢ 0) where
+    above : 0 < left
+    above = some-left left unfinished
+
+    small : length pre < length (F .atoms)
+    small = omega (arith, above, pre-length, figure-atoms)
+
+    pub tries-start : (cost : List ℕ) → cost ≡ replicate sheetAtoms 0 → Tries sheet figure pre cost 1 0
+    tries-start cost e = record {
+      within = omega arith;
+      tried = tried-start S F pre small;
+      failures = λ u h b. h (ap (λ (l : List ℕ). getD l u 0) e ∙ no-cost sheetAtoms u);
+      worked = omega arith;
+    }
+
+    pub tries-end : (failed : List ℕ) (work t : ℕ) → Tries sheet figure pre failed work t → sheet .«atom_count» ≤ t → (r : Found) → r .ok ≡ false → foundIn sheet figure r ≡ searchFrom S F pre
+    tries-end failed work t u h r k =
+        let e : t ≡ length (S .atoms) = omega (arith, u .within, sheet-atoms) in
+        nothing-found sheet figure r k ∙ sym (tried-end S F pre small (subst (λ (i : ℕ). Tried (testAfter S F pre) (suc i) (restBounds S F pre)) e (u .tried)))
+
+    -- the sets keep a sheet atom with which something begins
+    kept : (sets : Sets) → KeepsIn sheet figure pre sets → (t : ℕ) → Begun S F (pre ++ (suc t ∷ [])) → mayIn (sets .atoms) (figure .«atom_count» - left) t ≡ true
+    unfolding mayIn
+    kept sets keeps t b = says-eq (getD (sets .atoms) ((figure .«atom_count» - left) * sheetAtoms + t) 0) 1 .complete (ap (λ (i : ℕ). getD (sets .atoms) i 0) (sym place) ∙ marked)
+      where
+        split : b .0 .atomsTo ≡ pre ++ (suc t ∷ b .2 .0)
+        split = b .2 .1 ∙ append-assoc pre (suc t ∷ []) (b .2 .0)
+
+        marked : mayAtom (sets .atoms) (figure .«atom_count» - left + 1) (atomTo (b .0) (figure .«atom_count» - left + 1))
+        marked = keeps (b .0) (b .1) ((suc t ∷ b .2 .0), split) .atoms (figure .«atom_count» - left + 1) (omega arith, omega (arith, above, figure-atoms))
+
+        at : atomTo (b .0) (figure .«atom_count» - left + 1) ≡ suc t
+        at = ap (λ (l : List ℕ). numberAt l (figure .«atom_count» - left + 1)) split ∙ ap (λ (k : ℕ). getD (pre ++ (suc t ∷ b .2 .0)) k 0) (let q : figure .«atom_count» - left + 1 - 1 ≡ length pre = omega (arith, pre-length) in q) ∙ getD-append-seam pre (suc t) (b .2 .0) 0
+
+        place : (figure .«atom_count» - left + 1 - 1) * sheetAtoms + (atomTo (b .0) (figure .«atom_count» - left + 1) - 1) ≡ (figure .«atom_count» - left) * sheetAtoms + t
+        place = ap₂ (λ (i j : ℕ). i * sheetAtoms + j) (let q : figure .«atom_count» - left + 1 - 1 ≡ figure .«atom_count» - left = omega arith in q) (ap (λ (i : ℕ). i - 1) at ∙ (let q : suc t - 1 ≡ t = omega arith in q))
+
+    module _ (failed : List ℕ) (work t : ℕ) (u : Tries sheet figure pre failed work t) (h : t < sheet .«atom_count») where
+      more : ¬ Begun S F (pre ++ (suc t ∷ [])) → Tried (testAfter S F pre) (suc (t + 1)) (restBounds S F pre)
+      more n = subst (λ (i : ℕ). Tried (testAfter S F pre) (suc i) (restBounds S F pre)) (sym (add-one t)) (tried-next S F pre small (suc t) (u .tried) n)
+
+      pub tries-skip : (sets : Sets) → KeepsIn sheet figure pre sets → Skipped sheet (sets .atoms) pre failed (figure .«atom_count» - left) t → Tries sheet figure pre failed work (t + 1)
+      tries-skip sets keeps s = record { within = omega arith; tried = more (go s); failures = u .failures; worked = u .worked }
+        where
+          go : Skipped sheet (sets .atoms) pre failed (figure .«atom_count» - left) t → ¬ Begun S F (pre ++ (suc t ∷ []))
+          go (inl e) b = both-ways (kept sets keeps t b) e
+          go (inr e) b = u .failures (e .by) (e .tried) (e .alike (ready .sheet-normal) F (ready .figure-normal) b)
+
+      -- the next choice, as the code writes it
+      abbrev next : List ℕ
+      next = set chosen (figure .«atom_count» - left) (t + 1)
+
+      pub next-begin : take (figure .«atom_count» - (left - 1)) next ≡ pre ++ (suc t ∷ [])
+      next-begin =
+          let k : figure .«atom_count» - (left - 1) ≡ suc (figure .«atom_count» - left) = omega (arith, above) in
+          ap (λ (i : ℕ). take i next) k ∙ take-suc-set chosen (figure .«atom_count» - left) (t + 1) (omega (arith, above, atoms .room, ready .figure-fit .atom-count)) ∙ ap (λ (i : ℕ). pre ++ (i ∷ [])) (add-one t)
+
+      pub next-atoms : AtomsIn sheet (figure .«atom_count» - (left - 1)) next
+      next-atoms = record { room = length-set chosen _ _ ∙ atoms .room; within = λ i l. go i l (ℕ-discrete i (figure .«atom_count» - left)) }
+        where
+          go : (i : ℕ) → i < figure .«atom_count» - (left - 1) → Dec (i ≡ figure .«atom_count» - left) → Range (sheet .«atom_count») (getD next i 0)
+          go i l (yes e) = subst (Range (sheet .«atom_count»)) (sym (ap (λ (j : ℕ). getD next j 0) e ∙ getD-set-same chosen (figure .«atom_count» - left) (t + 1) 0 (omega (arith, above, atoms .room, ready .figure-fit .atom-count)))) (omega arith, omega arith)
+          go i l (no e) = subst (Range (sheet .«atom_count»)) (sym (getD-set-other chosen (figure .«atom_count» - left) i (t + 1) 0 e)) (atoms .within i (omega (arith, above, e)))
+
+      module _ (r : Found) (e : foundIn sheet figure r ≡ searchFrom S F (take (figure .«atom_count» - (left - 1)) next)) where
+        found-next : foundIn sheet figure r ≡ searchFrom S F (pre ++ (suc t ∷ []))
+        found-next = e ∙ ap (searchFrom S F) next-begin
+
+        pub tries-hit : r .ok ≡ true → foundIn sheet figure r ≡ searchFrom S F pre
+        tries-hit k =
+            let l = some-found (foundList sheet figure r) (r .ok) (pre ++ (suc t ∷ [])) (leastAfter S F (pre ++ (suc t ∷ []))) found-next k in
+            found-next ∙ tried-found S F pre small (suc t) (omega (arith, sheet-atoms)) (u .tried) (l .0) (l .1)
+
+        pub tries-miss : r .ok ≡ false → (cost spent : ℕ) → 1 ≤ spent → Tries sheet figure pre (set failed t cost) spent (t + 1)
+        tries-miss k cost spent w = record { within = omega arith; tried = more n; failures = λ v c. go v c (ℕ-discrete v t); worked = w }
+          where
+            n : ¬ Begun S F (pre ++ (suc t ∷ []))
+            n = none-begun S F (pre ++ (suc t ∷ [])) (none-found (foundList sheet figure r) (r .ok) (pre ++ (suc t ∷ [])) (leastAfter S F (pre ++ (suc t ∷ []))) found-next k)
+
+            go : (v : ℕ) → getD (set failed t cost) v 0 ≢ 0 → Dec (v ≡ t) → ¬ Begun S F (pre ++ (suc v ∷ []))
+            go v c (yes q) = subst (λ (i : ℕ). ¬ Begun S F (pre ++ (suc i ∷ []))) (sym q) n
+            go v c (no q) = u .failures v (λ z. c (getD-set-other failed t v cost 0 q ∙ z))
+
+-- What choosing promises, for the sheet and figure at hand.
+pub choice-kept : (sheet figure : form.Normal) → Ready sheet figure → (k t : ℕ) → k < figure .«atom_count» → (sets chose : Sets)
+    → ((S F : Net) (pre : List ℕ) → length (S .atoms) ≤ sheetAtoms → length pre ≡ k → k < length (F .atoms) → Keeps S F pre (mayAtom (sets .atoms)) (mayLink (sets .links)) → Keeps S F (pre ++ ((t + 1) ∷ [])) (mayAtom (chose .atoms)) (mayLink (chose .links)))
+    → (pre : List ℕ) → length pre ≡ k → KeepsIn sheet figure pre sets → KeepsIn sheet figure (pre ++ (suc t ∷ [])) chose
+choice-kept sheet figure ready k t h sets chose promise pre e keeps =
+    subst (λ (i : ℕ). KeepsIn sheet figure (pre ++ (i ∷ [])) chose) (add-one t)
+    (promise (netIn sheet) (netIn figure) pre (omega (arith, atoms-length sheet (ready .sheet-fit), ready .sheet-fit .atom-count)) e (omega (arith, atoms-length figure (ready .figure-fit))) keeps)
+
+pub follows-suc : (sheet : form.Normal) (pre : List ℕ) (t u : ℕ) → Follows (netIn sheet) pre (t + 1) (u + 1) → Follows (netIn sheet) pre (suc t) (suc u)
+follows-suc sheet pre t u f = subst₂ (Follows (netIn sheet) pre) (add-one t) (add-one u) f

@@ -1,0 +1,60 @@
+-- The search from the beginning gives the smallest good placing.
+use Prim.Native.Nat.{ℕ, _-_}
+use mathlib.Core.Path.{_≡_, refl, ap, sym, _∙_, subst}
+use mathlib.Core.List.{List, []}
+use mathlib.Core.Bool.{Bool, true, false}
+use mathlib.Core.Option.{Option, none, some}
+use native.Mathlib.Omega.{arith}
+use lib.ListN.{length, take}
+use lib.Seq.{length-take-le}
+use Rattle.sheet.specs.Pick.{pick}
+use Rattle.sheet.specs.Limits.{sheetAtoms, sheetLinks}
+use Rattle.sheet.specs.declared.normal.Normal as form
+use Rattle.placing.specs.Placing.{Placing}
+use Rattle.placing.specs.Smallest.{placingFrom, placingIn, smallest}
+use Rattle.placing.proofs.SmallestLaws.{placing-of-list}
+use Rattle.network.specs.NetIn.{netIn}
+use Rattle.network.specs.Begun.{leastAfter}
+use Rattle.network.proofs.NetIn.{atoms-length}
+use Rattle.network.specs.Ready.{Ready, AtomsIn}
+use Rattle.matching.specs.Search.{KeepsIn, behind, searchFrom, foundList, foundIn, placedIn}
+use Rattle.narrowing.specs.declared.Sets.{Sets}
+use Rattle.matching.specs.declared.search.Found.{Found}
+
+behind-nothing : (o : Option (List ℕ)) → behind [] o ≡ o
+behind-nothing none = refl
+behind-nothing (some l) = refl
+
+-- nothing is chosen yet
+none-chosen : (n : ℕ) (chosen : List ℕ) → take (n - n) chosen ≡ []
+none-chosen n chosen = ap (λ (k : ℕ). take k chosen) (let e : n - n ≡ 0 = omega arith in e)
+
+pub no-atoms : (sheet : form.Normal) (n : ℕ) (chosen : List ℕ) → length chosen ≡ sheetAtoms → AtomsIn sheet (n - n) chosen
+no-atoms sheet n chosen e = record { room = e; within = λ i h. absurd (omega arith) }
+
+pub keeps-start : (sheet figure : form.Normal) (n : ℕ) (chosen : List ℕ) (sets : Sets) → KeepsIn sheet figure [] sets → KeepsIn sheet figure (take (n - n) chosen) sets
+keeps-start sheet figure n chosen sets k = subst (λ (pre : List ℕ). KeepsIn sheet figure pre sets) (sym (none-chosen n chosen)) k
+
+module _ (sheet figure : form.Normal) (ready : Ready sheet figure) (r : Found) (atoms : length (r .«atoms_to») ≡ sheetAtoms) (links : length (r .«links_to») ≡ sheetLinks) where
+  abbrev parts : Placing
+  parts = record { atomsTo = take (figure .«atom_count») (r .«atoms_to»); linksTo = take (figure .«class_count») (r .«links_to»); given = take (sheet .«atom_count») (r .given) }
+
+  parts-list : placingFrom (netIn sheet) (netIn figure) (foundList sheet figure r) ≡ parts
+  parts-list =
+      placing-of-list (length (netIn figure .atoms)) (figure .«class_count») parts
+      (length-take-le (figure .«atom_count») (r .«atoms_to») (omega (arith, ready .figure-fit .atom-count)) ∙ sym (atoms-length figure (ready .figure-fit)))
+      (length-take-le (figure .«class_count») (r .«links_to») (omega (arith, ready .figure-fit .class-count)))
+
+  placed-found : placedIn sheet figure r ≡ placingIn (netIn sheet) (netIn figure) (foundIn sheet figure r)
+  placed-found = go (r .ok)
+    where
+      go : (ok : Bool) → pick ok (some parts) none ≡ placingIn (netIn sheet) (netIn figure) (pick ok (some (foundList sheet figure r)) none)
+      go true = ap some (sym parts-list)
+      go false = refl
+
+  pub placed-smallest : (chosen : List ℕ) → foundIn sheet figure r ≡ searchFrom (netIn sheet) (netIn figure) (take (figure .«atom_count» - figure .«atom_count») chosen)
+      → placedIn sheet figure r ≡ smallest (netIn sheet) (netIn figure)
+  unfolding smallest
+  placed-smallest chosen e =
+      placed-found
+      ∙ ap (placingIn (netIn sheet) (netIn figure)) (e ∙ ap (searchFrom (netIn sheet) (netIn figure)) (none-chosen (figure .«atom_count») chosen) ∙ behind-nothing (leastAfter (netIn sheet) (netIn figure) []))

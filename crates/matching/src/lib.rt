@@ -1,0 +1,3 @@
+// Finding a figure in a sheet.
+pub mod compare;
+pub mod search;

@@ -1,0 +1,19 @@
+-- Counting.
+pub mod Counting
+pub mod Sums
+-- What a good placing does at links.
+pub mod GoodLinks
+-- The sets.
+pub mod Narrowings
+pub mod Keeping
+-- The sets as arrays, and nets in arrays.
+pub mod Staying
+pub mod NetRows
+pub mod Choice
+pub mod Missing
+pub mod Obeying
+pub mod Passes
+pub mod Tallies
+pub mod Ports
+pub mod Marking
+pub mod Starting

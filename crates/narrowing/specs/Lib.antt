@@ -1,0 +1,4 @@
+pub mod Count
+pub mod Sets
+pub mod Tables
+pub mod Steps

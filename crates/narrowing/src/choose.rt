@@ -1,0 +1,51 @@
+// A choice of the search: a figure atom goes to a sheet atom.
+use crate::Sets;
+use sheet::Sheet;
+ghost use mathlib.Core.Path.{_≡_};
+ghost use mathlib.Core.List.{List, [], _∷_, _++_};
+ghost use Prim.Native.Nat.{ℕ, _+_, _<_, _≤_};
+ghost use lib.ListN.{length};
+ghost use Rattle.sheet.specs.Limits.{sheetAtoms};
+ghost use Rattle.placing.specs.Net.{Net};
+ghost use Rattle.narrowing.specs.Sets.{Keeps};
+ghost use Rattle.narrowing.specs.Tables.{mayAtom, mayLink, Stays};
+
+// Figure atom k to sheet atom t alone.
+fn only_to(k: usize, t: usize, atoms: &mut [u8; Sets::ATOM_PAIRS])
+    requires { ⌜ k < sheetAtoms ⌝ }
+    ensures { λ _. ⌜ Stays sheetAtoms (now (atoms .entry)) (now (atoms .exit)) (λ i u. i ≡ k → u ≡ t) ⌝ }
+{
+    let mut u = 0;
+    while u < Sheet::ATOMS {
+        if u != t {
+            atoms[k * Sheet::ATOMS + u] = 0;
+        }
+        u += 1;
+    }
+}
+
+// Sheet atom t for figure atom k alone.
+fn only_from(k: usize, t: usize, atoms: &mut [u8; Sets::ATOM_PAIRS])
+    requires { ⌜ t < sheetAtoms ⌝ }
+    ensures { λ _. ⌜ Stays sheetAtoms (now (atoms .entry)) (now (atoms .exit)) (λ i u. u ≡ t → i ≡ k) ⌝ }
+{
+    let mut i = 0;
+    while i < Sheet::ATOMS {
+        if i != k {
+            atoms[i * Sheet::ATOMS + t] = 0;
+        }
+        i += 1;
+    }
+}
+
+// Figure atom k, the next after those placed, goes to sheet atom t.
+pub fn choose(sets: Sets, k: usize, t: usize) -> Sets
+    requires { ⌜ (k < sheetAtoms) × (t < sheetAtoms) ⌝ }
+    ensures { λ r. ⌜ ((S F : Net) (pre : List ℕ) → length (S .atoms) ≤ sheetAtoms → length pre ≡ k → k < length (F .atoms) → Keeps S F pre (mayAtom (sets .atoms)) (mayLink (sets .links)) → Keeps S F (pre ++ ((t + 1) ∷ [])) (mayAtom (r .atoms)) (mayLink (r .links))) ⌝ }
+{
+    let mut atoms = sets.atoms;
+    let links = sets.links;
+    only_to(k, t, &mut atoms);
+    only_from(k, t, &mut atoms);
+    Sets { atoms, links }
+}

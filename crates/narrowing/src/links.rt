@@ -1,0 +1,107 @@
+// Sheet links that no sheet atom left for a figure atom has.
+use crate::Sets;
+use sheet::Atom;
+use sheet::Sheet;
+use sheet::normal::Normal;
+ghost use mathlib.Core.Path.{_≡_};
+ghost use Prim.Native.Nat.{ℕ, _-_, _<_};
+ghost use Rattle.sheet.specs.Format.{mostLinks};
+ghost use Rattle.sheet.specs.Limits.{sheetAtoms, sheetLinks};
+ghost use Rattle.placing.specs.Net.{Range};
+ghost use Rattle.network.specs.NetIn.{Fit, Used};
+ghost use Rattle.narrowing.specs.Tables.{Cleared, Stays, StaysCleared};
+ghost use Rattle.narrowing.specs.Steps.{linkOf, Given, GivenRow};
+
+// 0 at each place and link of a sheet atom.
+fn clear_links(there: Atom, missing: &mut [u8; Sets::PLACES])
+    requires { ⌜ Used sheetLinks (there .count) (there .links) ⌝ }
+    ensures kept { λ _. ⌜ StaysCleared (now (missing .entry)) (now (missing .exit)) ⌝ }
+    ensures cleared { λ _. ⌜ ((k : ℕ) → k < there .count → Cleared sheetLinks (now (missing .exit)) k (linkOf there k - 1)) ⌝ }
+{
+    let count = there.count as usize;
+    let mut k = 0;
+    while k < count {
+        let y = there.links[k] as usize;
+        missing[k * Sheet::LINKS + (y - 1)] = 0;
+        k += 1;
+    }
+}
+
+// 0 at the places and links of the sheet atoms that figure atom i may go to, and 1 elsewhere.
+fn missing_links(sheet: Normal, i: usize, atoms: &[u8; Sets::ATOM_PAIRS]) -> [u8; Sets::PLACES]
+    requires { ⌜ Fit sheet × (i < sheetAtoms) ⌝ }
+    ensures { λ r. ⌜ ((k y : ℕ) → Given sheet (now (atoms .entry)) i k y → Cleared sheetLinks r k y) ⌝ }
+{
+    let mut missing = [1u8; Sets::PLACES];
+    let mut t = 0;
+    while t < sheet.atom_count {
+        if atoms[i * Sheet::ATOMS + t] == 1 {
+            let there = sheet.atoms[t];
+            clear_links(there, &mut missing);
+        }
+        t += 1;
+    }
+    missing
+}
+
+// What is missing at place k is taken out of the row of figure link x.
+fn drop_missing(
+    x: usize,
+    k: usize,
+    missing: &[u8; Sets::PLACES],
+    links: &mut [u8; Sets::LINK_PAIRS],
+)
+    requires { ⌜ Range sheetLinks x × (k < mostLinks) ⌝ }
+    ensures { λ _. ⌜ Stays sheetLinks (now (links .entry)) (now (links .exit)) (λ z y. z ≡ x - 1 → Cleared sheetLinks (now (missing .entry)) k y) ⌝ }
+{
+    let mut y = 0;
+    while y < Sheet::LINKS {
+        let at = (x - 1) * Sheet::LINKS + y;
+        let mut kept = 0;
+        let before = links[at];
+        if missing[k * Sheet::LINKS + y] == 0 {
+            kept = before;
+        }
+        links[at] = kept;
+        y += 1;
+    }
+}
+
+// The rows of the links of figure atom i.
+fn narrow_places(
+    sheet: Normal,
+    figure: Normal,
+    i: usize,
+    atoms: &[u8; Sets::ATOM_PAIRS],
+    links: &mut [u8; Sets::LINK_PAIRS],
+)
+    requires { ⌜ Fit sheet × Fit figure × (i < figure .«atom_count») ⌝ }
+    ensures { λ _. ⌜ Stays sheetLinks (now (links .entry)) (now (links .exit)) (GivenRow sheet figure (now (atoms .entry)) i) ⌝ }
+{
+    let here = figure.atoms[i];
+    let count = here.count as usize;
+    let missing = missing_links(sheet, i, atoms);
+    let mut k = 0;
+    while k < count {
+        let x = here.links[k] as usize;
+        drop_missing(x, k, &missing, links);
+        k += 1;
+    }
+}
+
+// The rows of the links of every figure atom.
+pub(crate) fn narrow_links(
+    sheet: Normal,
+    figure: Normal,
+    atoms: &[u8; Sets::ATOM_PAIRS],
+    links: &mut [u8; Sets::LINK_PAIRS],
+)
+    requires { ⌜ Fit sheet × Fit figure ⌝ }
+    ensures { λ _. ⌜ Stays sheetLinks (now (links .entry)) (now (links .exit)) (λ z y. (i : ℕ) → i < figure .«atom_count» → GivenRow sheet figure (now (atoms .entry)) i z y) ⌝ }
+{
+    let mut i = 0;
+    while i < figure.atom_count {
+        narrow_places(sheet, figure, i, atoms, links);
+        i += 1;
+    }
+}

@@ -1,0 +1,90 @@
+// Whether the unsettled links, those with a flag, can be placed so that nothing stands in the way.
+use faults::TOUCHES;
+use faults::fault::find;
+use sheet::Sheet;
+use sheet::normal::Normal;
+ghost use Prim.Native.Nat.{_<_};
+ghost use mathlib.Core.Path.{_≡_};
+ghost use lib.ListN.{getD};
+ghost use Rattle.sheet.specs.Limits.{sheetLinks};
+ghost use Rattle.settling.specs.Completes.{Tables, Completes, CompletesAt, FirstOfKind};
+
+// Link x is flagged, and no flagged one before it stands on the same contexts.
+fn first_of_kind(flags: [u8; Sheet::LINKS], kinds: [u16; Sheet::LINKS], x: usize) -> bool
+    requires { ⌜ x < sheetLinks ⌝ }
+    ensures { λ r. ⌜ FirstOfKind flags kinds x r ⌝ }
+{
+    if flags[x] != 1 {
+        return false;
+    }
+    let kind = kinds[x];
+    let mut z = 0;
+    while z < x {
+        if flags[z] == 1 && kinds[z] == kind {
+            return false;
+        }
+        z += 1;
+    }
+    true
+}
+
+// A fault can be mended only by an unsettled link at one of its links. One link of each kind is enough to try.
+pub(crate) fn completable(
+    sheet: Normal,
+    figure: Normal,
+    touches: &[u8; TOUCHES],
+    taken: [u8; Sheet::ATOMS],
+    kinds: [u16; Sheet::LINKS],
+    to: [u16; Sheet::LINKS],
+    flags: [u8; Sheet::LINKS],
+) -> bool
+    requires { ⌜ Tables sheet figure (now touches) kinds to ⌝ }
+    ensures { λ r. ⌜ Completes sheet figure taken to flags r ⌝ }
+{
+    let fault = find(sheet, figure, touches, taken, to);
+    if !fault.found {
+        return true;
+    }
+    let links = fault.links;
+    let mut x = 0;
+    while x < figure.class_count {
+        if first_of_kind(flags, kinds, x) {
+            if mendable(sheet, figure, touches, taken, kinds, to, flags, links, x) {
+                return true;
+            }
+        }
+        x += 1;
+    }
+    false
+}
+
+// The same with link x at one of `links`.
+fn mendable(
+    sheet: Normal,
+    figure: Normal,
+    touches: &[u8; TOUCHES],
+    taken: [u8; Sheet::ATOMS],
+    kinds: [u16; Sheet::LINKS],
+    to: [u16; Sheet::LINKS],
+    flags: [u8; Sheet::LINKS],
+    links: [u8; Sheet::LINKS],
+    x: usize,
+) -> bool
+    requires { ⌜ Tables sheet figure (now touches) kinds to × (x < figure .«class_count») × (getD flags x 0 ≡ 1) ⌝ }
+    ensures { λ r. ⌜ CompletesAt sheet figure taken to flags links x r ⌝ }
+{
+    let mut rest = flags;
+    rest[x] = 0;
+    let mut y = 0;
+    while y < sheet.class_count {
+        if links[y] == 1 {
+            let mut next = to;
+            next[x] = (y + 1) as u16;
+            if completable(sheet, figure, touches, taken, kinds, next, rest) {
+                return true;
+            }
+        }
+        y += 1;
+    }
+    false
+}

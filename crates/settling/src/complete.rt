@@ -1,0 +1,84 @@
+// The least completion of placed atoms.
+use crate::completable::completable;
+use crate::decided::links_of;
+use crate::kinds::kinds;
+use crate::opening::open_links;
+use crate::settle::settled;
+use crate::taken::taken_by;
+use faults::fault::find;
+use faults::lookup::touches;
+use sheet::Sheet;
+use sheet::normal::Normal;
+ghost use mathlib.Core.Path.{_≡_};
+ghost use mathlib.Core.Bool.{false};
+ghost use lib.ListN.{take};
+ghost use Rattle.network.specs.NetIn.{netIn};
+ghost use Rattle.network.specs.Ready.{Ready, AtomsIn, LinksIn};
+ghost use Rattle.network.specs.Begun.{leastAfter};
+ghost use Rattle.settling.specs.Completed.{completedIn};
+ghost use Rattle.settling.specs.Completes.{LeastIn};
+
+// Where the figure links go, and the context of each sheet atom, 0 where a figure atom goes.
+pub struct Completed {
+    pub ok: bool,
+    pub links_to: [u16; Sheet::LINKS],
+    pub given: [u16; Sheet::ATOMS],
+}
+
+fn nothing() -> Completed
+    ensures { λ r. ⌜ r .ok ≡ false ⌝ }
+{
+    Completed {
+        ok: false,
+        links_to: [0; Sheet::LINKS],
+        given: [0; Sheet::ATOMS],
+    }
+}
+
+// The least completion where the links with a flag are open.
+fn least(
+    sheet: Normal,
+    figure: Normal,
+    taken: [u8; Sheet::ATOMS],
+    to: [u16; Sheet::LINKS],
+    flags: [u8; Sheet::LINKS],
+) -> Completed
+    requires { ⌜ Ready sheet figure × LinksIn sheet figure to ⌝ }
+    ensures { λ r. ⌜ LeastIn sheet figure taken to flags r ⌝ }
+{
+    let table = touches(sheet);
+    let kind = kinds(figure);
+    if !completable(sheet, figure, &table, taken, kind, to, flags) {
+        return nothing();
+    }
+    let links_to = settled(sheet, figure, &table, taken, kind, to, flags);
+    let last = find(sheet, figure, &table, taken, links_to);
+    let given = last.given;
+    Completed {
+        ok: true,
+        links_to,
+        given,
+    }
+}
+
+// Links and contexts of the least good placing with these atoms.
+pub fn complete(sheet: Normal, figure: Normal, atoms_to: [u16; Sheet::ATOMS]) -> Completed
+    requires { ⌜ Ready sheet figure × AtomsIn sheet (figure .«atom_count») «atoms_to» ⌝ }
+    ensures { λ r. ⌜ completedIn sheet figure r ≡ leastAfter (netIn sheet) (netIn figure) (take (figure .«atom_count») «atoms_to») ⌝ }
+{
+    let taken = taken_by(sheet, figure, atoms_to);
+    if !taken.ok {
+        return nothing();
+    }
+    let links = links_of(sheet, figure, atoms_to);
+    if !links.ok {
+        return nothing();
+    }
+    let told = links.to;
+    let none = (sheet.class_count + 1) as u16;
+    let opened = open_links(told, none, figure.class_count);
+    let flags = taken.flags;
+    let to = opened.to;
+    let open = opened.flags;
+    least(sheet, figure, flags, to, open)
+}
