@@ -5,7 +5,7 @@ fn main() {
     while k < last {
         let other = k + 1;
         if other < last {
-            task_files::compare_files(k, b"", other, b"");
+            task_files::runs::compare_files(k, b"", other, b"");
         }
         k = other;
         if k < last {

@@ -10,6 +10,7 @@ use lib.ListN.{length, take, length-take}
 use Rattle.sheet.specs.Pick.{pick, or}
 use Rattle.sheet.specs.Format.{rowWidth}
 use Rattle.sheet.specs.Limits.{sheetAtoms, sheetLinks, figureContexts}
+use Rattle.sheet.specs.Graph.{graphOf}
 use Rattle.sheet.specs.Packed.{noContext, portTable, packed}
 use Rattle.sheet.specs.NormalSheet.{packedNormal}
 use Rattle.sheet.specs.NormalText.{slipLength}
@@ -24,7 +25,10 @@ use Rattle.sheet.specs.declared.kind.Kind.the-variants.{Figure, Fillings}
 use Rattle.sheet.proofs.Padding.{take-padded}
 use Rattle.sheet.proofs.Ports.{table-at}
 use Rattle.sheet.proofs.Ranges.{Every, ContextRange}
-use Rattle.filling.specs.Read.{listHeld}
+use Rattle.placing.specs.Net.{netOf}
+use Rattle.placing.specs.Filled.{filledNormal}
+use Rattle.network.specs.NetIn.{netIn, Fit}
+use Rattle.filling.specs.Read.{listHeld, fillingsRead}
 use Rattle.filling.specs.Done.{slipAfter}
 use Rattle.filling.specs.Fill.{figureHeld, firstLacking, firstDiffering, filledBy, filledText, tooLarge, filledAnswer, fillAnswer, fillSlip}
 use Rattle.filling.specs.Parts.{firstUnported}
@@ -39,6 +43,7 @@ use Rattle.filling.proofs.Labelled.{labels}
 use Rattle.filling.proofs.Shown.{taken-contexts}
 use Rattle.filling.proofs.Result.{classes, class-count}
 use Rattle.filling.proofs.Written.{madeAtoms, atom-count, labels-seen, rows-are, made-writable}
+use Rattle.filling.proofs.FilledNet.{made-net, made-fit}
 
 rowed : (kind : Kind) (l : List Context) → Every (ContextRange kind) l → Rowed l
 rowed kind [] r = tt
@@ -144,6 +149,12 @@ module _ (figure list : List ℕ) where
 
         pub rows-writable : Writable r × ((r .«atom_count» + r .«context_count» + r .«mark_count») * rowWidth ≤ slipLength)
         rows-writable = made-writable figure list right own O r is-made small thin
+
+        pub net-is : netIn r ≡ netOf (filledNormal (graphOf (figureHeld figure)) (fillingsRead list))
+        net-is = made-net figure list right own O r is-made small thin
+
+        pub fit-is : length (r .atoms) ≡ sheetAtoms + 1 → length (r .contexts) ≡ figureContexts + 1 → Fit r
+        fit-is = made-fit figure list right own O r is-made small thin
 
 -- The whole call.
 module _ (figure list slip : List ℕ) where

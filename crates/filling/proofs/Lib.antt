@@ -10,10 +10,13 @@ pub mod Shown
 pub mod Numbered
 pub mod Result
 pub mod Written
+pub mod ResultNet
+pub mod FilledNet
 pub mod Loops
 pub mod Making
 pub mod Answers
 pub mod Says
+pub mod FilledIs
 pub mod Back
 pub mod ReadAgain
 pub mod Denotes

@@ -1,14 +1,11 @@
 -- A figure and a list that passed row by row: what the code finds on its way is what filling answers.
 use Prim.Native.Nat.{ℕ, _+_, _*_, _<_, _≤_}
-use mathlib.Core.Path.{_≡_, ap, ap₂, sym, _∙_, subst}
+use mathlib.Core.Path.{_≡_, ap, ap₂, sym, _∙_}
 use mathlib.Core.List.{List, _++_}
 use lib.ListN.{length, take, drop}
 use Rattle.sheet.specs.Format.{rowWidth}
 use Rattle.sheet.specs.Limits.{sheetAtoms, sheetLinks}
-use Rattle.sheet.specs.Held.{Held}
 use Rattle.sheet.specs.Packed.{packed}
-use Rattle.sheet.specs.Agrees.{Agrees}
-use Rattle.sheet.specs.NormalSheet.{packedNormal}
 use Rattle.sheet.specs.NormalText.{slipLength}
 use Rattle.sheet.specs.NormalRows.{normalRows, Writable}
 use Rattle.sheet.specs.declared.Sheet.{Sheet}
@@ -16,12 +13,9 @@ use Rattle.sheet.specs.declared.normal.Normal.{Normal}
 use Rattle.filling.specs.Read.{listHeld}
 use Rattle.filling.specs.Fill.{figureHeld, firstLacking, firstDiffering, filledText, filledAnswer}
 use Rattle.filling.specs.Parts.{firstUnported}
-use Rattle.filling.specs.Glued.{Glues}
-use Rattle.filling.specs.Classes.{Made}
+use Rattle.filling.specs.Filled.{FilledIs}
 use Rattle.filling.specs.declared.done.Done.the-variants as done
-use Rattle.filling.proofs.Parts.{figure-agrees}
-use Rattle.filling.proofs.Located.{Right}
-use Rattle.filling.proofs.Answers.{lacking-made, differing-made, right-fillings, answer-lacking, answer-differing, answer-large, answer-written, large-atoms, large-classes, not-large, rows-written, rows-writable}
+use Rattle.filling.proofs.Answers.{lacking-made, differing-made, answer-lacking, answer-differing, answer-large, answer-written}
 
 module _ (sheet heads : Sheet) (list : List ℕ) (H : heads ≡ packed (listHeld list))
     (lacking : ℕ) (L : lacking ≡ firstUnported (heads .ports) (take (sheet .«context_count») (sheet .contexts))) (figure : List ℕ) (q : sheet ≡ packed (figureHeld figure)) where
@@ -38,32 +32,26 @@ module _ (sheet heads : Sheet) (list : List ℕ) (H : heads ≡ packed (listHeld
     pub says-differing : (differing ≡ 0 → ⊥) → done.EdgeDiffers 2 differing ≡ filledAnswer figure list
     says-differing h = answer-differing figure list (sym lacks ∙ z) differing differs h
 
-    module _ (y : differing ≡ 0) (normal r : Normal) (N : (h : Held) → Agrees h → sheet ≡ packed h → normal ≡ packedNormal h) (M : (l : List ℕ) × (Glues list normal l × Made list l normal r)) where
-      right : Right figure list
-      right = right-fillings figure list (sym lacks ∙ z) (sym differs ∙ y)
-
-      pub is-normal : normal ≡ packedNormal (figureHeld figure)
-      is-normal = N (figureHeld figure) (figure-agrees figure) q
-
-      made : (l : List ℕ) × (Glues list (packedNormal (figureHeld figure)) l × Made list l (packedNormal (figureHeld figure)) r)
-      made = subst (λ (n : Normal). (l : List ℕ) × (Glues list n l × Made list l n r)) is-normal M
+    module _ (y : differing ≡ 0) (r : Normal)
+        (M : (text : List ℕ) → sheet ≡ packed (figureHeld text) → firstLacking (listHeld list .contexts) (figureHeld text .contexts) ≡ 0 → firstDiffering list (listHeld list .contexts) ≡ 0 → FilledIs text list r) where
+      filled : FilledIs figure list r
+      filled = M figure q (sym lacks ∙ z) (sym differs ∙ y)
 
       pub says-many : sheetAtoms < r .«atom_count» → done.TooLarge ≡ filledAnswer figure list
-      says-many h = answer-large figure list (sym lacks ∙ z) (sym differs ∙ y) (large-atoms figure list right r made h)
+      says-many h = answer-large figure list (sym lacks ∙ z) (sym differs ∙ y) (filled .large-atoms h)
 
-      module _ (few : r .«atom_count» ≤ sheetAtoms) where
-        pub says-wide : sheetLinks < r .«class_count» → done.TooLarge ≡ filledAnswer figure list
-        says-wide h = answer-large figure list (sym lacks ∙ z) (sym differs ∙ y) (large-classes figure list right r made few h)
+      pub says-wide : sheetLinks < r .«class_count» → done.TooLarge ≡ filledAnswer figure list
+      says-wide h = answer-large figure list (sym lacks ∙ z) (sym differs ∙ y) (filled .large-links h)
 
-        module _ (narrow : r .«class_count» ≤ sheetLinks) where
-          pub says-writable : Writable r × ((r .«atom_count» + r .«context_count» + r .«mark_count») * rowWidth ≤ slipLength)
-          says-writable = rows-writable figure list right r made few narrow
+      module _ (few : r .«atom_count» ≤ sheetAtoms) (narrow : r .«class_count» ≤ sheetLinks) where
+        pub says-writable : Writable r × ((r .«atom_count» + r .«context_count» + r .«mark_count») * rowWidth ≤ slipLength)
+        says-writable = filled .writable few narrow
 
-          rows : normalRows r ≡ filledText figure list
-          rows = rows-written figure list right r made few narrow
+        rows : normalRows r ≡ filledText figure list
+        rows = filled .rows few narrow
 
-          pub says-written : (n : ℕ) → n ≡ length (normalRows r) → done.Written n ≡ filledAnswer figure list
-          says-written n e = ap done.Written (e ∙ ap length rows) ∙ answer-written figure list (sym lacks ∙ z) (sym differs ∙ y) (not-large figure list right r made few narrow)
+        pub says-written : (n : ℕ) → n ≡ length (normalRows r) → done.Written n ≡ filledAnswer figure list
+        says-written n e = ap done.Written (e ∙ ap length rows) ∙ answer-written figure list (sym lacks ∙ z) (sym differs ∙ y) (filled .not-large few narrow)
 
-          pub says-slip : (n : ℕ) → n ≡ length (normalRows r) → (slip : List ℕ) → normalRows r ++ drop (length (normalRows r)) slip ≡ filledText figure list ++ drop n slip
-          says-slip n e slip = ap₂ (λ (t : List ℕ) (k : ℕ). t ++ drop k slip) rows (sym e)
+        pub says-slip : (n : ℕ) → n ≡ length (normalRows r) → (slip : List ℕ) → normalRows r ++ drop (length (normalRows r)) slip ≡ filledText figure list ++ drop n slip
+        says-slip n e slip = ap₂ (λ (t : List ℕ) (k : ℕ). t ++ drop k slip) rows (sym e)

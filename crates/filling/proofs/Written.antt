@@ -48,13 +48,13 @@ each-left P f (more {a = x} {b = y} r e) a (List·Memᴰ·head q) = subst P (sym
 each-left P f (more r e) a (List·Memᴰ·tail i) = each-left P f e a i
 
 module _ (figure list : List ℕ) (right : Right figure list) (own : List ℕ) (O : Own own) where
-  abbrev figureNormal : Normal
+  abbrev pub figureNormal : Normal
   figureNormal = packedNormal (figureHeld figure)
 
   abbrev pub madeAtoms : List Atom
   madeAtoms = allAtoms list (labels figure list right own O) figureNormal
 
-  abbrev marks : List ℕ
+  abbrev pub marks : List ℕ
   marks = normalMarks (figureHeld figure)
 
   abbrev pub numbered : Node ℕ → Node ℕ
@@ -63,22 +63,26 @@ module _ (figure list : List ℕ) (right : Right figure list) (own : List ℕ) (
   pub atom-count : length (filledBy figure list .atoms) ≡ length madeAtoms
   atom-count = length-map (filledSpots figure list .atoms) (mapCell spotNode) ∙ sym (each-size (atoms-like figure list right own O))
 
-  -- The S row of a vertex.
-  pub symbol-row : (α : Atom) (κ : Cell (Spot ℕ ℕ)) → Like figure list right own O α κ → ((x : Node (Spot ℕ ℕ)) → x ∈ κ .ports → x ∈ shownSpots figure list right own O)
-      → cellBytes (mapCell numbered (mapCell spotNode κ)) ≡ symbolRow (numberedAtom (classes figure list right own O) α)
-  symbol-row α κ r shown =
+  -- The links of a vertex by their numbers.
+  pub symbol-links : (α : Atom) (κ : Cell (Spot ℕ ℕ)) → Like figure list right own O α κ → ((x : Node (Spot ℕ ℕ)) → x ∈ κ .ports → x ∈ shownSpots figure list right own O)
+      → map nodeNumber (map numbered (map spotNode (κ .ports))) ≡ take (α .count) (numberedLinks (classes figure list right own O) (α .count) (α .links))
+  symbol-links α κ r shown =
       let D = classes figure list right own O in
       let lab = label figure list right own O in
       let links = take (α .count) (α .links) in
       let n : length links ≡ α .count = ap length (r .ports) ∙ length-map (κ .ports) lab ∙ sym (r .size) in
       let t : take (α .count) (numberedLinks D (α .count) (α .links)) ≡ map (numberIn D) links = taken-padded mostLinks (map (numberIn D) links) (α .count) (length-map links (numberIn D) ∙ n) in
-      let u : map nodeNumber (map numbered (map spotNode (κ .ports))) ≡ map (numberIn D) links =
       ap (map nodeNumber) (map-map numbered spotNode (κ .ports)) ∙ map-map nodeNumber (λ x. numbered (spotNode x)) (κ .ports)
       ∙ map-agree (λ x. numberBy (classOf (filledBy figure list .fusions)) (filledBy figure list) (spotNode x)) (λ x. numberIn D (lab x)) (κ .ports) (λ x i. class-number figure list right own O x (shown x i))
-      ∙ sym (map-map (numberIn D) lab (κ .ports)) ∙ ap (map (numberIn D)) (sym (r .ports)) in
+      ∙ sym (map-map (numberIn D) lab (κ .ports)) ∙ ap (map (numberIn D)) (sym (r .ports)) ∙ sym t
+
+  -- The S row of a vertex.
+  pub symbol-row : (α : Atom) (κ : Cell (Spot ℕ ℕ)) → Like figure list right own O α κ → ((x : Node (Spot ℕ ℕ)) → x ∈ κ .ports → x ∈ shownSpots figure list right own O)
+      → cellBytes (mapCell numbered (mapCell spotNode κ)) ≡ symbolRow (numberedAtom (classes figure list right own O) α)
+  symbol-row α κ r shown =
       let s : length (map numbered (map spotNode (κ .ports))) ≡ α .count = length-map (map spotNode (κ .ports)) numbered ∙ length-map (κ .ports) spotNode ∙ sym (r .size) in
       ap (λ (l : Label). cellBytes (record { label = l; ports = map numbered (map spotNode (κ .ports)) })) (r .name)
-      ∙ ap₂ (λ (c : ℕ) (l : List ℕ). rowBytes 83 (α .name ∷ c ∷ l)) s (u ∙ sym t)
+      ∙ ap₂ (λ (c : ℕ) (l : List ℕ). rowBytes 83 (α .name ∷ c ∷ l)) s (symbol-links α κ r shown)
 
   symbol-rows : {l : List Atom} {k : List (Cell (Spot ℕ ℕ))} → Each (Like figure list right own O) l k → ((x : Node (Spot ℕ ℕ)) → x ∈ portNodes k → x ∈ shownSpots figure list right own O)
       → map cellBytes (map (mapCell numbered) (map (mapCell spotNode) k)) ≡ map (λ α. symbolRow (numberedAtom (classes figure list right own O) α)) l
@@ -109,22 +113,22 @@ module _ (figure list : List ℕ) (right : Right figure list) (own : List ℕ) (
       ∙ ap (λ l. take (sheetLinks + 1) (distinct l)) (shown-labels figure list right own O)
 
   module _ (r : Normal) (made : Made list (labels figure list right own O) figureNormal r) (small : length madeAtoms ≤ sheetAtoms) (few : length (classes figure list right own O) ≤ sheetLinks) where
-    all-labels : shownLabels list (labels figure list right own O) figureNormal ≡ classes figure list right own O
+    pub all-labels : shownLabels list (labels figure list right own O) figureNormal ≡ classes figure list right own O
     all-labels = labels-seen small ∙ take-all (sheetLinks + 1) (classes figure list right own O) (omega arith)
 
     all-atoms : shownAtoms list (labels figure list right own O) figureNormal ≡ madeAtoms
     all-atoms = take-all (sheetAtoms + 1) madeAtoms (omega arith)
 
-    abbrev rowAtoms : List Atom
+    abbrev pub rowAtoms : List Atom
     rowAtoms = map (numberedAtom (classes figure list right own O)) madeAtoms
 
-    atoms-are : take (r .«atom_count») (r .atoms) ≡ rowAtoms
+    pub atoms-are : take (r .«atom_count») (r .atoms) ≡ rowAtoms
     atoms-are = made .atoms ∙ ap₂ (λ (d : List ℕ) (l : List Atom). map (numberedAtom d) l) all-labels all-atoms
 
-    atoms-count : r .«atom_count» ≡ length madeAtoms
+    pub atoms-count : r .«atom_count» ≡ length madeAtoms
     atoms-count = made .atomCount ∙ ap length all-atoms
 
-    atom-at : (k : ℕ) → k < length rowAtoms → getD (r .atoms) k pastAtoms ≡ getD rowAtoms k pastAtoms
+    pub atom-at : (k : ℕ) → k < length rowAtoms → getD (r .atoms) k pastAtoms ≡ getD rowAtoms k pastAtoms
     atom-at k h =
         let n : length rowAtoms ≡ length madeAtoms = length-map madeAtoms (numberedAtom (classes figure list right own O)) in
         sym (getD-take (r .«atom_count») (r .atoms) k pastAtoms (omega (arith, atoms-count))) ∙ ap (λ l. getD l k pastAtoms) atoms-are
@@ -135,7 +139,7 @@ module _ (figure list : List ℕ) (right : Right figure list) (own : List ℕ) (
         ∙ rows-joined pastAtoms symbolRow (atomRow r) rowAtoms (λ k h. ap symbolRow (atom-at k h))
         ∙ ap joined (map-map symbolRow (numberedAtom (classes figure list right own O)) madeAtoms)
 
-    marked-are : r .marked ≡ padded (sheetMarks + 1) 0 (map (λ m. numberIn (classes figure list right own O) (label figure list right own O (spotMark figure list right own O m))) marks)
+    pub marked-are : r .marked ≡ padded (sheetMarks + 1) 0 (map (λ m. numberIn (classes figure list right own O) (label figure list right own O (spotMark figure list right own O m))) marks)
     marked-are =
         made .marked
         ∙ ap₂ (λ (d l : List ℕ). padded (sheetMarks + 1) 0 (map (numberIn d) l)) all-labels (mark-labels figure list right own O ∙ map-map (label figure list right own O) (spotMark figure list right own O) marks)

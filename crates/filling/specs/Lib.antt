@@ -5,3 +5,4 @@ pub mod Parts
 pub mod Glued
 pub mod Whole
 pub mod Classes
+pub mod Filled

@@ -1,11 +1,10 @@
 // The task fill: a figure with its contexts filled from a list, as normal text, into an output buffer.
 use crate::done::Done;
-use crate::filled::filled;
+use crate::filled::filled_normal;
 use crate::part::first_differing;
 use crate::part::first_lacking;
 use sheet::Sheet;
 use sheet::answer::Answer;
-use sheet::normal::normal_of;
 use sheet::normal_text::write_normal;
 use sheet::read::read_figure;
 use sheet::read::read_list;
@@ -34,7 +33,7 @@ fn fill_read(figure: Sheet, heads: Sheet, list: &[u8], out: &mut [u8]) -> Done
     if differing != 0 {
         return Done::EdgeDiffers(2, differing);
     }
-    let normal = filled(normal_of(figure), list);
+    let normal = filled_normal(figure, list);
     if Sheet::ATOMS < normal.atom_count {
         return Done::TooLarge;
     }

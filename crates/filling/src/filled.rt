@@ -6,6 +6,7 @@ use crate::whole::Whole;
 use crate::whole::whole_of;
 use sheet::Sheet;
 use sheet::normal::Normal;
+use sheet::normal::normal_of;
 ghost use mathlib.Core.Path.{_≡_};
 ghost use mathlib.Core.List.{List};
 ghost use Prim.Native.Nat.{ℕ, _+_, _≤_};
@@ -13,6 +14,10 @@ ghost use lib.ListN.{take, getD};
 ghost use Rattle.sheet.specs.Format.{mostLinks};
 ghost use Rattle.sheet.specs.Limits.{sheetAtoms, sheetMarks};
 ghost use Rattle.sheet.specs.NormalRows.{pastAtoms};
+ghost use Rattle.sheet.specs.Packed.{packed};
+ghost use Rattle.filling.specs.Read.{listHeld};
+ghost use Rattle.filling.specs.Fill.{figureHeld, firstLacking, firstDiffering};
+ghost use Rattle.filling.specs.Filled.{FilledIs};
 ghost use Rattle.filling.specs.Parts.{Low};
 ghost use Rattle.filling.specs.Glued.{Glues};
 ghost use Rattle.filling.specs.Whole.{wholeAtoms};
@@ -67,4 +72,12 @@ pub(crate) fn filled(figure: Normal, list: &[u8]) -> Normal
     let whole = whole_of(figure, list, labels);
     let labelled = mark_labels(labels, figure);
     numbered(figure, whole, labelled)
+}
+
+// The normal form of a figure filled from a list that has a filling for each of its contexts.
+pub fn filled_normal(figure: Sheet, list: &[u8]) -> Normal
+    requires { ⌜ ((text : List ℕ) × (figure ≡ packed (figureHeld text))) ⌝ }
+    ensures { λ r. ⌜ ((text : List ℕ) → figure ≡ packed (figureHeld text) → firstLacking (listHeld (now (list .entry)) .contexts) (figureHeld text .contexts) ≡ 0 → firstDiffering (now (list .entry)) (listHeld (now (list .entry)) .contexts) ≡ 0 → FilledIs text (now (list .entry)) r) ⌝ }
+{
+    filled(normal_of(figure), list)
 }

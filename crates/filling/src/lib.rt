@@ -2,7 +2,7 @@
 mod classes;
 pub mod done;
 pub mod fill;
-mod filled;
+pub mod filled;
 mod glue;
-mod part;
+pub mod part;
 mod whole;

@@ -55,7 +55,7 @@ fn marks_exact(part: Normal, n: u16) -> bool
 }
 
 // 8 over whole texts: the row of the first context without a filling of its number and count, or 0.
-pub(crate) fn first_lacking(figure: Sheet, heads: Sheet) -> usize
+pub fn first_lacking(figure: Sheet, heads: Sheet) -> usize
     requires { ⌜ Counted figure ⌝ }
     ensures { λ r. ⌜ r ≡ firstUnported (heads .ports) (take (figure .«context_count») (figure .contexts)) ⌝ }
 {
@@ -72,7 +72,7 @@ pub(crate) fn first_lacking(figure: Sheet, heads: Sheet) -> usize
 }
 
 // 9: the row of the first head whose filling has other marks than its ports, or 0.
-pub(crate) fn first_differing(heads: Sheet, list: &[u8]) -> usize
+pub fn first_differing(heads: Sheet, list: &[u8]) -> usize
     requires { ⌜ heads .«context_count» ≤ figureContexts ⌝ }
     ensures { λ r. ⌜ r ≡ firstDiffering (now (list .entry)) (take (heads .«context_count») (heads .contexts)) ⌝ }
 {

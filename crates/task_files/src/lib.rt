@@ -1,10 +1,9 @@
-// What the programs share: a text from the file that an argument names, and the row of an answer.
+// What the programs share: a text from the file that an argument names, the row of an answer, and the
+// tasks run on files.
+pub mod runs;
+
 use libc::STDOUT_FILENO;
-use matching::compare::compare;
-use matching::compare::verdict_of;
-use sheet::Sheet;
 use sheet::answer::answer_row;
-use sheet::answer::verdict_row;
 use sheet::normalise::Normalised;
 use sheet::normalise::TaskAnswer;
 use sheet::normalise::answer_of;
@@ -50,24 +49,4 @@ pub fn print_answer(answer: TaskAnswer, out: &[u8]) {
 
 pub fn print_normalised(done: Normalised, out: &[u8]) {
     print_answer(answer_of(done), out);
-}
-
-// Compares the sheets in the files that arguments k and l name, or in those of these names, and prints
-// the answer's row.
-pub fn compare_files(k: usize, name: &[u8], l: usize, other_name: &[u8]) {
-    let first = open_input(k, name);
-    if first < 0 {
-        return;
-    }
-    let mut text = [0u8; Sheet::TEXT];
-    let n = read_input(first, &mut text);
-    let second = open_input(l, other_name);
-    if second < 0 {
-        return;
-    }
-    let mut other = [0u8; Sheet::TEXT];
-    let m = read_input(second, &mut other);
-    let verdict = verdict_of(compare(&text[..n], &other[..m]));
-    let line = verdict_row(verdict.number, verdict.input, verdict.row, verdict.yes);
-    io::write_all(STDOUT_FILENO, &line);
 }

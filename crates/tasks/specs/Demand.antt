@@ -1,0 +1,83 @@
+-- What demand 3 asks of the answers and the slips of place and swap.
+use Prim.Native.Nat.{ℕ, _≤_, _<_}
+use mathlib.Core.Path.{_≡_}
+use mathlib.Core.Logic.{_⊎_, _↔_}
+use mathlib.Core.List.{List, _++_, map}
+use mathlib.Core.Option.{some}
+use lib.ListN.{length, take, drop}
+use Rattle.hyperlmntal.specs.Congruence.{_≅_}
+use Rattle.hyperlmntal.specs.Hypergraph.{Flat}
+use Rattle.sheet.specs.Limits.{sheetAtoms, sheetLinks}
+use Rattle.sheet.specs.Graph.{graphOf, termOfText}
+use Rattle.sheet.specs.NormalText.{textOf, slipLength}
+use Rattle.sheet.specs.Reading.{outcomeOf, noPorts}
+use Rattle.sheet.specs.declared.kind.Kind.the-variants.{Plain, Fillings}
+use Rattle.sheet.specs.declared.answer.Answer.the-variants.{Passed}
+use Rattle.placing.specs.Net.{NetCell, Net, netOf, normalNet}
+use Rattle.placing.specs.Placing.{Placing}
+use Rattle.placing.specs.Fillings.{Filling, Fits, byNumber, normalFillingsOf}
+use Rattle.placing.specs.Holding.{holdingTerm}
+use Rattle.placing.specs.Filled.{filledNormal}
+use Rattle.placing.specs.ListText.{listText}
+use Rattle.placing.specs.Smallest.{smallest}
+use Rattle.filling.specs.Done.{doneBytes}
+use Rattle.filling.specs.Read.{fillingsRead}
+use Rattle.filling.specs.declared.done.Done.the-variants as done
+use Rattle.tasks.specs.Place.{sheetHeld, patternHeld, placeAnswer, placeSlip}
+use Rattle.tasks.specs.Swap.{replacementHeld, swapAnswer, swapSlip}
+
+-- the normal nets of the two texts
+abbrev pub sheetNet : List ℕ → Net
+sheetNet sheet = normalNet (sheetHeld sheet)
+
+abbrev pub patternNet : List ℕ → Net
+patternNet pattern = normalNet (patternHeld pattern)
+
+-- 'fillings of any size, each with exactly its blank's ports as marks, that turn the figure into that sheet under E1 to E10'
+abbrev pub Turning : List ℕ → List ℕ → List Filling → Type 0
+Turning sheet pattern θ = Fits (patternNet pattern) θ × (holdingTerm (termOfText (patternHeld pattern)) θ ≅ termOfText (sheetHeld sheet))
+
+-- the bytes that place wrote
+abbrev pub placeWritten : List ℕ → List ℕ → List ℕ → List ℕ
+placeWritten sheet pattern slip = take (doneBytes (placeAnswer sheet pattern (length slip))) (placeSlip sheet pattern slip)
+
+-- the number and the port count of a blank, and of an H row
+abbrev pub blankOf : NetCell → ℕ × ℕ
+blankOf c = (c .0, length (c .1))
+
+abbrev pub headOf : Filling → ℕ × ℕ
+headOf f = (f .number, f .ports)
+
+-- 'it hands out the fillings that document 01 chooses, one for each blank with exactly its ports as marks, and the figure holding
+-- them is the same as that sheet'
+pub record HandsOut (sheet pattern slip : List ℕ) (θ : List Filling) : Type 0 where
+  pub placing : Placing
+  pub chosen : smallest (sheetNet sheet) (patternNet pattern) ≡ some placing
+  pub chosen-fillings : θ ≡ normalFillingsOf (sheetNet sheet) placing (patternNet pattern)
+  pub answer : placeAnswer sheet pattern (length slip) ≡ done.Written (length (listText θ))
+  pub room : length (listText θ) ≤ slipLength
+  pub slip-after : placeSlip sheet pattern slip ≡ listText θ ++ drop (length (listText θ)) slip
+  pub one-for-each : map headOf θ ≡ map blankOf (byNumber (patternNet pattern .contexts))
+  pub passes : outcomeOf Fillings noPorts (listText θ) .answer ≡ Passed
+  pub read-back : fillingsRead (listText θ) ≡ θ
+  pub turning : Turning sheet pattern θ
+
+-- the table's limits of a result sheet
+abbrev pub OverLimits : Flat ℕ → Type 0
+OverLimits F = (sheetAtoms < length (netOf F .atoms)) ⊎ (sheetLinks < netOf F .links)
+
+-- the normal text of the replacement holding fillings
+abbrev pub swapped : List ℕ → List ℕ → List Filling → Flat ℕ
+swapped pattern replacement θ = filledNormal (graphOf (replacementHeld pattern replacement)) θ
+
+-- 'it prints, byte for byte, the normal text of the replacement holding the fillings that the search hands out for that sheet and
+-- figure, or says 'too large', exactly when that result is over the table's limits'
+pub record Swaps (sheet pattern replacement slip : List ℕ) (θ : List Filling) : Type 0 where
+  pub too-large : (swapAnswer sheet pattern replacement (length slip) ≡ done.TooLarge) ↔ OverLimits (swapped pattern replacement θ)
+  pub answer : ¬ OverLimits (swapped pattern replacement θ) → swapAnswer sheet pattern replacement (length slip) ≡ done.Written (length (textOf (swapped pattern replacement θ)))
+  pub room : ¬ OverLimits (swapped pattern replacement θ) → length (textOf (swapped pattern replacement θ)) ≤ slipLength
+  pub slip-after : ¬ OverLimits (swapped pattern replacement θ)
+      → swapSlip sheet pattern replacement slip ≡ textOf (swapped pattern replacement θ) ++ drop (length (textOf (swapped pattern replacement θ))) slip
+  -- it passes as a sheet, and is the same as what graph substitution makes of the replacement
+  pub passes : ¬ OverLimits (swapped pattern replacement θ) → outcomeOf Plain noPorts (textOf (swapped pattern replacement θ)) .answer ≡ Passed
+  pub same : ¬ OverLimits (swapped pattern replacement θ) → termOfText (sheetHeld (textOf (swapped pattern replacement θ))) ≅ holdingTerm (termOfText (replacementHeld pattern replacement)) θ
