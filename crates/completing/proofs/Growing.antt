@@ -12,7 +12,7 @@ use Rattle.completing.specs.Fault.{Used, Other, Through, CutOff, Joined,
 use Rattle.completing.specs.Growing.{Part, Serves, Grown}
 use Rattle.completing.proofs.Reaching.{reach-more}
 use Rattle.completing.proofs.Kept.{unused-other}
-use Rattle.completing.proofs.Completed.{allowed-joined, least-joined}
+use Rattle.completing.proofs.Completed.{least-joined}
 
 module _ (S F : Net) (q : Placing) where
   through-more : (set seen set′ seen′ : List ℕ) → ((j : ℕ) → j ∈ set → j ∈ set′) → ((y : ℕ) → y ∈ seen → y ∈ seen′)
@@ -108,9 +108,6 @@ module _ (S F : Net) (q : Placing) where
         (λ h y m u. let i = t .touched y m in h (i .0) (part-other (i .0) (i .1) .0) (part-joined (i .0) (i .1)) y (i .2) u),
       )
 
-      pub grown-served : (k : ℕ) → Serves S F q seen k → (j : ℕ) → j ∈ set → Allowed S F q k j
-      grown-served k s j m = allowed-joined S F q k root j (part-joined j m) (grown-allowed k .0 s)
-
       -- the least context that serves is the least for every member
       pub grown-least : (k : ℕ) → Number S F q k → Serves S F q seen k
           → ((d : ℕ) → Number S F q d → Serves S F q seen d → k ≤ d) → (j : ℕ) → j ∈ set → LeastContext S F q j k
@@ -128,10 +125,6 @@ module _ (S F : Net) (q : Placing) (k : ℕ) where
     where
       at : z ≡ y → PortAt S F q k z
       at e = subst (PortAt S F q k) (sym e) (f (subst (Used S F q) e u))
-
-  -- a link to which a figure link goes, and at which the context has no port
-  pub serves-not : (seen : List ℕ) (y : ℕ) → Used S F q y → ¬ PortAt S F q k y → ¬ Serves S F q (seen ++ (y ∷ [])) k
-  serves-not seen y u n s = n (s y (Memᴰ·append-right seen (List·Memᴰ·head refl)) u)
 
   -- what does not serve will not serve more
   pub serves-before : (seen : List ℕ) (y : ℕ) → Serves S F q (seen ++ (y ∷ [])) k → Serves S F q seen k

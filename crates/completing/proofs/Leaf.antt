@@ -15,17 +15,14 @@ use Rattle.placing.proofs.Tests.{turned-down}
 use Rattle.placing.proofs.GoodTest.{says-good}
 use Rattle.placing.proofs.SmallestLaws.{good-within, good-list}
 use Rattle.network.specs.Begun.{Begun}
-use Rattle.completing.specs.Completion.{Partial, Completable}
+use Rattle.completing.specs.Completion.{Completable}
 use Rattle.completing.specs.Leaf.{LeastCompletion, OpenLinks, StateOf, NoneWith, restBounds}
 use Rattle.completing.proofs.Lists.{before-prepend, within-rest}
-use Rattle.completing.proofs.State.{good-partial, good-completion}
+use Rattle.completing.proofs.State.{good-completion}
 
 module _ (S F : Net) (l : List ℕ) where
   module _ (NF : Normal F) (q : Placing) (un : List ℕ) (s : StateOf S F l q) (o : OpenLinks F un) where
-    -- The state breaks a condition, or it cannot be completed.
-    pub not-partial : ¬ Partial S F q un → NoneWith S F l
-    not-partial n p g e = n (good-partial S F l p g e NF q un s o)
-
+    -- The state cannot be completed.
     pub not-completable : ¬ Completable S F q un → NoneWith S F l
     not-completable n p g e = n (p, good-completion S F l p g e NF q un s o)
 

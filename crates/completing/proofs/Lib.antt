@@ -14,7 +14,6 @@ pub mod NoFault
 pub mod Completing
 -- A component, grown by a loop.
 pub mod Growing
-pub mod Chains
 -- The least completion.
 pub mod Settling
 pub mod SettlingLoop

@@ -10,16 +10,11 @@ use lib.Dec.{eqb}
 use lib.ListN.{length, getD}
 use borrow.Author.Tests.{eqb-true, eq-eqb, ne-eqb}
 use Rattle.hyperlmntal.specs.Link.{_∈_, select}
-use Rattle.sheet.specs.Pick.{pick}
+use Rattle.rows.specs.Pick.{pick}
 use Rattle.placing.specs.First.{Within, also, Before, here, later}
 use Rattle.placing.proofs.FirstLaws.{both-ways}
 use Rattle.completing.specs.Completion.{remove}
 use Rattle.completing.specs.Leaf.{Ascending}
-
-pub getD-map : {A B : Type 0} (f : A → B) (l : List A) (k : ℕ) (d : A) (e : B) → k < length l → getD (map f l) k e ≡ f (getD l k d)
-getD-map f [] k d e h = absurd (omega arith)
-getD-map f (x ∷ l) zero d e h = refl
-getD-map f (x ∷ l) (suc k) d e h = getD-map f l k d e (omega arith)
 
 -- A list without x.
 pub of-remove : (z x : ℕ) (l : List ℕ) → z ∈ remove x l → (z ∈ l) × (z ≢ x)
@@ -60,26 +55,6 @@ remove-absent x (y ∷ l) n = rw (ne-eqb y x (λ e. n (List·Memᴰ·head (sym e
 pub remove-head : (x : ℕ) (l : List ℕ) → ¬ (x ∈ l) → remove x (x ∷ l) ≡ l
 unfolding remove
 remove-head x l n = rw (eq-eqb x x refl) (remove-absent x l n)
-
-remove-short : (x : ℕ) (l : List ℕ) → length (remove x l) ≤ length l
-unfolding remove
-remove-short x [] = omega arith
-remove-short x (y ∷ l) = go (eqb y x) (remove-short x l)
-  where
-    go : (b : Bool) → length (remove x l) ≤ length l → length (pick b (remove x l) (y ∷ remove x l)) ≤ suc (length l)
-    go true h = omega arith
-    go false h = omega arith
-
--- it is shorter: what ends a recursion on the unsettled links
-pub remove-shorter : (x : ℕ) (l : List ℕ) → x ∈ l → length (remove x l) < length l
-unfolding remove
-remove-shorter x [] m = absurd (List·Memᴰ·not-nil m)
-remove-shorter x (y ∷ l) m = go (eqb y x) refl (List·Memᴰ·cases-cons m) (λ k. remove-shorter x l k)
-  where
-    go : (b : Bool) → eqb y x ≡ b → (x ≡ y) ⊎ (x ∈ l) → (x ∈ l → length (remove x l) < length l) → length (pick b (remove x l) (y ∷ remove x l)) < suc (length l)
-    go true e k r = omega (arith, remove-short x l)
-    go false e (inl f) r = both-ways (eq-eqb y x (sym f)) e
-    go false e (inr k) r = let h = r k in omega arith
 
 -- Two numbers swapped.
 abbrev pub swapped : ℕ → ℕ → ℕ → ℕ

@@ -12,7 +12,7 @@ use Rattle.placing.proofs.Lists.{some-member}
 use Rattle.placing.proofs.Standing.{context-link}
 use Rattle.completing.specs.Completion.{Partial, Completion}
 use Rattle.completing.specs.Reach.{Reach, stay, move}
-use Rattle.completing.specs.Fault.{Used, Other, Beside, TwoApart, Through, CutOff, Fault, apart, cut-off}
+use Rattle.completing.specs.Fault.{Used, Other, Beside, TwoApart, Torn, Through, CutOff, Fault, apart, cut-off}
 use Rattle.completing.proofs.Decide.{member-dec}
 use Rattle.completing.proofs.Kept.{atom-of, linked-map, taken-same}
 
@@ -25,16 +25,19 @@ module _ (S F : Net) (NS : Normal S) (NF : Normal F) (q : Placing) (un : List �
   kept : (x y : ℕ) → Range (F .links) x → linkTo q x ≡ y → y ≤ S .links → linkTo p x ≡ y
   kept x y m e h = c .settled x m (λ u. let k = a .read-none x u in absurd (omega arith)) ∙ e
 
+  at-kept : (x y : ℕ) → At S F q x y → At S F p x y
+  at-kept x y h = record { figure-link = h .figure-link; sheet-link = h .sheet-link; there = kept x y (h .figure-link) (h .there) (h .sheet-link .1) }
+
+  pub torn-never : (y : ℕ) → ¬ Torn S F q un y
+  torn-never y f = f .never-linked p (c .settled) (c .good .linked (f .one) (f .two) y (at-kept (f .one) y (f .one-at)) (at-kept (f .two) y (f .two-at)))
+
   pub two-apart-needs : (y : ℕ) → TwoApart S F q y → (x : ℕ) × (x ∈ un) × (linkTo p x ≡ y)
   two-apart-needs y f = go (some-member (λ x. linkTo p x ≡ y) (λ x. ℕ-discrete (linkTo p x) y) un)
     where
-      to : (x : ℕ) → At S F q x y → At S F p x y
-      to x h = record { figure-link = h .figure-link; sheet-link = h .sheet-link; there = kept x y (h .figure-link) (h .there) (h .sheet-link .1) }
-
       go : Dec ((x : ℕ) × (x ∈ un) × (linkTo p x ≡ y)) → (x : ℕ) × (x ∈ un) × (linkTo p x ≡ y)
       go (yes s) = s
       go (no n) = absurd (f .not-linked (linked-map S F p q y y (λ x. x) (λ row r x m. m) from
-          (c .good .linked (f .one) (f .two) y (to (f .one) (f .one-at)) (to (f .two) (f .two-at)))))
+          (c .good .linked (f .one) (f .two) y (at-kept (f .one) y (f .one-at)) (at-kept (f .two) y (f .two-at)))))
         where
           from : (x : ℕ) → At S F p x y → At S F q x y
           from x h = record {

@@ -16,7 +16,7 @@ use Rattle.placing.specs.Smallest.{listOf}
 use Rattle.placing.proofs.Standing.{context-link}
 use Rattle.completing.specs.Completion.{Partial, Completion, Completable, put, remove}
 use Rattle.completing.specs.Reach.{stay, move}
-use Rattle.completing.specs.Fault.{Other, Beside, Joined, Number, Allowed, AllLinked, NoFault, LeastGiven, completed}
+use Rattle.completing.specs.Fault.{Other, Beside, Joined, Number, Allowed, AllLinked, LeastGiven, completed}
 use Rattle.completing.specs.Leaf.{LeastCompletion, Ascending}
 use Rattle.completing.proofs.Lists.{before-rest, greater-at, nowhere-less, ascending-rest}
 use Rattle.completing.proofs.Decide.{taken-dec}
@@ -73,10 +73,6 @@ module _ (S F : Net) (NF : Normal F) (q : Placing) (p : Placing) (c : Completion
     where
       to : (z : ℕ) → At S F q z y → At S F p z y
       to z w = record { figure-link = w .figure-link; sheet-link = w .sheet-link; there = same-link z (w .figure-link) ∙ w .there }
-
-  -- a state that can be completed has no fault
-  pub settled-no-fault : NoFault S F q
-  settled-no-fault = record { linked = settled-linked; served = λ j o. (givenTo p j, given-number j o, given-allowed j o) }
 
   given-least : (g : List ℕ) → LeastGiven S F q g → (j : ℕ) → Range (length (S .atoms)) j → numberAt g j ≤ givenTo p j
   given-least g w j r = go (taken-dec S F q j)

@@ -10,7 +10,7 @@ use Rattle.completing.specs.Fault.{LeastGiven, completed}
 use Rattle.completing.specs.Leaf.{LeastCompletion, Ascending, Settling}
 use Rattle.completing.proofs.Lists.{ascending-rest}
 use Rattle.completing.proofs.Put.{put-partial, put-there}
-use Rattle.completing.proofs.Settling.{settled-least, settle-some, settle-last, settle-next}
+use Rattle.completing.proofs.Settling.{settled-least, settle-last, settle-next}
 
 module _ (S F : Net) (NS : Normal S) (NF : Normal F) (q₀ : Placing) (un₀ : List ℕ) where
   pub settling-start : Partial S F q₀ un₀ → Completable S F q₀ un₀ → Settling S F q₀ un₀ q₀ un₀
@@ -34,11 +34,7 @@ module _ (S F : Net) (NS : Normal S) (NF : Normal F) (q₀ : Placing) (un₀ : L
     pub settling-last : ((z : ℕ) → Range (S .links) z → ¬ Completable S F (put q x z) un) → Completable S F (put q x (suc (S .links))) un
     settling-last n = rest (suc (S .links)) (settle-last S F NS NF q (x ∷ un) (t .partial) x mine (t .completable) (λ z r c. n z r (rest z c)))
 
-    -- some number will do,
-    pub settling-some : (y : ℕ) × Completable S F (put q x y) un
-    settling-some = let c = settle-some S F NS NF q (x ∷ un) (t .partial) x mine (t .completable) in (c .0, rest (c .0) (c .2))
-
-    -- and what will do is in range
+    -- what will do is in range
     pub settling-range : (y : ℕ) → Completable S F (put q x y) un → Range (suc (S .links)) y
     settling-range y c = let d = whole y c in
         subst (Range (suc (S .links))) (put-there S F NF q (x ∷ un) (t .partial) x mine y (d .0) (d .1))

@@ -13,7 +13,7 @@ use Rattle.placing.proofs.Lists.{some-member}
 use Rattle.placing.proofs.Standing.{mark-link}
 use Rattle.completing.specs.Completion.{Open, Partial, Completion}
 use Rattle.completing.specs.Leaf.{OpenLinks, StateOf}
-use Rattle.completing.proofs.Lists.{getD-map}
+use Rattle.rows.proofs.Lists.{getD-mapped}
 use Rattle.completing.proofs.Decide.{member-dec, dec-some-to}
 use Rattle.completing.proofs.Kept.{atom-of}
 
@@ -24,7 +24,7 @@ module _ (S F : Net) (l : List ℕ) (p : Placing) (g : Good S F p) (e : p .atoms
   -- place k of figure atom i goes to place k of the sheet atom
   pub by-atom : (i k : ℕ) → Range (length (F .atoms)) i → k < length ((cellAt (F .atoms) i) .1)
       → linkTo p (getD ((cellAt (F .atoms) i) .1) k 0) ≡ getD ((cellAt (S .atoms) (numberAt l i)) .1) k 0
-  by-atom i k r h = sym (getD-map (linkTo p) ((cellAt (F .atoms) i) .1) k 0 0 h)
+  by-atom i k r h = sym (getD-mapped (linkTo p) ((cellAt (F .atoms) i) .1) k 0 0 h)
       ∙ (ap (λ (z : List ℕ). getD z k 0) (g .across i r .places) ∙ ap (λ (j : ℕ). getD ((cellAt (S .atoms) j) .1) k 0) (same-atom i))
 
   -- the figure link of a mark goes to the sheet link of that mark

@@ -3,8 +3,8 @@ use Prim.Native.Nat.{ℕ}
 use mathlib.Core.List.{List}
 use lib.ListN.{length}
 use Rattle.hyperlmntal.specs.Link.{_∈_}
-use Rattle.placing.specs.Net.{NetCell, Net, Range}
-use Rattle.placing.specs.Placing.{Placing, cellAt, At, Linked, PortAt}
+use Rattle.placing.specs.Net.{Net, Range}
+use Rattle.placing.specs.Placing.{Placing, cellAt, PortAt}
 use Rattle.completing.specs.Reach.{Reach}
 use Rattle.completing.specs.Fault.{Used, Other, Through}
 
@@ -24,13 +24,3 @@ module _ (S F : Net) (q : Placing) where
   pub record Grown (set seen : List ℕ) : Type 0 where
     pub all-links : (j y : ℕ) → j ∈ set → y ∈ (cellAt (S .atoms) j) .1 → y ∈ seen
     pub all-atoms : (y j : ℕ) → y ∈ seen → ¬ Used S F q y → Range (length (S .atoms)) j → y ∈ (cellAt (S .atoms) j) .1 → j ∈ set
-
-  -- figure links that go to y and are linked there with the first of them
-  pub record Chain (y root : ℕ) (set : List ℕ) : Type 0 where
-    pub root-member : root ∈ set
-    pub all-at : (x : ℕ) → x ∈ set → At S F q x y
-    pub all-linked : (x : ℕ) → x ∈ set → Linked S F q y root x
-
-  -- each figure link at y on a context with a member is a member
-  abbrev pub ChainGrown : ℕ → List ℕ → Type 0
-  ChainGrown y set = (row : NetCell) (x x′ : ℕ) → row ∈ F .contexts → x ∈ set → x ∈ row .1 → x′ ∈ row .1 → At S F q x′ y → x′ ∈ set

@@ -8,7 +8,7 @@ use native.Mathlib.Omega.{arith}
 use lib.ListN.{length, take, getD, set, length-set, length-take}
 use lib.Seq.{getD-set-same, getD-set-other, take-suc-set, getD-take, length-take-le}
 use Rattle.hyperlmntal.specs.Link.{_∈_}
-use Rattle.sheet.specs.Limits.{sheetAtoms, sheetLinks}
+use Rattle.rows.specs.Limits.{sheetAtoms, sheetLinks}
 use Rattle.placing.specs.Net.{Net, Range}
 use Rattle.placing.specs.Placing.{Placing, cellAt}
 use Rattle.placing.proofs.Lists.{member-at, getD-member, getD-of}
@@ -98,9 +98,6 @@ module _ (atoms : ℕ) (g : Growth) (i v from : ℕ) (few : atoms ≤ sheetAtoms
 
 -- One atom more is looked at, for link y.
 module _ (touches : List ℕ) (y atoms i : ℕ) (start g : Growth) (few : atoms ≤ sheetAtoms) (h : i < atoms) (s : Sized atoms g) (w : WithAtoms touches y atoms i start g) where
-  pub atoms-start : (touches : List ℕ) (g : Growth) → WithAtoms touches y atoms 0 g g
-  atoms-start touches g = record { same-seen = refl; same-left = refl; holds = λ S F q root seen a hy m u k. (k, λ j l. absurd (omega arith)) }
-
   pub atoms-joined : (from : ℕ) → getD touches (y * sheetAtoms + i) 0 ≡ 1 → getD (g .members) i 0 ≢ 1 → WithAtoms touches y atoms (i + 1) start (added g i y from)
   atoms-joined from on new = record {
     same-seen = w .same-seen;

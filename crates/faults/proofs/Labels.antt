@@ -1,27 +1,22 @@
 -- The laws of labels that ties join.
 use Prim.Native.Nat.{ℕ, suc, _+_, _-_, _≤_, _<_}
 use mathlib.Core.Path.{_≡_, refl, sym, _∙_, ap, subst}
-use mathlib.Core.Logic.{_≢_, _⊎_, inl, inr}
+use mathlib.Core.Logic.{_⊎_, inl, inr}
 use mathlib.Core.List.{List}
 use native.Mathlib.Decide.{ℕ-discrete}
 use native.Mathlib.Omega.{arith}
 use lib.ListN.{length, getD, set, length-set}
 use borrow.Author.Tests.{eq-eqb, ne-eqb}
-use Rattle.sheet.specs.Held.{relabelled}
-use Rattle.sheet.specs.Limits.{sheetLinks}
+use Rattle.rows.specs.Held.{relabelled}
+use Rattle.rows.specs.Limits.{sheetLinks}
 use Rattle.sheet.specs.declared.normal.Normal as form
 use Rattle.placing.specs.Net.{Range}
 use Rattle.placing.specs.Placing.{numberAt}
+use Rattle.placing.proofs.Joined.{relabelled-hit, relabelled-miss}
 use Rattle.completing.specs.Reach.{Reach, stay, move}
 use Rattle.completing.proofs.Reaching.{reach-then}
 use Rattle.faults.specs.Labels.{Tie, Sound, Grew, Tied}
 use Rattle.faults.proofs.Tables.{below-set, above-set, below-next}
-
-pub relabelled-hit : (from to c : ℕ) → c ≡ from → relabelled from to c ≡ to
-relabelled-hit from to c e = rw (eq-eqb c from e)
-
-pub relabelled-miss : (from to c : ℕ) → ¬ (c ≡ from) → relabelled from to c ≡ c
-relabelled-miss from to c e = rw (ne-eqb c from e)
 
 pub relabelled-same : (from to c : ℕ) → to ≡ from → relabelled from to c ≡ c
 relabelled-same from to c e = go (ℕ-discrete c from)
@@ -31,8 +26,8 @@ relabelled-same from to c e = go (ℕ-discrete c from)
     go (no q) = relabelled-miss from to c q
 
 -- a tie holds both ways
-pub tie-back : (figure : form.Normal) (to : List ℕ) (none x z : ℕ) → Tie figure to none x z → Tie figure to none z x
-tie-back figure to none x z t = record {
+pub tie-back : (figure : form.Normal) (to : List ℕ) (x z : ℕ) → Tie figure to x z → Tie figure to z x
+tie-back figure to x z t = record {
   row = t .row;
   first = t .second;
   second = t .first;
@@ -42,7 +37,6 @@ tie-back figure to none x z t = record {
   one = t .two;
   two = t .one;
   together = sym (t .together);
-  not-none = λ e. t .not-none (t .together ∙ e);
 }
 
 -- Links a and b, from 0, are joined.
@@ -58,17 +52,17 @@ module _ (labels next : List ℕ) (a b : ℕ) (ra : a < sheetLinks) (rb : b < sh
       go (yes q) = relabelled-hit _ _ _ q
       go (no q) = relabelled-miss _ _ _ q
 
-  pub joined-sound : (figure : form.Normal) (to : List ℕ) (none : ℕ) → Tie figure to none (suc a) (suc b) → Sound figure to none labels → Sound figure to none next
-  joined-sound figure to none t s x z h k e = at (ℕ-discrete (getD labels x 0) (getD labels b 0)) (ℕ-discrete (getD labels z 0) (getD labels b 0))
+  pub joined-sound : (figure : form.Normal) (to : List ℕ) → Tie figure to (suc a) (suc b) → Sound figure to labels → Sound figure to next
+  joined-sound figure to t s x z h k e = at (ℕ-discrete (getD labels x 0) (getD labels b 0)) (ℕ-discrete (getD labels z 0) (getD labels b 0))
     where
       R : ℕ → ℕ → Type 0
-      R = Tie figure to none
+      R = Tie figure to
 
       both : relabelled (getD labels b 0) (getD labels a 0) (getD labels x 0) ≡ relabelled (getD labels b 0) (getD labels a 0) (getD labels z 0)
       both = sym (new x h) ∙ e ∙ new z k
 
       back : Reach R (suc b) (suc a)
-      back = move (tie-back figure to none (suc a) (suc b) t) stay
+      back = move (tie-back figure to (suc a) (suc b) t) stay
 
       at : Dec (getD labels x 0 ≡ getD labels b 0) → Dec (getD labels z 0 ≡ getD labels b 0) → Reach R (suc x) (suc z)
       at (yes i) (yes j) = s x z h k (i ∙ sym j)
@@ -76,11 +70,11 @@ module _ (labels next : List ℕ) (a b : ℕ) (ra : a < sheetLinks) (rb : b < sh
       at (no i) (yes j) = reach-then R (s x a h ra (sym (relabelled-miss _ _ _ i) ∙ both ∙ relabelled-hit _ _ _ j)) (reach-then R (move t stay) (s b z rb k (sym j)))
       at (no i) (no j) = s x z h k (sym (relabelled-miss _ _ _ i) ∙ both ∙ relabelled-miss _ _ _ j)
 
-module _ (to : List ℕ) (none : ℕ) (ports : List ℕ) (count : ℕ) where
-  pub grew-same : (l : List ℕ) → Grew to none ports count l l
+module _ (to ports : List ℕ) (count : ℕ) where
+  pub grew-same : (l : List ℕ) → Grew to ports count l l
   grew-same l = record { kept = λ x z h k e. e; sound = λ f r i j k s. s }
 
-  pub grew-then : (l m n : List ℕ) → Grew to none ports count l m → Grew to none ports count m n → Grew to none ports count l n
+  pub grew-then : (l m n : List ℕ) → Grew to ports count l m → Grew to ports count m n → Grew to ports count l n
   grew-then l m n f g = record {
     kept = λ x z h k e. g .kept x z h k (f .kept x z h k e);
     sound = λ figure row i j k s. g .sound figure row i j k (f .sound figure row i j k s);
@@ -89,19 +83,19 @@ module _ (to : List ℕ) (none : ℕ) (ports : List ℕ) (count : ℕ) where
   -- ports that were tied stay tied
   pub tied-kept : ((k : ℕ) → k < count → Range sheetLinks (getD ports k 0)) → (l m : List ℕ)
       → ((x z : ℕ) → x < sheetLinks → z < sheetLinks → getD l x 0 ≡ getD l z 0 → getD m x 0 ≡ getD m z 0)
-      → (k : ℕ) → k < count → Tied to none ports count l k → Tied to none ports count m k
-  tied-kept r l m g k h t i n e q =
+      → (k : ℕ) → k < count → Tied to ports count l k → Tied to ports count m k
+  tied-kept r l m g k h t i n e =
       let a = r i n in let b = r k h in
-      g (getD ports i 0 - 1) (getD ports k 0 - 1) (omega (arith, a .0, a .1)) (omega (arith, b .0, b .1)) (t i n e q)
+      g (getD ports i 0 - 1) (getD ports k 0 - 1) (omega (arith, a .0, a .1)) (omega (arith, b .0, b .1)) (t i n e)
 
   -- two ports that go to one sheet link are joined
   pub grew-joined : (at k : ℕ) → at < count → k < count → Range sheetLinks (getD ports at 0) → Range sheetLinks (getD ports k 0)
-      → numberAt to (getD ports k 0) ≡ numberAt to (getD ports at 0) → numberAt to (getD ports at 0) ≢ none → (labels next : List ℕ)
+      → numberAt to (getD ports k 0) ≡ numberAt to (getD ports at 0) → (labels next : List ℕ)
       → ((x : ℕ) → x < sheetLinks → getD next x 0 ≡ relabelled (numberAt labels (getD ports k 0)) (numberAt labels (getD ports at 0)) (getD labels x 0))
-      → Grew to none ports count labels next
-  grew-joined at k ha hk ra rk e n labels next new = record {
+      → Grew to ports count labels next
+  grew-joined at k ha hk ra rk e labels next new = record {
     kept = joined-kept labels next (a - 1) (b - 1) ia ib new;
-    sound = λ figure row i c p. joined-sound labels next (a - 1) (b - 1) ia ib new figure to none (record {
+    sound = λ figure row i c p. joined-sound labels next (a - 1) (b - 1) ia ib new figure to (record {
       row = row;
       first = at;
       second = k;
@@ -111,7 +105,6 @@ module _ (to : List ℕ) (none : ℕ) (ports : List ℕ) (count : ℕ) where
       one = ap (λ (l : List ℕ). getD l at 0) p ∙ up a ra;
       two = ap (λ (l : List ℕ). getD l k 0) p ∙ up b rk;
       together = ap (λ (c : ℕ). getD to c 0) (down a) ∙ sym e ∙ sym (ap (λ (c : ℕ). getD to c 0) (down b));
-      not-none = λ q. n (sym (ap (λ (c : ℕ). getD to c 0) (down a)) ∙ q);
     });
   }
     where
@@ -134,15 +127,15 @@ module _ (to : List ℕ) (none : ℕ) (ports : List ℕ) (count : ℕ) where
       down c = omega arith
 
   -- one port more
-  module _ (at k : ℕ) (ha : at < count) (hk : k < count) (r : (i : ℕ) → i < count → Range sheetLinks (getD ports i 0)) (n : numberAt to (getD ports at 0) ≢ none) where
+  module _ (at k : ℕ) (ha : at < count) (hk : k < count) (r : (i : ℕ) → i < count → Range sheetLinks (getD ports i 0)) where
     abbrev Same : List ℕ → ℕ → Type 0
     Same l i = numberAt to (getD ports i 0) ≡ numberAt to (getD ports at 0) → numberAt l (getD ports i 0) ≡ numberAt l (getD ports at 0)
 
-    pub port-step : (labels next m : List ℕ) → Grew to none ports count labels next → ((i : ℕ) → i < k → Same next i)
+    pub port-step : (labels next m : List ℕ) → Grew to ports count labels next → ((i : ℕ) → i < k → Same next i)
         → ((numberAt to (getD ports k 0) ≡ numberAt to (getD ports at 0))
         × ((x : ℕ) → x < sheetLinks → getD m x 0 ≡ relabelled (numberAt next (getD ports k 0)) (numberAt next (getD ports at 0)) (getD next x 0)))
         ⊎ ((¬ (numberAt to (getD ports k 0) ≡ numberAt to (getD ports at 0))) × (m ≡ next))
-        → Grew to none ports count labels m × ((i : ℕ) → i < k + 1 → Same m i)
+        → Grew to ports count labels m × ((i : ℕ) → i < k + 1 → Same m i)
     port-step labels next m g f (inl w) = (
       grew-then labels next m g new,
       below-next (Same m) k
@@ -150,20 +143,20 @@ module _ (to : List ℕ) (none : ℕ) (ports : List ℕ) (count : ℕ) where
           (λ e. let a = r at ha in let b = r k hk in sym (joined-one next m (getD ports at 0 - 1) (getD ports k 0 - 1) (omega (arith, a .0, a .1)) (omega (arith, b .0, b .1)) (w .1))),
     )
       where
-        new : Grew to none ports count next m
-        new = grew-joined at k ha hk (r at ha) (r k hk) (w .0) n next m (w .1)
+        new : Grew to ports count next m
+        new = grew-joined at k ha hk (r at ha) (r k hk) (w .0) next m (w .1)
     port-step labels next m g f (inr w) = (
-      subst (Grew to none ports count labels) (sym (w .1)) g,
+      subst (Grew to ports count labels) (sym (w .1)) g,
       below-next (Same m) k
           (λ i h. subst (λ (l : List ℕ). Same l i) (sym (w .1)) (f i h)) (λ e. absurd (w .0 e)),
     )
 
 -- each link its own label
-pub own-sound : (figure : form.Normal) (to : List ℕ) (none : ℕ) (labels : List ℕ) → ((x : ℕ) → x < sheetLinks → getD labels x 0 ≡ x + 1) → Sound figure to none labels
-own-sound figure to none labels f x z h k e =
+pub own-sound : (figure : form.Normal) (to labels : List ℕ) → ((x : ℕ) → x < sheetLinks → getD labels x 0 ≡ x + 1) → Sound figure to labels
+own-sound figure to labels f x z h k e =
     let p = f x h in let q = f z k in
     let i : suc x ≡ suc z = omega arith in
-    subst (Reach (Tie figure to none) (suc x)) i stay
+    subst (Reach (Tie figure to) (suc x)) i stay
 
 -- one link more, whose label may change
 module _ (from to : ℕ) (start l : List ℕ) (x : ℕ) (h : x < length l)

@@ -6,6 +6,7 @@ pub mod Reading
 pub mod Labels
 pub mod Owners
 pub mod Linking
+pub mod Tearing
 -- A component.
 pub mod Growing
 pub mod Whole

@@ -17,6 +17,19 @@ use Rattle.faults.specs.Flags.{Within}
 use Rattle.faults.specs.Labels.{Tie, Labelled, Meet, Apart}
 use Rattle.faults.proofs.Reading.{context-in, context-of, port-in, port-place, link-at}
 
+-- linked links have one label
+pub linked-label : (S : Net) (figure : form.Normal) (f : Fit figure) (atoms to labels : List ℕ) → Labelled figure to labels → (y : ℕ) {a b : ℕ} → Linked S (netIn figure) (stateIn figure atoms to) y a b
+    → numberAt labels a ≡ numberAt labels b
+linked-label S figure f atoms to labels w y here = refl
+linked-label S figure f atoms to labels w y (step {x} {x′} s l) =
+    let c = context-of figure f (s .row) (s .of-figure) in
+    let k = port-place figure f (c .0) x (c .1) (subst (λ (r : NetCell). x ∈ r .1) (sym (c .2)) (s .first)) in
+    let k′ = port-place figure f (c .0) x′ (c .1) (subst (λ (r : NetCell). x′ ∈ r .1) (sym (c .2)) (s .second)) in
+    let a : numberAt to x ≡ y = sym (link-at figure f S atoms to x (s .first-at .figure-link)) ∙ s .first-at .there in
+    let b : numberAt to x′ ≡ y = sym (link-at figure f S atoms to x′ (s .second-at .figure-link)) ∙ s .second-at .there in
+    let e = w .complete (c .0) (k′ .0) (c .1) (k′ .1) (k .0) (k .1) (ap (numberAt to) (k .2) ∙ a ∙ sym (ap (numberAt to) (k′ .2) ∙ b)) in
+    sym (ap (numberAt labels) (k .2)) ∙ e ∙ ap (numberAt labels) (k′ .2) ∙ linked-label S figure f atoms to labels w y l
+
 module _ (S : Net) (figure : form.Normal) (f : Fit figure) (atoms to : List ℕ) (none : ℕ) (last : none ≡ S .links + 1) (within : Within none (figure .«class_count») to) where
   abbrev F : Net
   F = netIn figure
@@ -33,7 +46,7 @@ module _ (S : Net) (figure : form.Normal) (f : Fit figure) (atoms to : List ℕ)
   port-of : (c k x : ℕ) → c < figure .«context_count» → k < contextAt figure c .count → getD (contextAt figure c .links) k 0 ≡ x → x ∈ (contextIn (contextAt figure c)) .1
   port-of c k x h l e = subst (λ (z : ℕ). z ∈ take (contextAt figure c .count) (contextAt figure c .links)) e (port-in figure f c k h l)
 
-  reach-linked : {a b : ℕ} (y : ℕ) → Reach (Tie figure to none) a b → At S F q a y → Linked S F q y a b
+  reach-linked : {a b : ℕ} (y : ℕ) → Reach (Tie figure to) a b → At S F q a y → Linked S F q y a b
   reach-linked y stay h = here
   reach-linked {a} y (move {y = c} t r) h = step (record {
     row = contextIn (contextAt figure (t .row));
@@ -64,19 +77,7 @@ module _ (S : Net) (figure : form.Normal) (f : Fit figure) (atoms to : List ℕ)
         not-none = λ e. let u : y ≤ S .links = h .sheet-link .1 in omega arith;
       }) in
       let r = w .labelled .sound (x - 1) (x′ - 1) (let l = f .class-count in omega arith) (let l = f .class-count in omega arith) e in
-      reach-linked y (subst (λ (z : ℕ). Reach (Tie figure to none) z x′) i (subst (Reach (Tie figure to none) (suc (x - 1))) j r)) h
-
-  linked-label : (labels : List ℕ) → Labelled figure to none labels → (y : ℕ) {a b : ℕ} → Linked S F q y a b → numberAt labels a ≡ numberAt labels b
-  linked-label labels w y here = refl
-  linked-label labels w y (step {x} {x′} s l) =
-      let c = context-of figure f (s .row) (s .of-figure) in
-      let k = port-place figure f (c .0) x (c .1) (subst (λ (r : NetCell). x ∈ r .1) (sym (c .2)) (s .first)) in
-      let k′ = port-place figure f (c .0) x′ (c .1) (subst (λ (r : NetCell). x′ ∈ r .1) (sym (c .2)) (s .second)) in
-      let a : numberAt to x ≡ y = sym (goes x (s .first-at .figure-link)) ∙ s .first-at .there in
-      let b : numberAt to x′ ≡ y = sym (goes x′ (s .second-at .figure-link)) ∙ s .second-at .there in
-      let u : y ≤ S .links = s .first-at .sheet-link .1 in
-      let e = w .complete (c .0) (k′ .0) (c .1) (k′ .1) (k .0) (k .1) (ap (numberAt to) (k .2) ∙ a ∙ sym (ap (numberAt to) (k′ .2) ∙ b)) (λ n. let v : y ≡ none = sym (ap (numberAt to) (k′ .2) ∙ b) ∙ n in omega arith) in
-      sym (ap (numberAt labels) (k .2)) ∙ e ∙ ap (numberAt labels) (k′ .2) ∙ linked-label labels w y l
+      reach-linked y (subst (λ (z : ℕ). Reach (Tie figure to) z x′) i (subst (Reach (Tie figure to) (suc (x - 1))) j r)) h
 
   pub two-apart : (y : ℕ) → y ≢ 0 → Apart figure to none y → TwoApart S F q y
   two-apart y n w = record {
@@ -84,7 +85,7 @@ module _ (S : Net) (figure : form.Normal) (f : Fit figure) (atoms to : List ℕ)
     two = suc (t .1);
     one-at = record { figure-link = ra; sheet-link = ry; there = goes (suc (t .0)) ra ∙ ap (λ (i : ℕ). getD to i 0) (down (t .0)) ∙ t .2 .first-at };
     two-at = record { figure-link = rb; sheet-link = ry; there = goes (suc (t .1)) rb ∙ ap (λ (i : ℕ). getD to i 0) (down (t .1)) ∙ t .2 .second-at };
-    not-linked = λ l. t .3 (ap (λ (i : ℕ). getD (w .labels) i 0) (sym (down (t .0))) ∙ linked-label (w .labels) (w .labelled) y l ∙ ap (λ (i : ℕ). getD (w .labels) i 0) (down (t .1)));
+    not-linked = λ l. t .3 (ap (λ (i : ℕ). getD (w .labels) i 0) (sym (down (t .0))) ∙ linked-label S figure f atoms to (w .labels) (w .labelled) y l ∙ ap (λ (i : ℕ). getD (w .labels) i 0) (down (t .1)));
   }
     where
       t : (x : ℕ) × (z : ℕ) × Meet figure to none x z y × (getD (w .labels) x 0 ≢ getD (w .labels) z 0)

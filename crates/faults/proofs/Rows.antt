@@ -3,8 +3,8 @@ use Prim.Native.Nat.{ℕ, _-_, _≤_, _<_}
 use mathlib.Core.List.{List}
 use native.Mathlib.Omega.{arith}
 use lib.ListN.{getD}
-use Rattle.sheet.specs.Format.{mostLinks}
-use Rattle.sheet.specs.Limits.{sheetLinks}
+use Rattle.rows.specs.Format.{mostLinks}
+use Rattle.rows.specs.Limits.{sheetLinks}
 use Rattle.sheet.specs.declared.normal.Normal as form
 use Rattle.placing.specs.Net.{Range}
 use Rattle.network.specs.NetIn.{atomAt, contextAt, Used, Fit}

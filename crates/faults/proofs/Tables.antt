@@ -10,7 +10,7 @@ use lib.ListN.{length, getD, set, replicate, length-set}
 use lib.Seq.{getD-set-same, getD-set-other}
 use lib.Dec.{eqb}
 use borrow.Author.Tests.{ne-eqb}
-use Rattle.sheet.specs.Pick.{pick}
+use Rattle.rows.specs.Pick.{pick}
 use Rattle.faults.specs.Grows.{ones}
 
 -- what holds of the entries below x holds of one more when it is stored

@@ -6,7 +6,7 @@ use mathlib.Core.List.{List, [], List·Memᴰ·head, List·Memᴰ·not-nil, Mem�
 use native.Mathlib.Omega.{arith}
 use lib.ListN.{getD, set, replicate, length-set}
 use Rattle.hyperlmntal.specs.Link.{_∈_}
-use Rattle.sheet.specs.Limits.{sheetAtoms}
+use Rattle.rows.specs.Limits.{sheetAtoms}
 use Rattle.sheet.specs.declared.normal.Normal as form
 use Rattle.placing.specs.Net.{Net, Normal}
 use Rattle.placing.specs.Placing.{Placing, cellAt}

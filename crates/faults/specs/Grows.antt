@@ -6,8 +6,8 @@ use mathlib.Core.List.{List, [], _∷_, map}
 use lib.Dec.{eqb}
 use lib.ListN.{length, take, getD, set, replicate}
 use Rattle.hyperlmntal.specs.Link.{_∈_}
-use Rattle.sheet.specs.Pick.{pick}
-use Rattle.sheet.specs.Limits.{sheetAtoms, sheetLinks}
+use Rattle.rows.specs.Pick.{pick}
+use Rattle.rows.specs.Limits.{sheetAtoms, sheetLinks}
 use Rattle.sheet.specs.declared.normal.Normal as form
 use Rattle.placing.specs.Net.{Net, Range, Normal}
 use Rattle.placing.specs.Placing.{Placing, numberAt, cellAt, Across, PortAt}

@@ -4,14 +4,15 @@ use mathlib.Core.Path.{_≡_}
 use mathlib.Core.Logic.{_≢_}
 use mathlib.Core.List.{List}
 use lib.ListN.{getD}
-use Rattle.sheet.specs.Limits.{sheetLinks}
+use Rattle.rows.specs.Held.{relabelled}
+use Rattle.rows.specs.Limits.{sheetLinks}
 use Rattle.sheet.specs.declared.normal.Normal as form
 use Rattle.placing.specs.Placing.{numberAt}
 use Rattle.network.specs.NetIn.{contextAt}
 use Rattle.completing.specs.Reach.{Reach}
 
 -- two links of one context that go to one sheet link
-pub record Tie (figure : form.Normal) (to : List ℕ) (none : ℕ) (x z : ℕ) : Type 0 where
+pub record Tie (figure : form.Normal) (to : List ℕ) (x z : ℕ) : Type 0 where
   pub row : ℕ
   pub first : ℕ
   pub second : ℕ
@@ -21,27 +22,29 @@ pub record Tie (figure : form.Normal) (to : List ℕ) (none : ℕ) (x z : ℕ) :
   pub one : getD (contextAt figure row .links) first 0 ≡ x
   pub two : getD (contextAt figure row .links) second 0 ≡ z
   pub together : numberAt to x ≡ numberAt to z
-  pub not-none : numberAt to x ≢ none
 
 -- links with one label are tied
-abbrev pub Sound : form.Normal → List ℕ → ℕ → List ℕ → Type 0
-Sound figure to none labels = (x z : ℕ) → x < sheetLinks → z < sheetLinks → getD labels x 0 ≡ getD labels z 0 → Reach (Tie figure to none) (suc x) (suc z)
+abbrev pub Sound : form.Normal → List ℕ → List ℕ → Type 0
+Sound figure to labels = (x z : ℕ) → x < sheetLinks → z < sheetLinks → getD labels x 0 ≡ getD labels z 0 → Reach (Tie figure to) (suc x) (suc z)
+
+-- one label for another
+abbrev pub Relabelled : List ℕ → List ℕ → ℕ → ℕ → Type 0
+Relabelled labels next from to = (x : ℕ) → x < sheetLinks → getD next x 0 ≡ relabelled from to (getD labels x 0)
 
 -- From labels to next: what has one label keeps one label, and the new ones are tied if these ports are those of a context.
-pub record Grew (to : List ℕ) (none : ℕ) (ports : List ℕ) (count : ℕ) (labels next : List ℕ) : Type 0 where
+pub record Grew (to ports : List ℕ) (count : ℕ) (labels next : List ℕ) : Type 0 where
   pub kept : (x z : ℕ) → x < sheetLinks → z < sheetLinks → getD labels x 0 ≡ getD labels z 0 → getD next x 0 ≡ getD next z 0
   pub sound : (figure : form.Normal) (row : ℕ) → row < figure .«context_count» → contextAt figure row .count ≡ count → contextAt figure row .links ≡ ports
-      → Sound figure to none labels → Sound figure to none next
+      → Sound figure to labels → Sound figure to next
 
 -- the port has the label of each that goes to the same sheet link
-abbrev pub Tied : List ℕ → ℕ → List ℕ → ℕ → List ℕ → ℕ → Type 0
-Tied to none ports count labels k =
-    (i : ℕ) → i < count → numberAt to (getD ports i 0) ≡ numberAt to (getD ports k 0) → numberAt to (getD ports k 0) ≢ none
-    → numberAt labels (getD ports i 0) ≡ numberAt labels (getD ports k 0)
+abbrev pub Tied : List ℕ → List ℕ → ℕ → List ℕ → ℕ → Type 0
+Tied to ports count labels k =
+    (i : ℕ) → i < count → numberAt to (getD ports i 0) ≡ numberAt to (getD ports k 0) → numberAt labels (getD ports i 0) ≡ numberAt labels (getD ports k 0)
 
-pub record Labelled (figure : form.Normal) (to : List ℕ) (none : ℕ) (labels : List ℕ) : Type 0 where
-  pub sound : Sound figure to none labels
-  pub complete : (c k : ℕ) → c < figure .«context_count» → k < contextAt figure c .count → Tied to none (contextAt figure c .links) (contextAt figure c .count) labels k
+pub record Labelled (figure : form.Normal) (to labels : List ℕ) : Type 0 where
+  pub sound : Sound figure to labels
+  pub complete : (c k : ℕ) → c < figure .«context_count» → k < contextAt figure c .count → Tied to (contextAt figure c .links) (contextAt figure c .count) labels k
 
 -- x and z, from 0, are figure links that go to y, and y is not none
 pub record Meet (figure : form.Normal) (to : List ℕ) (none x z y : ℕ) : Type 0 where
@@ -54,6 +57,24 @@ pub record Meet (figure : form.Normal) (to : List ℕ) (none x z y : ℕ) : Type
 -- By labels: 0 where links that meet have one label, else where two meet that have not.
 pub record Apart (figure : form.Normal) (to : List ℕ) (none y : ℕ) : Type 0 where
   pub labels : List ℕ
-  pub labelled : Labelled figure to none labels
+  pub labelled : Labelled figure to labels
   pub all-one : y ≡ 0 → (x z w : ℕ) → Meet figure to none x z w → getD labels x 0 ≡ getD labels z 0
   pub two-apart : y ≢ 0 → (x : ℕ) × (z : ℕ) × Meet figure to none x z y × (getD labels x 0 ≢ getD labels z 0)
+
+-- link x, from 0, is at y where it has a flag, else where `to` has it
+pub record GatheredAt (to flags : List ℕ) (y x v : ℕ) : Type 0 where
+  pub with-flag : getD flags x 0 ≡ 1 → v ≡ y
+  pub kept : getD flags x 0 ≢ 1 → v ≡ getD to x 0
+
+abbrev pub Gathered : List ℕ → List ℕ → ℕ → ℕ → List ℕ → Type 0
+Gathered to flags y n r = (x : ℕ) → x < n → GatheredAt to flags y x (getD r x 0)
+
+-- two of the first n links go to y and have different labels
+pub record Differ (labels to : List ℕ) (y n : ℕ) : Type 0 where
+  pub one : ℕ
+  pub two : ℕ
+  pub one-in : one < n
+  pub two-in : two < n
+  pub one-at : getD to one 0 ≡ y
+  pub two-at : getD to two 0 ≡ y
+  pub other-label : getD labels one 0 ≢ getD labels two 0

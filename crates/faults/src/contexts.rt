@@ -1,12 +1,12 @@
 // Which contexts may hold a component: those with a port at each of its links where figure links go.
 use crate::PORTS;
-use sheet::Sheet;
+use rows::Sheet;
 use sheet::normal::Normal;
 ghost use mathlib.Core.Path.{_≡_};
 ghost use mathlib.Core.Logic.{_↔_};
 ghost use Prim.Native.Nat.{ℕ, _+_, _*_, _<_, _≤_};
 ghost use lib.ListN.{length, getD};
-ghost use Rattle.sheet.specs.Limits.{sheetLinks, figureContexts};
+ghost use Rattle.rows.specs.Limits.{sheetLinks, figureContexts};
 ghost use Rattle.network.specs.NetIn.{Fit};
 ghost use Rattle.faults.specs.Grows.{Least};
 

@@ -3,15 +3,15 @@
 use crate::PORTS;
 use crate::TOUCHES;
 use crate::contexts::left_at;
-use sheet::Sheet;
+use rows::Sheet;
 use sheet::normal::Normal;
 ghost use mathlib.Core.Path.{_≡_};
 ghost use mathlib.Core.Logic.{_≢_};
 ghost use Prim.Native.Nat.{ℕ, suc, _+_, _*_, _-_, _<_, _≤_};
 ghost use lib.ListN.{length, getD};
 ghost use Rattle.hyperlmntal.specs.Link.{_∈_};
-ghost use Rattle.sheet.specs.Format.{mostLinks};
-ghost use Rattle.sheet.specs.Limits.{sheetAtoms, sheetLinks, figureContexts};
+ghost use Rattle.rows.specs.Format.{mostLinks};
+ghost use Rattle.rows.specs.Limits.{sheetAtoms, sheetLinks, figureContexts};
 ghost use Rattle.placing.specs.Net.{Net, Range};
 ghost use Rattle.placing.specs.Placing.{Placing, cellAt};
 ghost use Rattle.network.specs.NetIn.{netIn, Fit};

@@ -5,9 +5,10 @@ mod growth;
 pub mod lookup;
 mod part;
 mod steps;
+pub mod torn;
 mod ways;
 
-use sheet::Sheet;
+use rows::Sheet;
 
 // Sizes of flat tables.
 pub const TOUCHES: usize = Sheet::LINKS * Sheet::ATOMS;

@@ -1,14 +1,14 @@
 // What is looked up while a component is grown.
 use crate::PORTS;
 use crate::TOUCHES;
-use sheet::Sheet;
+use rows::Sheet;
 use sheet::normal::Normal;
 ghost use mathlib.Core.Path.{_≡_};
 ghost use mathlib.Core.Logic.{_↔_, _⊎_};
 ghost use Prim.Native.Nat.{ℕ, _+_, _*_, _-_, _<_, _≤_};
 ghost use lib.ListN.{length, getD};
-ghost use Rattle.sheet.specs.Format.{mostLinks};
-ghost use Rattle.sheet.specs.Limits.{sheetAtoms, sheetLinks};
+ghost use Rattle.rows.specs.Format.{mostLinks};
+ghost use Rattle.rows.specs.Limits.{sheetAtoms, sheetLinks};
 ghost use Rattle.placing.specs.Net.{Range};
 ghost use Rattle.network.specs.NetIn.{Fit, contextAt};
 ghost use Rattle.network.specs.Ready.{TouchesIn};

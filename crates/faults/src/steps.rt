@@ -1,20 +1,18 @@
 // Figure links that go to one sheet link: are they linked by steps, each between two links of one context?
-use sheet::Sheet;
+use rows::Sheet;
 use sheet::normal::Normal;
 ghost use mathlib.Core.Path.{_≡_};
 ghost use Prim.Native.Nat.{ℕ, _+_, _<_, _≤_};
 ghost use lib.ListN.{length, getD};
-ghost use Rattle.sheet.specs.Format.{mostLinks};
-ghost use Rattle.sheet.specs.Held.{relabelled};
-ghost use Rattle.sheet.specs.Limits.{sheetLinks};
+ghost use Rattle.rows.specs.Format.{mostLinks};
+ghost use Rattle.rows.specs.Limits.{sheetLinks};
 ghost use Rattle.sheet.specs.declared.normal.Normal as form;
 ghost use Rattle.placing.specs.Net.{Range};
-ghost use Rattle.placing.specs.Placing.{numberAt};
 ghost use Rattle.network.specs.NetIn.{Fit, contextAt};
-ghost use Rattle.faults.specs.Labels.{Grew, Tied, Labelled, Apart};
+ghost use Rattle.faults.specs.Labels.{Relabelled, Grew, Tied, Labelled, Apart};
 
 // Each link its own label.
-fn own_labels() -> [u16; Sheet::LINKS]
+pub(crate) fn own_labels() -> [u16; Sheet::LINKS]
     ensures { λ r. ⌜ ((x : ℕ) → x < sheetLinks → getD r x 0 ≡ x + 1) ⌝ }
 {
     let mut labels = [0u16; Sheet::LINKS];
@@ -26,88 +24,73 @@ fn own_labels() -> [u16; Sheet::LINKS]
     labels
 }
 
-// The label of link a for all that have the label of link b.
-fn joined(labels: [u16; Sheet::LINKS], a: u16, b: u16) -> [u16; Sheet::LINKS]
-    requires { ⌜ Range sheetLinks a × Range sheetLinks b ⌝ }
-    ensures { λ r. ⌜ ((x : ℕ) → x < sheetLinks → getD r x 0 ≡ relabelled (numberAt labels b) (numberAt labels a) (getD labels x 0)) ⌝ }
+// One label for another.
+fn relabel(labels: &mut [u16; Sheet::LINKS], from: u16, to: u16)
+    requires { ⌜ length (now labels) ≡ sheetLinks ⌝ }
+    ensures { λ r. ⌜ (length (now (labels .exit)) ≡ sheetLinks) × Relabelled (now (labels .entry)) (now (labels .exit)) from to ⌝ }
 {
-    let to = labels[(a - 1) as usize];
-    let from = labels[(b - 1) as usize];
-    let mut next = labels;
-    if to == from {
-        return next;
-    }
     let mut x = 0;
     while x < Sheet::LINKS {
-        if next[x] == from {
-            next[x] = to;
+        if labels[x] == from {
+            labels[x] = to;
         }
         x += 1;
     }
-    next
 }
 
 // One link of a context with each of its links that goes to the same sheet link.
 fn with_port(
-    labels: [u16; Sheet::LINKS],
-    to: [u16; Sheet::LINKS],
-    none: u16,
+    labels: &mut [u16; Sheet::LINKS],
+    to: &[u16; Sheet::LINKS],
     ports: [u16; Sheet::MOST_LINKS],
     count: usize,
     at: usize,
-) -> [u16; Sheet::LINKS]
-    requires { ⌜ (at < count) × (count ≤ mostLinks) × ((k : ℕ) → k < count → Range sheetLinks (getD ports k 0)) ⌝ }
-    ensures { λ r. ⌜ Grew to none ports count labels r × Tied to none ports count r at ⌝ }
+)
+    requires { ⌜ (at < count) × (count ≤ mostLinks) × ((k : ℕ) → k < count → Range sheetLinks (getD ports k 0)) × (length (now labels) ≡ sheetLinks) ⌝ }
+    ensures { λ r. ⌜ (length (now (labels .exit)) ≡ sheetLinks) × Grew (now (to .entry)) ports count (now (labels .entry)) (now (labels .exit)) × Tied (now (to .entry)) ports count (now (labels .exit)) at ⌝ }
 {
     let a = ports[at];
     let y = to[(a - 1) as usize];
-    let mut next = labels;
-    if y == none {
-        return next;
-    }
     let mut k = 0;
     while k < count {
         let b = ports[k];
         if to[(b - 1) as usize] == y {
-            let both = joined(next, a, b);
-            next = both;
+            let from = labels[(b - 1) as usize];
+            let label = labels[(a - 1) as usize];
+            if from != label {
+                relabel(&mut *labels, from, label);
+            }
         }
         k += 1;
     }
-    next
 }
 
 fn with_context(
-    labels: [u16; Sheet::LINKS],
-    to: [u16; Sheet::LINKS],
-    none: u16,
+    labels: &mut [u16; Sheet::LINKS],
+    to: &[u16; Sheet::LINKS],
     ports: [u16; Sheet::MOST_LINKS],
     count: usize,
-) -> [u16; Sheet::LINKS]
-    requires { ⌜ (count ≤ mostLinks) × ((k : ℕ) → k < count → Range sheetLinks (getD ports k 0)) ⌝ }
-    ensures { λ r. ⌜ Grew to none ports count labels r × ((k : ℕ) → k < count → Tied to none ports count r k) ⌝ }
+)
+    requires { ⌜ (count ≤ mostLinks) × ((k : ℕ) → k < count → Range sheetLinks (getD ports k 0)) × (length (now labels) ≡ sheetLinks) ⌝ }
+    ensures { λ r. ⌜ (length (now (labels .exit)) ≡ sheetLinks) × Grew (now (to .entry)) ports count (now (labels .entry)) (now (labels .exit)) × ((k : ℕ) → k < count → Tied (now (to .entry)) ports count (now (labels .exit)) k) ⌝ }
 {
-    let mut next = labels;
     let mut k = 0;
     while k < count {
-        let more = with_port(next, to, none, ports, count, k);
-        next = more;
+        with_port(&mut *labels, to, ports, count, k);
         k += 1;
     }
-    next
 }
 
-fn step_labels(figure: Normal, to: [u16; Sheet::LINKS], none: u16) -> [u16; Sheet::LINKS]
+pub(crate) fn step_labels(figure: Normal, to: &[u16; Sheet::LINKS]) -> [u16; Sheet::LINKS]
     requires { ⌜ Fit figure ⌝ }
-    ensures { λ r. ⌜ Labelled figure to none r ⌝ }
+    ensures { λ r. ⌜ Labelled figure (now (to .entry)) r ⌝ }
 {
     let mut labels = own_labels();
     let mut c = 0;
     while c < figure.context_count {
         let row = figure.contexts[c];
         let ports = row.links;
-        let more = with_context(labels, to, none, ports, row.count as usize);
-        labels = more;
+        with_context(&mut labels, to, ports, row.count as usize);
         c += 1;
     }
     labels
@@ -118,7 +101,7 @@ pub(crate) fn apart(figure: Normal, to: [u16; Sheet::LINKS], none: u16) -> u16
     requires { ⌜ Fit figure × (none ≤ sheetLinks + 1) × ((x : ℕ) → x < figure .«class_count» → Range none (getD to x 0)) ⌝ }
     ensures { λ r. ⌜ Apart figure to none r ⌝ }
 {
-    let labels = step_labels(figure, to, none);
+    let labels = step_labels(figure, &to);
     let mut owner = [0u16; Sheet::LINKS];
     let mut x = 0;
     while x < figure.class_count {

@@ -3,11 +3,11 @@
 use crate::PORTS;
 use crate::contexts::left_at;
 use crate::growth::Growth;
-use sheet::Sheet;
+use rows::Sheet;
 use sheet::normal::Normal;
 ghost use Prim.Native.Nat.{_<_, _≤_};
-ghost use Rattle.sheet.specs.Format.{mostLinks};
-ghost use Rattle.sheet.specs.Limits.{sheetAtoms, sheetLinks, figureContexts};
+ghost use Rattle.rows.specs.Format.{mostLinks};
+ghost use Rattle.rows.specs.Limits.{sheetAtoms, sheetLinks, figureContexts};
 ghost use Rattle.network.specs.NetIn.{Fit};
 ghost use Rattle.faults.specs.Flags.{Within};
 ghost use Rattle.faults.specs.Grows.{Sized};

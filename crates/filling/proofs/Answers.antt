@@ -7,24 +7,24 @@ use native.Mathlib.Omega.{arith}
 use borrow.Author.Tests.{lt-ltb, le-ltb}
 use lib.Dec.{eqb, ltb}
 use lib.ListN.{length, take, length-take}
-use Rattle.sheet.specs.Pick.{pick, or}
-use Rattle.sheet.specs.Format.{rowWidth}
-use Rattle.sheet.specs.Limits.{sheetAtoms, sheetLinks, figureContexts}
+use Rattle.rows.specs.Pick.{pick, or}
+use Rattle.rows.specs.Format.{rowWidth}
+use Rattle.rows.specs.Limits.{sheetAtoms, sheetLinks, figureContexts}
+use Rattle.rows.specs.Packed.{noContext, portTable, packed}
+use Rattle.rows.specs.declared.Context.{Context}
+use Rattle.rows.proofs.Padding.{take-padded}
+use Rattle.rows.proofs.Ports.{table-at}
 use Rattle.sheet.specs.Graph.{graphOf}
-use Rattle.sheet.specs.Packed.{noContext, portTable, packed}
 use Rattle.sheet.specs.NormalSheet.{packedNormal}
 use Rattle.sheet.specs.NormalText.{slipLength}
 use Rattle.sheet.specs.NormalRows.{normalRows, Writable}
 use Rattle.sheet.specs.Reading.{outcomeOf, noPorts}
-use Rattle.sheet.specs.declared.Context.{Context}
 use Rattle.sheet.specs.declared.normal.Normal.{Normal}
 use Rattle.sheet.specs.declared.answer.Refusal.{Refusal}
 use Rattle.sheet.specs.declared.answer.Answer.the-variants.{Passed, Refused}
 use Rattle.sheet.specs.declared.kind.Kind.{Kind}
 use Rattle.sheet.specs.declared.kind.Kind.the-variants.{Figure, Fillings}
-use Rattle.sheet.proofs.Padding.{take-padded}
-use Rattle.sheet.proofs.Ports.{table-at}
-use Rattle.sheet.proofs.Ranges.{Every, ContextRange}
+use Rattle.sheet.proofs.read.Ranges.{Every, ContextRange}
 use Rattle.placing.specs.Net.{netOf}
 use Rattle.placing.specs.Filled.{filledNormal}
 use Rattle.network.specs.NetIn.{netIn, Fit}
@@ -45,7 +45,7 @@ use Rattle.filling.proofs.Result.{classes, class-count}
 use Rattle.filling.proofs.Written.{madeAtoms, atom-count, labels-seen, rows-are, made-writable}
 use Rattle.filling.proofs.FilledNet.{made-net, made-fit}
 
-rowed : (kind : Kind) (l : List Context) → Every (ContextRange kind) l → Rowed l
+pub rowed : (kind : Kind) (l : List Context) → Every (ContextRange kind) l → Rowed l
 rowed kind [] r = tt
 rowed kind (c ∷ l) r = (r .0 .row .0, rowed kind l (r .1))
 

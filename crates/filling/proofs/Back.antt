@@ -5,13 +5,13 @@ use mathlib.Core.List.{List, [], _∷_, _++_, map, map-map, List·Memᴰ·head, 
 use lib.ListN.{length}
 use Rattle.hyperlmntal.specs.Link.{_∈_}
 use Rattle.hyperlmntal.proofs.Lists.{map-agree}
-use Rattle.sheet.specs.Format.{mostLinks}
+use Rattle.rows.specs.Format.{mostLinks}
+use Rattle.rows.proofs.Padding.{take-padded}
 use Rattle.sheet.specs.Normal.{normalForm}
 use Rattle.sheet.specs.Reading.{outcomeOf, noPorts}
 use Rattle.sheet.specs.declared.kind.Kind.the-variants.{Plain, Pattern}
 use Rattle.sheet.specs.declared.answer.Answer.the-variants.{Passed}
-use Rattle.sheet.proofs.Padding.{take-padded}
-use Rattle.sheet.proofs.BuiltRows.{heldAtom}
+use Rattle.texts.proofs.BuiltRows.{heldAtom}
 use Rattle.placing.specs.Net.{NetCell, Net, netOf, normalNet}
 use Rattle.placing.specs.Placing.{Placing, Good}
 use Rattle.placing.specs.Fillings.{Row, symbolRow, Filling, rowsGraph, symbolOf, markOf, netRows, normalFilling, fillingsOf, normalFillingsOf}
@@ -22,6 +22,7 @@ use Rattle.placing.proofs.ListBack.{listHeads, ListFits, list-heads}
 use Rattle.placing.proofs.ListParts.{part-atoms, part-points, part-edges}
 use Rattle.placing.proofs.Theorems.{heldSheet, heldPattern}
 use Rattle.placing.proofs.PlacedText.{text-fits}
+use Rattle.placing.proofs.NormalRowsFit.{symbols-of-net}
 use Rattle.filling.specs.Read.{symbolRead, pointRead, rowsRead, partHeld, fillingRead, fillingsRead}
 
 -- S rows, then F rows, then E rows.
@@ -49,10 +50,6 @@ module _ (θ : List Filling) (fits : ListFits θ) where
   list-back o = ap (map (fillingRead (listText θ))) (list-heads θ fits) ∙ heads-back θ 0 (λ f m. m) o
 
 -- The rows of a net are so ordered.
-symbols-net : (a : List NetCell) (m : List (ℕ × ℕ)) → symbolsIn (map symbolOf a ++ map markOf m) ≡ a
-symbols-net [] [] = refl
-symbols-net [] (e ∷ m) = symbols-net [] m
-symbols-net (c ∷ a) m = ap (λ l. c ∷ l) (symbols-net a m)
 
 points-net : (a : List NetCell) (m : List (ℕ × ℕ)) → pointsIn (map symbolOf a ++ map markOf m) ≡ []
 points-net [] [] = refl
@@ -66,7 +63,7 @@ edges-net (c ∷ a) m = edges-net a m
 
 pub net-ordered : (N : Net) → Ordered (netRows N)
 net-ordered N =
-    ap₂ (λ (a : List NetCell) (b : List Row). map symbolOf a ++ b) (symbols-net (N .atoms) (N .marks))
+    ap₂ (λ (a : List NetCell) (b : List Row). map symbolOf a ++ b) (symbols-of-net (N .atoms) (N .marks))
     (ap₂ (λ (p e : List (ℕ × ℕ)). map pointRead p ++ map markOf e) (points-net (N .atoms) (N .marks)) (edges-net (N .atoms) (N .marks)))
 
 -- The list that a good placing gives is read back as the fillings of that placing.

@@ -1,28 +1,23 @@
 -- The list that place hands out fills the pattern: no blank lacks its filling, no filling has other marks, and what is written is the same as the sheet.
-use Prim.Native.Nat.{ℕ, zero, suc, _+_}
+use Prim.Native.Nat.{ℕ, suc}
 use mathlib.Core.Path.{_≡_, refl, ap, sym, _∙_, subst}
 use mathlib.Core.Logic.{_⊎_, inl, inr}
-use mathlib.Core.Bool.{Bool, true, false, true≢false}
+use mathlib.Core.Bool.{Bool, true, false}
 use mathlib.Core.List.{List, [], _∷_, List·Memᴰ·head, List·Memᴰ·tail, List·Memᴰ·cases-cons, List·Memᴰ·not-nil, Memᴰ·map, Memᴰ·of-map}
-use native.Mathlib.Omega.{arith}
 use borrow.Author.Tests.{eqb-true, eqb-false}
-use lib.Dec.{eqb, leb}
-use lib.ListN.{length, getD, drop}
+use lib.Dec.{eqb}
+use lib.ListN.{length}
 use Rattle.hyperlmntal.specs.Link.{_∈_}
 use Rattle.hyperlmntal.specs.Congruence.{_≅_, ≅-trans}
-use Rattle.sheet.specs.Pick.{pick, and, not}
-use Rattle.sheet.specs.Format.{rowWidth}
-use Rattle.sheet.specs.Held.{Held, nothing, withRow}
-use Rattle.sheet.specs.Packed.{portsOf}
+use Rattle.rows.specs.Pick.{pick}
+use Rattle.rows.specs.Held.{Held}
+use Rattle.rows.specs.Packed.{portsOf}
+use Rattle.rows.specs.declared.Context.{Context}
 use Rattle.sheet.specs.Graph.{termOfText}
-use Rattle.sheet.specs.Limits.{rowLimit}
-use Rattle.sheet.specs.Reading.{Verdict, taken, refused, Outcome, strange, lastNumber, clashOf, clashes, firstOf, tests, passed, refusedAfter, settled, readFrom, outcomeOf, noPorts}
-use Rattle.sheet.specs.declared.Context.{Context}
-use Rattle.sheet.specs.declared.answer.Refusal.{Refusal}
-use Rattle.sheet.specs.declared.answer.Answer.the-variants.{Passed, Refused}
-use Rattle.sheet.specs.declared.kind.Kind.the-variants.{Plain, Pattern, Figure}
-use Rattle.sheet.proofs.Ranges.{Every}
-use Rattle.sheet.proofs.Taken.{rowAt, Taken, tests-none, none-tests}
+use Rattle.sheet.specs.Reading.{Outcome, outcomeOf, noPorts}
+use Rattle.sheet.specs.declared.answer.Answer.the-variants.{Passed}
+use Rattle.sheet.specs.declared.kind.Kind.the-variants.{Plain, Pattern}
+use Rattle.texts.proofs.BuiltRows.{every-in}
 use Rattle.placing.specs.Net.{NetCell, Net, normalNet}
 use Rattle.placing.specs.Placing.{Placing, Good}
 use Rattle.placing.specs.Fillings.{Filling, Fits, normalFillingsOf}
@@ -37,57 +32,7 @@ use Rattle.filling.proofs.Exact.{marks-exact}
 use Rattle.filling.proofs.Located.{Right}
 use Rattle.filling.proofs.Back.{placed-back}
 use Rattle.filling.proofs.Denotes.{fill-congruent}
-
--- A pattern that passed reads the same as a figure.
-row-clash : (pattern : List ℕ) (contexts : List Context) (text : List ℕ) → clashes Pattern pattern contexts (rowAt text) ≡ false → clashes Figure pattern contexts (rowAt text) ≡ false
-unfolding clashes clashOf
-row-clash pattern contexts text =
-    let r = rowAt text in
-    go (eqb (r .letter) 4) (eqb (r .letter) 1) (eqb (portsOf contexts (getD (r .nums) 0 0)) 0) (eqb (portsOf contexts (getD (r .nums) 0 0)) (suc (getD (r .nums) 1 0))) (leb (getD (r .nums) 0 0) (lastNumber contexts))
-  where
-    go : (a b c d x : Bool) → pick a x (pick b (not c) false) ≡ false → pick a x (pick b (and (not c) (not d)) false) ≡ false
-    go true b c d x e = e
-    go false true true d x e = refl
-    go false true false d x e = absurd (true≢false e)
-    go false false c d x e = refl
-
-as-figure : (pattern : List ℕ) (h : Held) (text : List ℕ) → Taken Pattern pattern h text → Taken Figure pattern h text
-unfolding strange
-as-figure pattern h text t =
-    record {
-      rows = t .rows;
-      whole = t .whole;
-      allowed = t .allowed;
-      good = t .good;
-      atoms = t .atoms;
-      contexts = t .contexts;
-      links = t .links;
-      marks = t .marks;
-      agrees = row-clash pattern (h .contexts) text (t .agrees);
-    }
-
-read-as-figure : (n : ℕ) (pattern : List ℕ) (h g : Held) (text : List ℕ) → readFrom n Pattern pattern h text ≡ passed g → readFrom n Figure pattern h text ≡ passed g
-unfolding readFrom
-read-as-figure zero pattern h g text e = e
-read-as-figure (suc n) pattern h g text e = go (eqb (length text) 0) (firstOf (tests Pattern pattern h text)) refl e (read-as-figure n pattern (withRow h (rowAt text)) g (drop rowWidth text))
-  where
-    never : (why : Refusal) → refusedAfter h why ≡ passed g → ⊥
-    never why q = let p : Refused why (h .rows + 1) ≡ Passed = ap (λ (o : Outcome). o .answer) q in let z : _≡_ {A = ℕ} 0 1 = cc in omega arith
-
-    go : (b : Bool) (v : Verdict) → firstOf (tests Pattern pattern h text) ≡ v → pick b (passed h) (settled v h (readFrom n Pattern pattern (withRow h (rowAt text)) (drop rowWidth text))) ≡ passed g
-        → (readFrom n Pattern pattern (withRow h (rowAt text)) (drop rowWidth text) ≡ passed g → readFrom n Figure pattern (withRow h (rowAt text)) (drop rowWidth text) ≡ passed g)
-        → pick b (passed h) (settled (firstOf (tests Figure pattern h text)) h (readFrom n Figure pattern (withRow h (rowAt text)) (drop rowWidth text))) ≡ passed g
-    go true v q e ih = e
-    go false taken q e ih =
-        ap (λ v. settled v h (readFrom n Figure pattern (withRow h (rowAt text)) (drop rowWidth text))) (none-tests Figure pattern h text (as-figure pattern h text (tests-none Pattern pattern h text q))) ∙ ih e
-    go false (refused why) q e ih = absurd (never why e)
-
-pub pattern-figure : (text : List ℕ) → outcomeOf Pattern noPorts text .answer ≡ Passed → outcomeOf Figure noPorts text ≡ outcomeOf Pattern noPorts text
-unfolding outcomeOf
-pattern-figure text e =
-    let o = readFrom (rowLimit + 1) Pattern noPorts nothing text in
-    let p : o ≡ passed (o .held) = λ i. record { answer = e i; held = o .held } in
-    read-as-figure (rowLimit + 1) noPorts nothing (o .held) text p ∙ sym p
+use Rattle.filling.proofs.ReadAsFigure.{pattern-figure}
 
 -- The port count of a number, where all of that number have one count.
 ports-first : (l : List Context) (x n : ℕ) → ((c : Context) → c ∈ l → c .number ≡ x → c .count ≡ n) → (c : Context) → c ∈ l → c .number ≡ x → portsOf l x ≡ suc n
@@ -99,10 +44,6 @@ ports-first (d ∷ l) x n same c i q = go (eqb (d .number) x) refl (List·Memᴰ
     go true e k ih = ap suc (same d (List·Memᴰ·head refl) (eqb-true (d .number) x e))
     go false e (inl p) ih = absurd (eqb-false (d .number) x e (ap (λ (b : Context). b .number) (sym p) ∙ q))
     go false e (inr j) ih = ih j
-
-every-in : {A : Type 0} (P : A → Type 0) (l : List A) → ((a : A) → a ∈ l → P a) → Every P l
-every-in P [] f = tt
-every-in P (x ∷ l) f = (f x (List·Memᴰ·head refl), every-in P l (λ a i. f a (List·Memᴰ·tail i)))
 
 module _ (sheet pattern : List ℕ) (a : outcomeOf Plain noPorts sheet .answer ≡ Passed) (b : outcomeOf Pattern noPorts pattern .answer ≡ Passed)
     (p : Placing) (good : Good (normalNet (heldSheet sheet)) (normalNet (heldPattern pattern)) p) where

@@ -8,8 +8,9 @@ use borrow.Author.Tests.{ltb-false}
 use lib.Dec.{ltb}
 use lib.ListN.{length, drop}
 use Rattle.hyperlmntal.specs.Congruence.{_≅_}
-use Rattle.sheet.specs.Pick.{pick}
-use Rattle.sheet.specs.Limits.{sheetAtoms, sheetLinks}
+use Rattle.rows.specs.Pick.{pick}
+use Rattle.rows.specs.Limits.{sheetAtoms, sheetLinks}
+use Rattle.rows.proofs.Bools.{or-false}
 use Rattle.sheet.specs.Graph.{termOfText}
 use Rattle.sheet.specs.Normal.{classOf, classesBy}
 use Rattle.sheet.specs.NormalText.{slipLength}
@@ -17,7 +18,6 @@ use Rattle.sheet.specs.Reading.{outcomeOf, noPorts}
 use Rattle.sheet.specs.declared.answer.Answer.{Answer}
 use Rattle.sheet.specs.declared.answer.Answer.the-variants.{Passed, Refused}
 use Rattle.sheet.specs.declared.kind.Kind.the-variants.{Plain, Figure, Fillings}
-use Rattle.sheet.proofs.Taken.{or-false}
 use Rattle.placing.specs.Holding.{holdingTerm}
 use Rattle.filling.specs.Read.{listHeld, fillingsRead}
 use Rattle.filling.specs.Fill.{figureHeld, firstLacking, firstDiffering, filledBy, filledText, tooLarge, filledAnswer, unless, fillAnswer, fillSlip}

@@ -10,12 +10,12 @@ use borrow.Author.Tests.{eqb-true}
 use lib.Dec.{eqb}
 use Rattle.hyperlmntal.specs.Link.{free, _∈_}
 use Rattle.hyperlmntal.specs.Hypergraph.{nodes}
-use Rattle.sheet.specs.Pick.{pick}
-use Rattle.sheet.specs.Packed.{portsOf}
+use Rattle.rows.specs.Pick.{pick}
+use Rattle.rows.specs.Packed.{portsOf}
+use Rattle.rows.specs.declared.Context.{Context}
 use Rattle.sheet.specs.Normal.{marksOf}
-use Rattle.sheet.specs.declared.Context.{Context}
-use Rattle.sheet.proofs.Marks.{marks-in, marks-of, Ascending, marks-ascending, ascending-same}
-use Rattle.sheet.proofs.Ranges.{Every}
+use Rattle.sheet.proofs.normal.Marks.{marks-in, marks-of, Ascending, marks-ascending, ascending-same}
+use Rattle.sheet.proofs.read.Ranges.{Every}
 use Rattle.placing.specs.Fillings.{edgeRow, rowsGraph, Filling, ExactMarks}
 use Rattle.placing.specs.Smallest.{numbersFrom, numbersTo}
 use Rattle.placing.proofs.Names.{rows-name, name-rows}

@@ -6,12 +6,12 @@ use mathlib.Core.List.{List}
 use native.Mathlib.Decide.{decLe}
 use native.Mathlib.Omega.{arith}
 use lib.ListN.{length}
-use Rattle.sheet.specs.Limits.{sheetAtoms, sheetLinks, figureContexts}
-use Rattle.sheet.specs.Held.{Held}
-use Rattle.sheet.specs.Packed.{packed}
+use Rattle.rows.specs.Limits.{sheetAtoms, sheetLinks, figureContexts}
+use Rattle.rows.specs.Held.{Held}
+use Rattle.rows.specs.Packed.{packed}
+use Rattle.rows.specs.declared.Sheet.{Sheet}
 use Rattle.sheet.specs.Agrees.{Agrees}
 use Rattle.sheet.specs.NormalSheet.{packedNormal}
-use Rattle.sheet.specs.declared.Sheet.{Sheet}
 use Rattle.sheet.specs.declared.normal.Normal.{Normal}
 use Rattle.filling.specs.Read.{listHeld}
 use Rattle.filling.specs.Fill.{figureHeld, firstLacking, firstDiffering, filledBy, tooLarge}

@@ -8,23 +8,24 @@ use Rattle.hyperlmntal.specs.Link.{_∈_}
 use Rattle.hyperlmntal.specs.Hypergraph.{Node, Label, Cell, portNodes, mapCell}
 use Rattle.hyperlmntal.specs.DenotedSubstitution.{Spot}
 use Rattle.hyperlmntal.proofs.Lists.{map-agree, Each, done, more}
-use Rattle.sheet.specs.Format.{mostLinks}
-use Rattle.sheet.specs.Limits.{sheetAtoms, sheetLinks, sheetMarks, figureContexts}
+use Rattle.rows.specs.Format.{mostLinks}
+use Rattle.rows.specs.Limits.{sheetAtoms, sheetLinks, sheetMarks, figureContexts}
+use Rattle.rows.specs.declared.Atom.{Atom}
+use Rattle.rows.proofs.Padding.{length-padded, take-padded}
+use Rattle.rows.proofs.Lists.{getD-mapped}
 use Rattle.sheet.specs.Graph.{graphOf}
 use Rattle.sheet.specs.Normal.{classOf, marksOf, markedBy, normalFormBy, normalForm}
 use Rattle.sheet.specs.NormalText.{nodeNumber}
 use Rattle.sheet.specs.NormalRows.{pastAtoms}
-use Rattle.sheet.specs.declared.Atom.{Atom}
 use Rattle.sheet.specs.declared.normal.Normal as form
 use Rattle.sheet.specs.declared.kind.Kind.the-variants.{Figure}
-use Rattle.sheet.proofs.Ranges.{Every}
-use Rattle.sheet.proofs.Connected.{getD-in}
-use Rattle.sheet.proofs.Padding.{length-padded, take-padded}
-use Rattle.sheet.proofs.Distinct.{index-below, distinct-in}
-use Rattle.sheet.proofs.NormalWritten.{taken-padded, mapped-at, getD-mapped, few-marks}
-use Rattle.placing.specs.Net.{NetCell, Net, Range, withSymbol, withHole, atomsAmong, contextsAmong, edgeNumbers, netOf}
+use Rattle.sheet.proofs.normal.Merging.{getD-in}
+use Rattle.sheet.proofs.normal.Distinct.{index-below, distinct-in}
+use Rattle.sheet.proofs.normal_text.NormalWritten.{taken-padded, mapped-at, few-marks}
+use Rattle.placing.specs.Net.{NetCell, Range, withSymbol, withHole, atomsAmong, contextsAmong, edgeNumbers, netOf}
 use Rattle.placing.specs.Filled.{spotNode, filledNormal}
 use Rattle.network.specs.NetIn.{atomIn, contextIn, paired, netIn, Used, Fit}
+use Rattle.network.proofs.NetRead.{net-≡}
 use Rattle.filling.specs.Read.{fillingsRead}
 use Rattle.filling.specs.Fill.{figureHeld, filledBy}
 use Rattle.filling.specs.Glued.{Own}
@@ -36,10 +37,6 @@ use Rattle.filling.proofs.Shown.{Like, atoms-like, spotMark, shownSpots
 use Rattle.filling.proofs.Result.{marks-same, classes, class-count, class-number}
 use Rattle.filling.proofs.Written.{each-left, figureNormal, madeAtoms, marks, numbered, symbol-links, all-labels, atoms-are, atoms-count, atom-at, marked-are}
 use Rattle.filling.proofs.ResultNet.{Atoms, result-links}
-
-net-≡ : {a a′ c c′ : List NetCell} {m m′ : List (ℕ × ℕ)} {n n′ : ℕ} → a ≡ a′ → c ≡ c′ → m ≡ m′ → n ≡ n′
-    → _≡_ {A = Net} (record { atoms = a; contexts = c; marks = m; links = n }) (record { atoms = a′; contexts = c′; marks = m′; links = n′ })
-net-≡ a c m n i = record { atoms = a i; contexts = c i; marks = m i; links = n i }
 
 paired-marks : (f : ℕ → ℕ) (l : List ℕ) → paired (map f l) l ≡ map (λ m. (f m, m)) l
 paired-marks f [] = refl

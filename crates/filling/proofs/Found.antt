@@ -11,14 +11,14 @@ use lib.ListN.{length, take}
 use Rattle.hyperlmntal.specs.Link.{select}
 use Rattle.hyperlmntal.specs.GraphSubstitution.{Entry, sameFunctor, lookup}
 use Rattle.hyperlmntal.specs.Hypergraph.{Flat}
-use Rattle.sheet.specs.Pick.{pick}
-use Rattle.sheet.specs.Limits.{sheetMarks}
-use Rattle.sheet.specs.Packed.{portsOf}
+use Rattle.rows.specs.Pick.{pick}
+use Rattle.rows.specs.Limits.{sheetMarks}
+use Rattle.rows.specs.Packed.{portsOf}
+use Rattle.rows.specs.declared.Context.{Context}
+use Rattle.rows.proofs.Padding.{take-padded}
 use Rattle.sheet.specs.Graph.{graphOf}
 use Rattle.sheet.specs.Normal.{marksOf}
-use Rattle.sheet.specs.declared.Context.{Context}
-use Rattle.sheet.proofs.Padding.{take-padded}
-use Rattle.sheet.proofs.Ranges.{Every}
+use Rattle.sheet.proofs.read.Ranges.{Every}
 use Rattle.placing.specs.Fillings.{Filling, rowsGraph}
 use Rattle.placing.specs.Holding.{marksFrom}
 use Rattle.placing.specs.Filled.{flatEntry}

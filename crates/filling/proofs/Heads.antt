@@ -9,17 +9,18 @@ use borrow.Author.Tests.{ltb-false}
 use lib.Dec.{eqb, ltb}
 use lib.ListN.{length, getD, take, drop, length-append, length-take, drop-of-length-le, List·getD-append}
 use lib.Seq.{drop-append-le, length-take-le, getD-take}
-use Rattle.sheet.specs.Pick.{pick}
-use Rattle.sheet.specs.Format.{rowWidth, letterOf}
-use Rattle.sheet.specs.Limits.{rowLimit}
-use Rattle.sheet.specs.Held.{Held, nothing, withRow, withAtom, withContext, withFusionRow, withEdgeRow, withHead}
+use Rattle.rows.specs.Pick.{pick}
+use Rattle.rows.specs.Format.{rowWidth, letterOf}
+use Rattle.rows.specs.Limits.{rowLimit}
+use Rattle.rows.specs.Held.{Held, nothing, withRow, withAtom, withContext, withFusionRow, withEdgeRow, withHead}
+use Rattle.rows.proofs.RowRange.{good-letter, row-letter}
 use Rattle.sheet.specs.Filling.{headFirst, fromHead, beforeHead, firstFilling, isPassed, fillingOf}
 use Rattle.sheet.specs.Reading.{Verdict, taken, refused, firstOf, tests, passed, settled, readFrom, outcomeOf, noPorts}
 use Rattle.sheet.specs.declared.kind.Kind.the-variants.{Fillings}
-use Rattle.sheet.proofs.ReadingLaws.{read-none, row-by}
-use Rattle.sheet.proofs.Taken.{rowAt, Taken, tests-none}
-use Rattle.sheet.proofs.RowRange.{good-letter, row-letter}
-use Rattle.sheet.proofs.OneFilling.{headless-row}
+use Rattle.sheet.proofs.read.ReadingLaws.{read-none, row-by}
+use Rattle.sheet.proofs.read.Taken.{rowAt, Taken, tests-none}
+use Rattle.texts.proofs.OneFilling.{headless-row}
+use Rattle.placing.proofs.ListParts.{before-none}
 use Rattle.filling.specs.Read.{partHeld}
 
 other-letter : (b : ℕ) → eqb b 72 ≡ false → letterOf b ≡ 4 → ⊥
@@ -86,11 +87,6 @@ no-heads (suc n) (suc m) h t = by (ltb (length t) rowWidth) (headFirst t) refl r
         drop-append-le rowWidth (take rowWidth t) (beforeHead m (drop rowWidth t)) (omega arith) ∙ ap (λ r. r ++ beforeHead m (drop rowWidth t)) (row-gone t) in
         first-row n (length (h .contexts)) h (take rowWidth t ++ beforeHead m (drop rowWidth t)) (omega arith) (row w f (take rowWidth t ++ beforeHead m (drop rowWidth t)) refl) (λ g. rw d (ih g))
 
-before-nothing : (n : ℕ) → beforeHead n [] ≡ []
-unfolding beforeHead
-before-nothing zero = refl
-before-nothing (suc n) = refl
-
 after-first : (n : ℕ) (text : List ℕ) → drop rowWidth (firstFilling n text) ≡ beforeHead n (drop rowWidth text)
 after-first n text = go (decLe rowWidth (length text))
   where
@@ -101,7 +97,7 @@ after-first n text = go (decLe rowWidth (length text))
     go (no k) =
         let b : length text ≤ rowWidth = omega arith in
         let d : drop rowWidth text ≡ [] = drop-of-length-le text b in
-        rw (d, before-nothing n, append-nil (take rowWidth text), row-gone text)
+        rw (d, before-none n, append-nil (take rowWidth text), row-gone text)
 
 pub part-heads : (list : List ℕ) (number : ℕ) → length (partHeld list number .contexts) ≤ 1
 unfolding fillingOf outcomeOf

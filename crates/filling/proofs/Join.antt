@@ -6,9 +6,10 @@ use mathlib.Core.List.{List, [], _∷_, _++_, List·Memᴰ·head, List·Memᴰ·
 use native.Mathlib.Omega.{arith}
 use lib.ListN.{length, getD, length-map}
 use Rattle.hyperlmntal.specs.Link.{_∈_}
-use Rattle.sheet.specs.Held.{relabelled}
-use Rattle.sheet.specs.declared.Context.{Context}
-use Rattle.sheet.proofs.Merging.{Cross, relabelled-same, relabelled-one, getD-mapped}
+use Rattle.rows.specs.Held.{relabelled}
+use Rattle.rows.specs.declared.Context.{Context}
+use Rattle.rows.proofs.Lists.{getD-mapped}
+use Rattle.sheet.proofs.normal.Merging.{Cross, relabelled-same, relabelled-one}
 use Rattle.filling.specs.Glued.{placeOf, joinedAt, joinedAll, portPairs, contextPairs, allPairs}
 
 pub all-append : (labels : List ℕ) (l k : List (ℕ × ℕ)) → joinedAll labels (l ++ k) ≡ joinedAll (joinedAll labels l) k
@@ -22,7 +23,7 @@ module _ (labels : List ℕ) (e : ℕ × ℕ) where
   joined-length = length-map labels (relabelled (getD labels (e .1) 0) (getD labels (e .0) 0))
 
   joined-at : (k : ℕ) → k < length labels → getD (joinedAt labels e) k 0 ≡ relabelled (getD labels (e .1) 0) (getD labels (e .0) 0) (getD labels k 0)
-  joined-at k h = getD-mapped (relabelled (getD labels (e .1) 0) (getD labels (e .0) 0)) labels k h
+  joined-at k h = getD-mapped (relabelled (getD labels (e .1) 0) (getD labels (e .0) 0)) labels k 0 0 h
 
 -- Equal labels stay equal, and the two of a pair become equal.
 pub same-stays : (l : List (ℕ × ℕ)) (labels : List ℕ) (a b : ℕ) → a < length labels → b < length labels → getD labels a 0 ≡ getD labels b 0

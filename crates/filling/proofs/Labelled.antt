@@ -1,5 +1,5 @@
 -- The labels of a filled figure are equal exactly where its fusions connect.
-use Prim.Native.Nat.{ℕ, zero, suc, _+_, _-_, _*_, _<_, _≤_}
+use Prim.Native.Nat.{ℕ, suc, _+_, _-_, _*_, _<_, _≤_}
 use mathlib.Core.Path.{_≡_, refl, ap, ap₂, sym, _∙_, subst}
 use mathlib.Core.List.{List, map, List·Memᴰ·not-nil, Memᴰ·append-left, Memᴰ·append-right, Memᴰ·map}
 use mathlib.Core.Option.{some}
@@ -7,24 +7,27 @@ use native.Mathlib.Omega.{arith}
 use lib.ListN.{length, getD, getElem?, take, length-map}
 use Rattle.hyperlmntal.specs.Link.{_∈_}
 use Rattle.hyperlmntal.specs.Hypergraph.{Node, inner, name, Cell, Fusion, Flat, Connected, stay, along, back, then, portNodes, nodes}
-use Rattle.hyperlmntal.specs.DenotedSubstitution.{Spot, outer, within, outerNode, connect, plug}
+use Rattle.hyperlmntal.specs.DenotedSubstitution.{Spot, outer, within, outerNode, plug}
 use Rattle.hyperlmntal.proofs.Connection.{connected-≡}
 use Rattle.hyperlmntal.proofs.Flats.{ends-in, on-fusions}
 use Rattle.hyperlmntal.proofs.Slots.{bodyOf, portsOf as portsPut, entryAt, plugAt, fillFlat-all}
-use Rattle.sheet.specs.Limits.{sheetMarks}
-use Rattle.sheet.specs.Packed.{padded}
+use Rattle.rows.specs.Limits.{sheetMarks}
+use Rattle.rows.specs.Packed.{padded}
+use Rattle.rows.specs.declared.Context.{Context}
+use Rattle.rows.proofs.Lists.{getD-mapped}
 use Rattle.sheet.specs.Graph.{atomCell, contextCell, edgeOf, graphOf}
 use Rattle.sheet.specs.Normal.{markNode, marksOf, shown}
 use Rattle.sheet.specs.NormalSheet.{numberIn, normalContext}
 use Rattle.sheet.specs.NormalRows.{pastContexts}
-use Rattle.sheet.specs.declared.Context.{Context}
-use Rattle.sheet.proofs.Marks.{marks-in}
-use Rattle.sheet.proofs.NormalIso.{number-of-connected, connected-of-number}
-use Rattle.sheet.proofs.NormalWritten.{used-links, taken-padded, getD-mapped}
-use Rattle.sheet.proofs.Connected.{ports-in, getD-in}
+use Rattle.sheet.proofs.normal.Marks.{marks-in}
+use Rattle.sheet.proofs.normal_text.NormalWritten.{used-links, taken-padded}
+use Rattle.sheet.proofs.normal.Connected.{ports-in}
+use Rattle.sheet.proofs.normal.Merging.{getD-in}
+use Rattle.texts.proofs.NormalIso.{number-of-connected, connected-of-number}
 use Rattle.placing.specs.Fillings.{rowsGraph}
-use Rattle.placing.specs.Smallest.{numbersFrom, numbersTo}
+use Rattle.placing.specs.Smallest.{numbersTo}
 use Rattle.placing.proofs.Names.{FusionOf, of-point, of-edge, rows-fusion}
+use Rattle.placing.proofs.Joined.{numbers-length, numbers-at}
 use Rattle.filling.specs.Read.{rowsRead, partHeld}
 use Rattle.filling.specs.Fill.{figureHeld}
 use Rattle.filling.specs.Parts.{partNormal, partRoom, places}
@@ -34,15 +37,6 @@ use Rattle.filling.proofs.Exact.{numbers-of, numbers-in}
 use Rattle.filling.proofs.Parts.{figure-within}
 use Rattle.filling.proofs.Join.{Tells, Pair, all-tell, pair-same, port-pair, pair-port, pair-at, at-pair}
 use Rattle.filling.proofs.Located.{Right, figureGraph, entries, filledSpots, atomCount, partCount, contextAt, linksAt, heldAt, nodeAt, context-range, links-size, low-at, VertexAt, an-atom, a-context, vertex-at, entry-at, marks-at, part-connected, port-at}
-
-numbers-length : (s n : ℕ) → length (numbersFrom s n) ≡ n
-numbers-length s zero = refl
-numbers-length s (suc n) = ap suc (numbers-length (suc s) n)
-
-numbers-at : (s n k : ℕ) → k < n → getD (numbersFrom s n) k 0 ≡ s + k
-numbers-at s zero k h = absurd (omega arith)
-numbers-at s (suc n) zero h = omega arith
-numbers-at s (suc n) (suc k) h = numbers-at (suc s) n k (omega arith) ∙ (let z : suc s + k ≡ s + suc k = omega arith in z)
 
 module _ (figure list : List ℕ) (right : Right figure list) (own : List ℕ) (O : Own own) where
   -- The figure's contexts with the numbers of their classes.

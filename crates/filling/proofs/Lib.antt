@@ -20,6 +20,7 @@ pub mod FilledIs
 pub mod Back
 pub mod ReadAgain
 pub mod Denotes
+pub mod ReadAsFigure
 pub mod Chosen
 pub mod Theorems
 pub mod Worked

@@ -2,58 +2,40 @@
 use Prim.Native.Nat.{ℕ, zero, suc, _+_, _-_, _<_, _≤_}
 use mathlib.Core.Path.{_≡_, ap, sym, _∙_, subst}
 use mathlib.Core.Bool.{true}
-use mathlib.Core.List.{List, [], _∷_, map}
+use mathlib.Core.List.{List, [], map}
 use mathlib.Core.Option.{some}
 use native.Mathlib.Omega.{arith}
-use native.Mathlib.Decide.{ℕ-discrete, decLt}
+use native.Mathlib.Decide.{decLt}
 use lib.ListN.{length, getD, getElem?, take, length-map}
 use lib.Seq.{length-take-le}
-use Rattle.hyperlmntal.specs.Link.{free, _≟_, select, _∈_}
+use Rattle.hyperlmntal.specs.Link.{free, _∈_}
 use Rattle.hyperlmntal.specs.GraphSubstitution.{Entry, lookup}
 use Rattle.hyperlmntal.specs.Hypergraph.{Node, inner, Cell, Fusion, Flat, Connected, along, mapFusion}
-use Rattle.hyperlmntal.specs.DenotedSubstitution.{Spot, outer, outerNode, connect, plug, fillFlat}
-use Rattle.hyperlmntal.proofs.Links.{select-yes, select-no}
+use Rattle.hyperlmntal.specs.DenotedSubstitution.{Spot, outerNode, connect, plug, fillFlat}
 use Rattle.hyperlmntal.proofs.Connection.{connected-map}
 use Rattle.hyperlmntal.proofs.Slots.{bodyOf, portsOf as portsPut, entryAt, fillFlat-slot, fillFlat-outer}
-use Rattle.sheet.specs.Held.{Held}
-use Rattle.sheet.specs.Packed.{portsOf}
+use Rattle.hyperlmntal.proofs.Positions.{some-below}
+use Rattle.rows.specs.Held.{Held}
+use Rattle.rows.specs.Packed.{portsOf}
+use Rattle.rows.specs.declared.Atom.{Atom}
+use Rattle.rows.specs.declared.Context.{Context}
 use Rattle.sheet.specs.Graph.{atomCell, contextCell, graphOf}
 use Rattle.sheet.specs.Normal.{markNode, marksOf, shown}
 use Rattle.sheet.specs.NormalSheet.{numberIn}
 use Rattle.sheet.specs.NormalRows.{pastContexts}
-use Rattle.sheet.specs.declared.Atom.{Atom}
-use Rattle.sheet.specs.declared.Context.{Context}
 use Rattle.sheet.specs.declared.kind.Kind.the-variants.{Figure, Fillings}
-use Rattle.sheet.proofs.Ranges.{Every, every-at, ContextRange}
+use Rattle.sheet.proofs.read.Ranges.{Every, every-at, ContextRange}
 use Rattle.placing.specs.Holding.{marksFrom}
 use Rattle.placing.specs.Filled.{flatEntry}
 use Rattle.placing.specs.Smallest.{numbersTo}
 use Rattle.placing.proofs.Lists.{at-left, at-right, at-map, at-of-map, at-getD, getD-of}
+use Rattle.placing.proofs.Filled.{figN, connect-port}
 use Rattle.filling.specs.Read.{listHeld, partHeld, fillingRead, fillingsRead}
 use Rattle.filling.specs.Fill.{figureHeld, isExact}
 use Rattle.filling.specs.Parts.{withoutHeads, partRoom}
 use Rattle.filling.proofs.Rows.{read-graph}
 use Rattle.filling.proofs.Parts.{figure-within, figure-agrees, part-within, part-agrees, number-low}
 use Rattle.filling.proofs.Found.{fillingAt, entry-found, head-exact, exact-numbers}
-
-abbrev figN : ℕ → Node (Spot ℕ ℕ)
-figN x = inner (outer x)
-
--- Port i of a context is its i-th link.
-connect-port : (l : List ℕ) (s i : ℕ) → s ≤ i → i < s + length l → connect {P = ℕ} {Q = ℕ} (map inner l) (marksFrom s (length l)) (free i) ≡ figN (getD l (i - s) 0)
-unfolding connect
-connect-port [] s i p q = absurd (omega arith)
-connect-port (x ∷ l) s i p q = at (ℕ-discrete i s) (λ h. connect-port l (suc s) i h (omega arith))
-  where
-    at : Dec (i ≡ s) → (suc s ≤ i → connect {P = ℕ} {Q = ℕ} (map inner l) (marksFrom (suc s) (length l)) (free i) ≡ figN (getD l (i - suc s) 0))
-        → select (free i ≟ free s) (figN x) (connect (map inner l) (marksFrom (suc s) (length l)) (free i)) ≡ figN (getD (x ∷ l) (i - s) 0)
-    at (yes e) f = select-yes (free i ≟ free s) (figN x) (connect (map inner l) (marksFrom (suc s) (length l)) (free i)) (ap free e) ∙ ap (λ j. figN (getD (x ∷ l) j 0)) (let z : 0 ≡ i - s = omega arith in z)
-    at (no k) f = select-no (free i ≟ free s) (figN x) (connect (map inner l) (marksFrom (suc s) (length l)) (free i)) (λ e. k cc) ∙ f (omega arith) ∙ ap (λ j. figN (getD (x ∷ l) j 0)) (let z : suc (i - suc s) ≡ i - s = omega arith in z)
-
-pub at-below : {A : Type 0} (l : List A) (i : ℕ) (a : A) → getElem? l i ≡ some a → i < length l
-at-below [] i a e = absurd (let z : _≡_ {A = ℕ} 0 1 = cc in omega arith)
-at-below (x ∷ l) zero a e = omega arith
-at-below (x ∷ l) (suc i) a e = let h = at-below l i a e in omega arith
 
 -- Every blank has its filling, and every filling its ports as marks.
 pub record Right (figure list : List ℕ) : Type 0 where
@@ -118,7 +100,7 @@ module _ (figure list : List ℕ) where
           let j = i - atomCount in
           let q : length (map atomCell (figureHeld figure .atoms)) + j ≡ i = let r = size in omega arith in
           let t = at-of-map contextCell (figureHeld figure .contexts) j v (sym (at-right (map atomCell (figureHeld figure .atoms)) (map contextCell (figureHeld figure .contexts)) j) ∙ ap (getElem? (figureGraph .atoms)) q ∙ e) in
-          a-context j (at-below (figureHeld figure .contexts) j (t .0) (t .1)) (omega arith) (sym (t .2) ∙ ap contextCell (sym (getD-of (figureHeld figure .contexts) j pastContexts (t .0) (t .1))))
+          a-context j (some-below (figureHeld figure .contexts) j (t .0) (t .1)) (omega arith) (sym (t .2) ∙ ap contextCell (sym (getD-of (figureHeld figure .contexts) j pastContexts (t .0) (t .1))))
 
   pub slot-at : (j : ℕ) → j < partCount → getElem? (figureGraph .atoms) (atomCount + j) ≡ some (contextCell (contextAt j))
   slot-at j h =

@@ -1,5 +1,5 @@
 -- One turn of each loop, over plain variables.
-use Prim.Native.Nat.{ℕ, zero, suc, _+_, _-_, _<_, _≤_}
+use Prim.Native.Nat.{ℕ, suc, _+_, _-_, _<_, _≤_}
 use mathlib.Core.Path.{_≡_, refl, ap, ap₂, sym, _∙_, subst}
 use mathlib.Core.Bool.{Bool, true, false}
 use mathlib.Core.List.{List, [], _∷_, _++_, map, map-append, append-nil, append-assoc}
@@ -10,17 +10,18 @@ use borrow.Author.Tests.{eqb-true, eqb-false, lt-ltb, le-ltb}
 use lib.Dec.{eqb}
 use lib.ListN.{length, getD, take, drop, set, length-append, length-take, drop-of-length-le}
 use lib.Seq.{take-all, take-append-le, take-suc, take-suc-set, length-take-le, getD-set-same, getD-set-other}
-use Rattle.sheet.specs.Pick.{pick, and}
-use Rattle.sheet.specs.Limits.{sheetAtoms, sheetLinks}
-use Rattle.sheet.specs.Held.{indexOf, isIn}
-use Rattle.sheet.specs.declared.Atom.{Atom}
-use Rattle.sheet.specs.declared.Context.{Context}
-use Rattle.sheet.proofs.Lists.{mapped, index-below}
-use Rattle.sheet.proofs.Numbered.{part-cons, part-end}
+use Rattle.rows.specs.Pick.{pick, and}
+use Rattle.rows.specs.Limits.{sheetAtoms, sheetLinks}
+use Rattle.rows.specs.Held.{indexOf, isIn}
+use Rattle.rows.specs.declared.Atom.{Atom}
+use Rattle.rows.specs.declared.Context.{Context}
+use Rattle.rows.proofs.Lists.{mapped, index-below}
+use Rattle.sheet.proofs.normal.Numbered.{part-cons, part-end}
 use Rattle.placing.specs.Smallest.{numbersFrom, numbersTo, sameList}
+use Rattle.placing.proofs.Joined.{numbers-length}
 use Rattle.filling.specs.Read.{fillingRead}
 use Rattle.filling.specs.Fill.{firstDiffering, isExact}
-use Rattle.filling.specs.Parts.{partNormal, firstUnported, places}
+use Rattle.filling.specs.Parts.{partNormal, firstUnported}
 use Rattle.filling.specs.Glued.{placeOf, joinedAt, joinedAll, portPairs, contextPairs, allPairs}
 use Rattle.filling.specs.Whole.{partAtoms, contextAtoms, roomFor, wholeAtoms, Grown}
 use Rattle.filling.specs.Classes.{withLabel, withLabels, linksIn}
@@ -187,7 +188,7 @@ marks-next marks n k a h b e =
 pub marks-end : (marks : List ℕ) (n k : ℕ) → n ≤ k → sameList (drop k (take n marks)) (numbersFrom (k + 1) (n - k)) ≡ true
 marks-end marks n k h = let q : n - k ≡ 0 = omega arith in ap₂ (λ l m. sameList l (numbersFrom (k + 1) m)) (part-end marks n k h) q
 
-list-sizes : (l m : List ℕ) → (length l ≡ length m → ⊥) → sameList l m ≡ false
+pub list-sizes : (l m : List ℕ) → (length l ≡ length m → ⊥) → sameList l m ≡ false
 list-sizes [] [] h = absurd (h refl)
 list-sizes [] (y ∷ m) h = refl
 list-sizes (x ∷ l) [] h = refl
@@ -197,9 +198,5 @@ list-sizes (x ∷ l) (y ∷ m) h = go (eqb x y) (list-sizes l m (λ e. h (ap suc
     go true e = e
     go false e = refl
 
-numbers-size : (s n : ℕ) → length (numbersFrom s n) ≡ n
-numbers-size s zero = refl
-numbers-size s (suc n) = ap suc (numbers-size (suc s) n)
-
 pub marks-other : (marks : List ℕ) (c n : ℕ) → c ≤ length marks → (c ≡ n → ⊥) → sameList (take c marks) (numbersTo n) ≡ false
-marks-other marks c n h k = list-sizes (take c marks) (numbersTo n) (λ e. k (sym (length-take-le c marks h) ∙ e ∙ numbers-size 1 n))
+marks-other marks c n h k = list-sizes (take c marks) (numbersTo n) (λ e. k (sym (length-take-le c marks h) ∙ e ∙ numbers-length 1 n))

@@ -7,12 +7,12 @@ use native.Mathlib.Omega.{arith}
 use lib.ListN.{length, getD, take, drop, length-map}
 use lib.Seq.{take-append-seam}
 use Rattle.hyperlmntal.specs.Link.{_∈_}
-use Rattle.sheet.specs.Format.{mostLinks}
-use Rattle.sheet.specs.Limits.{sheetAtoms, sheetMarks}
-use Rattle.sheet.specs.Packed.{padded}
+use Rattle.rows.specs.Format.{mostLinks}
+use Rattle.rows.specs.Limits.{sheetAtoms, sheetMarks}
+use Rattle.rows.specs.Packed.{padded}
+use Rattle.rows.specs.declared.Atom.{Atom}
+use Rattle.rows.specs.declared.Context.{Context}
 use Rattle.sheet.specs.NormalRows.{pastAtoms}
-use Rattle.sheet.specs.declared.Atom.{Atom}
-use Rattle.sheet.specs.declared.Context.{Context}
 use Rattle.sheet.specs.declared.normal.Normal.{Normal}
 use Rattle.filling.specs.Parts.{partNormal, Low}
 use Rattle.filling.specs.Whole.{labelledAtom, partAtoms, contextAtoms, allAtoms, wholeAtoms}

@@ -9,11 +9,11 @@ use borrow.Author.Tests.{lt-ltb, le-ltb, ltb-true, ltb-false}
 use lib.Dec.{eqb, ltb}
 use lib.ListN.{length, take}
 use lib.Seq.{take-all, take-append-le, length-take-le}
-use Rattle.sheet.specs.Pick.{pick}
-use Rattle.sheet.specs.Limits.{sheetLinks}
-use Rattle.sheet.specs.Held.{indexOf, isIn}
+use Rattle.rows.specs.Pick.{pick}
+use Rattle.rows.specs.Limits.{sheetLinks}
+use Rattle.rows.specs.Held.{indexOf, isIn}
 use Rattle.sheet.specs.Normal.{distinct}
-use Rattle.sheet.proofs.ClassNumbers.{distinct-snoc}
+use Rattle.sheet.proofs.normal.ClassNumbers.{distinct-snoc}
 use Rattle.filling.specs.Classes.{withLabel, withLabels}
 
 -- Whether a number is in a list.

@@ -1,15 +1,15 @@
 -- A figure and the fillings of a list as normal forms: what they agree with, and the bounds of their numbers.
 use Prim.Native.Nat.{ℕ, suc, _+_, _-_, _<_, _≤_, zero}
-use mathlib.Core.Path.{refl, sym, subst}
-use mathlib.Core.List.{List, [], _∷_, _++_, map, List·Memᴰ·head, List·Memᴰ·tail, List·Memᴰ·not-nil, Memᴰ·append-left, Memᴰ·append-right, Memᴰ·map, Memᴰ·of-map}
+use mathlib.Core.Path.{refl, subst}
+use mathlib.Core.List.{List, [], _∷_, _++_, map, List·Memᴰ·head, List·Memᴰ·tail, Memᴰ·append-left, Memᴰ·append-right, Memᴰ·map, Memᴰ·of-map}
 use native.Mathlib.Omega.{arith}
 use lib.ListN.{length, getD, take, replicate}
 use Rattle.hyperlmntal.specs.Link.{_∈_}
 use Rattle.hyperlmntal.specs.Hypergraph.{Node, inner, portNodes}
-use Rattle.sheet.specs.Format.{mostLinks}
-use Rattle.sheet.specs.Limits.{sheetAtoms, figureContexts, sheetMarks}
-use Rattle.sheet.specs.Held.{Held}
-use Rattle.sheet.specs.Packed.{padded, noAtom, noContext, packed}
+use Rattle.rows.specs.Format.{mostLinks}
+use Rattle.rows.specs.Limits.{sheetAtoms, figureContexts, sheetMarks}
+use Rattle.rows.specs.Held.{Held}
+use Rattle.rows.specs.Packed.{padded, noAtom, noContext, packed}
 use Rattle.sheet.specs.Graph.{atomCell, contextCell, graphOf}
 use Rattle.sheet.specs.Agrees.{Agrees}
 use Rattle.sheet.specs.Normal.{classOf, markNode, marksOf, shown}
@@ -20,14 +20,15 @@ use Rattle.sheet.specs.Reading.{noPorts}
 use Rattle.sheet.specs.Filling.{fillingOf}
 use Rattle.sheet.specs.declared.kind.Kind.{Kind}
 use Rattle.sheet.specs.declared.kind.Kind.the-variants.{Figure, Fillings}
-use Rattle.sheet.proofs.Ranges.{Every, AtomRange, ContextRange, WithinLimits}
-use Rattle.sheet.proofs.Room.{limits-most}
-use Rattle.sheet.proofs.HeldLimits.{held-within}
-use Rattle.sheet.proofs.Connected.{agrees-read, ports-in}
-use Rattle.sheet.proofs.OneFilling.{filling-agrees}
-use Rattle.sheet.proofs.NormalBounds.{number-range, text-links}
-use Rattle.sheet.proofs.NormalWritten.{links-known, few-marks}
-use Rattle.sheet.proofs.NormalReady.{numberable-held}
+use Rattle.sheet.proofs.read.Ranges.{AtomRange, ContextRange, WithinLimits}
+use Rattle.sheet.proofs.read.Room.{limits-most}
+use Rattle.sheet.proofs.read.HeldLimits.{held-within}
+use Rattle.sheet.proofs.normal.Connected.{agrees-read, ports-in}
+use Rattle.sheet.proofs.normal.NormalBounds.{number-range, text-links}
+use Rattle.sheet.proofs.normal_text.NormalWritten.{links-known, few-marks}
+use Rattle.sheet.proofs.normal.NormalReady.{numberable-held}
+use Rattle.texts.proofs.OneFilling.{filling-agrees}
+use Rattle.texts.proofs.NormalFits.{every-member}
 use Rattle.filling.specs.Read.{listHeld, partHeld}
 use Rattle.filling.specs.Fill.{figureHeld}
 use Rattle.filling.specs.Parts.{withoutHeads, partNormal, partRoom, Counted, Low}
@@ -64,11 +65,6 @@ module _ (list : List ℕ) (number : ℕ) where
   part-numberable = numberable-held Fillings (withoutHeads (partHeld list number)) part-within (part-agrees .labels)
 
 -- An array as P says, at every place and past its end.
-pub every-member : {A : Type 0} (P : A → Type 0) (l : List A) → Every P l → (a : A) → a ∈ l → P a
-every-member P [] e a i = absurd (List·Memᴰ·not-nil i)
-every-member P (x ∷ l) e a (List·Memᴰ·head q) = subst P (sym q) (e .0)
-every-member P (x ∷ l) e a (List·Memᴰ·tail i) = every-member P l (e .1) a i
-
 pub list-any : {A : Type 0} (P : A → Type 0) (d : A) (l : List A) → P d → ((a : A) → a ∈ l → P a) → (i : ℕ) → P (getD l i d)
 list-any P d [] z p i = z
 list-any P d (x ∷ l) z p zero = p x (List·Memᴰ·head refl)
@@ -112,12 +108,12 @@ module _ (kind : Kind) (h : Held) (w : WithinLimits kind h) (A : Agrees h) where
         contexts = w .contexts;
         marks = few-marks kind h w A;
         atomCounts = padded-any (λ a. a .count ≤ mostLinks) (sheetAtoms + 1) noAtom pastAtoms (map (normalAtom h) (h .atoms)) (omega arith) (omega arith)
-            (map-all (λ a. a .count ≤ mostLinks) (normalAtom h) (h .atoms) (λ a i. every-member AtomRange (h .atoms) (w .ranges .atoms) a i .count));
+            (map-all (λ a. a .count ≤ mostLinks) (normalAtom h) (h .atoms) (λ a i. every-member AtomRange (h .atoms) a (w .ranges .atoms) i .count));
         atomLinks = padded-any (λ a. (k : ℕ) → getD (a .links) k 0 < partRoom) (sheetAtoms + 1) noAtom pastAtoms (map (normalAtom h) (h .atoms)) zero-low (λ k. omega arith)
             (map-all (λ a. (k : ℕ) → getD (a .links) k 0 < partRoom) (normalAtom h) (h .atoms)
             (λ a i. links-low (take (a .count) (a .links)) (λ x j. ports-in (atomCell a) (inner x) (Memᴰ·append-left (map contextCell (h .contexts)) (Memᴰ·map atomCell i)) (Memᴰ·map inner j))));
         contextCounts = padded-any (λ c. c .count ≤ mostLinks) (figureContexts + 1) noContext pastContexts (map (normalContext h) (h .contexts)) (omega arith) (omega arith)
-            (map-all (λ c. c .count ≤ mostLinks) (normalContext h) (h .contexts) (λ c i. every-member (ContextRange kind) (h .contexts) (w .ranges .contexts) c i .count));
+            (map-all (λ c. c .count ≤ mostLinks) (normalContext h) (h .contexts) (λ c i. every-member (ContextRange kind) (h .contexts) c (w .ranges .contexts) i .count));
         contextLinks = padded-any (λ c. (k : ℕ) → getD (c .links) k 0 < partRoom) (figureContexts + 1) noContext pastContexts (map (normalContext h) (h .contexts)) zero-low (λ k. omega arith)
             (map-all (λ c. (k : ℕ) → getD (c .links) k 0 < partRoom) (normalContext h) (h .contexts)
             (λ c i. links-low (take (c .count) (c .links)) (λ x j. ports-in (contextCell c) (inner x) (Memᴰ·append-right (map atomCell (h .atoms)) (Memᴰ·map contextCell i)) (Memᴰ·map inner j))));
@@ -129,8 +125,8 @@ module _ (kind : Kind) (h : Held) (w : WithinLimits kind h) (A : Agrees h) where
   counted =
       record {
         few = w .contexts;
-        number = padded-any (λ c. c .number < 5) (figureContexts + 1) noContext pastContexts (h .contexts) (omega arith) (omega arith) (λ c i. let r = every-member (ContextRange kind) (h .contexts) (w .ranges .contexts) c i in omega (arith, r .number .1));
-        count = padded-any (λ c. c .count ≤ mostLinks) (figureContexts + 1) noContext pastContexts (h .contexts) (omega arith) (omega arith) (λ c i. every-member (ContextRange kind) (h .contexts) (w .ranges .contexts) c i .count);
+        number = padded-any (λ c. c .number < 5) (figureContexts + 1) noContext pastContexts (h .contexts) (omega arith) (omega arith) (λ c i. let r = every-member (ContextRange kind) (h .contexts) c (w .ranges .contexts) i in omega (arith, r .number .1));
+        count = padded-any (λ c. c .count ≤ mostLinks) (figureContexts + 1) noContext pastContexts (h .contexts) (omega arith) (omega arith) (λ c i. every-member (ContextRange kind) (h .contexts) c (w .ranges .contexts) i .count);
       }
 
 pub part-low : (list : List ℕ) (number : ℕ) → Low (partNormal list number)

@@ -1,7 +1,7 @@
 -- A filled text is a sheet: it is read back as the filled figure's normal form, and is what graph substitution makes of the figure.
 use Prim.Native.Nat.{ℕ, zero, suc, _+_, _<_, _≤_}
 use mathlib.Core.Path.{_≡_, refl, ap, ap₂, sym, _∙_, subst}
-use mathlib.Core.List.{List, [], _∷_, map, map-map, append-nil, List·Memᴰ·head, List·Memᴰ·tail, Memᴰ·append-left, Memᴰ·append-right, Memᴰ·map}
+use mathlib.Core.List.{List, [], _∷_, map, map-map, append-nil, Memᴰ·append-left, Memᴰ·append-right, Memᴰ·map}
 use native.Mathlib.Omega.{arith}
 use lib.ListN.{length, getD, take, length-map}
 use Rattle.hyperlmntal.specs.Link.{free, _∈_}
@@ -11,23 +11,23 @@ use Rattle.hyperlmntal.specs.TermOf.{termOf}
 use Rattle.hyperlmntal.specs.DenotedSubstitution.{Spot}
 use Rattle.hyperlmntal.proofs.Lists.{map-agree, Each, done, more, all-map}
 use Rattle.hyperlmntal.proofs.Flats.{flat-≡, cell-≡}
-use Rattle.sheet.specs.Limits.{sheetAtoms, sheetLinks}
+use Rattle.rows.specs.Limits.{sheetAtoms, sheetLinks}
+use Rattle.rows.specs.declared.Atom.{Atom}
 use Rattle.sheet.specs.Graph.{edgeOf, graphOf, termOfText}
 use Rattle.sheet.specs.Normal.{classOf, markedBy, normalFormBy, normalForm}
 use Rattle.sheet.specs.NormalSheet.{normalMarks}
 use Rattle.sheet.specs.NormalText.{textOf}
 use Rattle.sheet.specs.Reading.{outcomeOf, noPorts}
-use Rattle.sheet.specs.declared.Atom.{Atom}
 use Rattle.sheet.specs.declared.kind.Kind.the-variants.{Plain, Figure}
 use Rattle.sheet.specs.declared.answer.Answer.the-variants.{Passed}
-use Rattle.sheet.proofs.Ranges.{Every, MarkRange, EdgeRange}
-use Rattle.sheet.proofs.Marks.{marks-of}
-use Rattle.sheet.proofs.Distinct.{index-below, distinct-in}
-use Rattle.sheet.proofs.TextGraph.{graph-name}
-use Rattle.sheet.proofs.NormalWritten.{few-marks}
-use Rattle.sheet.proofs.NormalFits.{upTo, upTo-length, upTo-in, upTo-of}
-use Rattle.sheet.proofs.BuiltRows.{Vertex, symbolCell, Fitting}
-use Rattle.sheet.proofs.ReadBack.{builtGraph, Known, Readable, read-back, graph-back}
+use Rattle.sheet.proofs.read.Ranges.{Every, MarkRange, EdgeRange}
+use Rattle.sheet.proofs.normal.Marks.{marks-of}
+use Rattle.sheet.proofs.normal.Distinct.{index-below, distinct-in}
+use Rattle.sheet.proofs.normal.TextGraph.{graph-name}
+use Rattle.sheet.proofs.normal_text.NormalWritten.{few-marks}
+use Rattle.texts.proofs.NormalFits.{every-member, upTo, upTo-length, upTo-in, upTo-of}
+use Rattle.texts.proofs.BuiltRows.{Vertex, symbolCell, Fitting, every-in}
+use Rattle.texts.proofs.ReadBack.{builtGraph, Known, Readable, read-back, graph-back}
 use Rattle.placing.specs.Filled.{spotNode, filledNormal}
 use Rattle.placing.specs.Holding.{holdingTerm}
 use Rattle.placing.proofs.FilledText.{filled-text}
@@ -36,7 +36,7 @@ use Rattle.filling.specs.Fill.{figureHeld, filledBy, filledText}
 use Rattle.filling.specs.Parts.{places}
 use Rattle.filling.specs.Glued.{Own}
 use Rattle.filling.specs.Classes.{numberIn}
-use Rattle.filling.proofs.Parts.{every-member, figure-within, figure-agrees}
+use Rattle.filling.proofs.Parts.{figure-within, figure-agrees}
 use Rattle.filling.proofs.Located.{Right, filledSpots}
 use Rattle.filling.proofs.Labelled.{label}
 use Rattle.filling.proofs.Shown.{Like, atoms-like, spotMark, shownSpots}
@@ -65,10 +65,6 @@ ownLabels = countFrom 0 places
 pub own-labels : Own ownLabels
 unfolding ownLabels
 own-labels = record { size = count-size 0 places; own = λ k h. count-at 0 places k h ∙ (let z : 0 + k ≡ k = omega arith in z) }
-
-every-in : {A : Type 0} (P : A → Type 0) (l : List A) → ((a : A) → a ∈ l → P a) → Every P l
-every-in P [] f = tt
-every-in P (x ∷ l) f = (f x (List·Memᴰ·head refl), every-in P l (λ a i. f a (List·Memᴰ·tail i)))
 
 module _ (figure list : List ℕ) (right : Right figure list) where
   abbrev D : List ℕ
@@ -124,7 +120,7 @@ module _ (figure list : List ℕ) (right : Right figure list) where
       let t = graph-name (figureHeld figure) (free m) (marks-of (nodes (graphOf (figureHeld figure))) m i) in
       let p : free m ≡ free (t .0 .1) = t .2 in
       let q : m ≡ t .0 .1 = cc in
-      subst MarkRange (sym q) (every-member EdgeRange (figureHeld figure .edges) (figure-within figure .ranges .edges) (t .0) (t .1) .1)
+      subst MarkRange (sym q) (every-member EdgeRange (figureHeld figure .edges) (t .0) (figure-within figure .ranges .edges) (t .1) .1)
 
   module _ (small : length atoms ≤ sheetAtoms) (narrow : length D ≤ sheetLinks) where
     fitting : {l : List Atom} {k : List (Cell (Spot ℕ ℕ))} → Each (Like figure list right ownLabels own-labels) l k → ((x : Node (Spot ℕ ℕ)) → x ∈ portNodes k → x ∈ shownSpots figure list right ownLabels own-labels)

@@ -13,21 +13,21 @@ use Rattle.hyperlmntal.proofs.Lists.{all-map}
 use Rattle.hyperlmntal.proofs.Connection.{connected-ind, connected-image, recast}
 use Rattle.hyperlmntal.proofs.Flats.{portNodes-map, on-map, on-of-map}
 use Rattle.hyperlmntal.proofs.ExactPorts.{ExactFlat, exact-names}
-use Rattle.sheet.specs.Held.{indexOf}
+use Rattle.rows.specs.Held.{indexOf}
 use Rattle.sheet.specs.Normal.{classOf, markNode, marksOf, shown, distinct, classesBy, numberBy}
 use Rattle.sheet.specs.NormalSheet.{normalMarks}
-use Rattle.sheet.proofs.Classes.{class-of-connected, connected-of-class}
-use Rattle.sheet.proofs.Distinct.{Agree, index-agree, length-agree}
-use Rattle.sheet.proofs.Marks.{marks-in, marks-of, marks-ascending, ascending-same}
+use Rattle.sheet.proofs.normal.Classes.{class-of-connected, connected-of-class}
+use Rattle.sheet.proofs.normal.Distinct.{Agree, index-agree, length-agree}
+use Rattle.sheet.proofs.normal.Marks.{marks-in, marks-of, marks-ascending, ascending-same}
 use Rattle.placing.specs.Fillings.{ExactMarks}
 use Rattle.placing.specs.Filled.{flatEntry, spotNumber, spotNode}
 use Rattle.placing.proofs.Names.{exact-flat}
 use Rattle.placing.proofs.FilledText.{spot-injective, AllExactMarks}
+use Rattle.texts.proofs.NormalFits.{every-member}
 use Rattle.filling.specs.Read.{fillingRead, fillingsRead, listHeld}
 use Rattle.filling.specs.Fill.{figureHeld, filledBy, isExact}
 use Rattle.filling.specs.Glued.{Own}
 use Rattle.filling.proofs.Exact.{exact-marks}
-use Rattle.filling.proofs.Parts.{every-member}
 use Rattle.filling.proofs.Located.{Right, figureGraph, filledSpots}
 use Rattle.filling.proofs.Labelled.{label, labels-tell, connected-same}
 use Rattle.filling.proofs.Shown.{spotMark, shownSpots, shown-stands}
@@ -55,7 +55,7 @@ spot-connected E x y c =
 
 module _ (figure list : List ℕ) (right : Right figure list) where
   pub exact-fillings : AllExactMarks (fillingsRead list)
-  exact-fillings = all-map (fillingRead list) (listHeld list .contexts) (λ f. ExactMarks (f .ports) (f .rows)) (λ c i. exact-marks (fillingRead list c) (every-member (λ c. isExact (fillingRead list c) ≡ true) (listHeld list .contexts) (right .exact) c i))
+  exact-fillings = all-map (fillingRead list) (listHeld list .contexts) (λ f. ExactMarks (f .ports) (f .rows)) (λ c i. exact-marks (fillingRead list c) (every-member (λ c. isExact (fillingRead list c) ≡ true) (listHeld list .contexts) c (right .exact) i))
 
   -- The marks of the filled figure are the figure's.
   pub marks-same : marksOf (filledBy figure list) ≡ normalMarks (figureHeld figure)

@@ -1,28 +1,26 @@
 -- The net of a normal form whose vertices are all atoms: it is a normal sheet, and its links are the classes that do not vanish.
 use Prim.Native.Nat.{ℕ, zero, suc, _≤_}
 use mathlib.Core.Path.{_≡_, refl, ap, ap₂, sym, _∙_, subst}
-use mathlib.Core.Logic.{_⊎_, inl, inr}
-use mathlib.Core.List.{List, [], _∷_, map, map-map, append-nil, List·Memᴰ·head, List·Memᴰ·tail, List·Memᴰ·append-cases, Memᴰ·cast, Memᴰ·map, Memᴰ·of-map}
+use mathlib.Core.List.{List, [], _∷_, map, map-map, append-nil, List·Memᴰ·head, List·Memᴰ·tail, Memᴰ·cast, Memᴰ·of-map}
 use native.Mathlib.Omega.{arith}
 use lib.ListN.{length, length-map}
 use lib.Seq.{take-length}
 use Rattle.hyperlmntal.specs.Link.{_∈_}
-use Rattle.hyperlmntal.specs.Hypergraph.{Node, inner, Label, symbol, hole, Cell, Flat, portNodes, nodes, mapCell}
+use Rattle.hyperlmntal.specs.Hypergraph.{Node, inner, Label, symbol, hole, Cell, Flat, nodes, mapCell}
 use Rattle.hyperlmntal.specs.TermOf.{termOf}
-use Rattle.hyperlmntal.proofs.Flats.{flat-≡, cell-≡, on-atoms, on-fusions, ends-in}
-use Rattle.sheet.specs.Held.{Held, indexOf, noWiring}
+use Rattle.hyperlmntal.proofs.Flats.{flat-≡, cell-≡}
+use Rattle.rows.specs.Held.{Held, indexOf, noWiring}
+use Rattle.rows.specs.declared.Atom.{Atom}
 use Rattle.sheet.specs.Graph.{atomCell, edgeOf, graphOf}
-use Rattle.sheet.specs.Normal.{classOf, markNode, marksOf, shown, distinct, classesBy, numberBy, numberedBy, markedBy, normalFormBy, normalForm}
+use Rattle.sheet.specs.Normal.{classOf, marksOf, shown, distinct, classesBy, numberBy, numberedBy, markedBy, normalFormBy, normalForm}
 use Rattle.sheet.specs.NormalText.{nodeNumber}
-use Rattle.sheet.specs.declared.Atom.{Atom}
-use Rattle.sheet.proofs.Ranges.{Every}
-use Rattle.sheet.proofs.Distinct.{Once, distinct-of, distinct-once, index-below, index-injective, once-length}
-use Rattle.sheet.proofs.NormalFits.{upTo, upTo-length, upTo-in}
-use Rattle.sheet.proofs.NormalNodes.{form-ports}
-use Rattle.sheet.proofs.NormalBounds.{classCount, normal-range}
-use Rattle.sheet.proofs.NormalTwice.{normal-idempotent}
+use Rattle.sheet.proofs.read.Ranges.{Every}
+use Rattle.sheet.proofs.normal.Distinct.{Once, distinct-of, distinct-once, index-below, index-injective, once-length}
+use Rattle.sheet.proofs.normal.NormalBounds.{classCount, normal-range}
+use Rattle.texts.proofs.NormalFits.{upTo, upTo-length, upTo-in}
+use Rattle.texts.proofs.NormalTwice.{normal-idempotent}
 use Rattle.placing.specs.Net.{Net, Range, standing, edgeNumbers, netOf, normalNet, netGraph, netTerm, NormalSheet}
-use Rattle.placing.proofs.NormalNets.{atomNumbers, linkNumber, standing-node, node-standing, normal-graph, normal-atoms, normal-contexts, normal-net}
+use Rattle.placing.proofs.NormalNets.{atomNumbers, linkNumber, standing-node, node-standing, normal-graph, normal-atoms, normal-contexts, normal-net, shown-node}
 
 -- Different numbers stay different under a function that keeps them apart.
 pub once-map : (f : ℕ → ℕ) (l : List ℕ) → Once l → ((x y : ℕ) → x ∈ l → y ∈ l → f x ≡ f y → x ≡ y) → Once (map f l)
@@ -53,17 +51,6 @@ cells-back f (c ∷ l) s =
 edges-back : (label : Node ℕ → ℕ) (F : Flat ℕ) (l : List ℕ) → map edgeOf (map edgeNumbers (map (markedBy label F) l)) ≡ map (markedBy label F) l
 edges-back label F [] = refl
 edges-back label F (m ∷ l) = ap (λ k. markedBy label F m ∷ k) (edges-back label F l)
-
--- The number of each node that is shown is there.
-shown-node : (label : Node ℕ → ℕ) (F : Flat ℕ) (x : Node ℕ) → x ∈ shown F → inner (numberBy label F x) ∈ nodes (normalFormBy label F)
-unfolding normalFormBy
-shown-node label F x m = side (List·Memᴰ·append-cases (portNodes (F .atoms)) m)
-  where
-    side : (x ∈ portNodes (F .atoms)) ⊎ (x ∈ map markNode (marksOf F)) → inner (numberBy label F x) ∈ nodes (normalFormBy label F)
-    side (inl k) = on-atoms (normalFormBy label F) (subst (λ l. inner (numberBy label F x) ∈ l) (sym (form-ports label F)) (Memᴰ·map (numberedBy label F) k))
-    side (inr k) =
-        let t : (m : ℕ) × (m ∈ marksOf F) × (markNode m ≡ x) = Memᴰ·of-map markNode (marksOf F) k in
-        on-fusions (normalFormBy label F) (Memᴰ·cast (ap (λ y. inner (numberBy label F y)) (sym (t .2))) ((ends-in {e = markedBy label F (t .0)} (Memᴰ·map (markedBy label F) (t .1))) .0))
 
 module _ (F : Flat ℕ) (atoms : Atoms (F .atoms)) where
   -- What a text would hold whose hypergraph is the normal form.

@@ -4,10 +4,10 @@ use mathlib.Core.Path.{_≡_, refl, ap, sym, _∙_}
 use mathlib.Core.List.{List, [], _∷_, _++_, map}
 use Rattle.hyperlmntal.specs.Hypergraph.{Flat}
 use Rattle.hyperlmntal.proofs.Flats.{flat-≡}
-use Rattle.sheet.specs.Held.{Held}
+use Rattle.rows.specs.Held.{Held}
+use Rattle.rows.specs.declared.Atom.{Atom}
+use Rattle.rows.specs.declared.Context.{Context}
 use Rattle.sheet.specs.Graph.{atomCell, contextCell, fusionOf, edgeOf, graphOf}
-use Rattle.sheet.specs.declared.Atom.{Atom}
-use Rattle.sheet.specs.declared.Context.{Context}
 use Rattle.placing.specs.Fillings.{Row, rowsGraph, markOf}
 use Rattle.filling.specs.Read.{symbolRead, pointRead, rowsRead}
 use Rattle.filling.specs.Parts.{withoutHeads}

@@ -1,5 +1,5 @@
 -- The atoms of a filled figure, one by one, and the nodes by whose order its classes are numbered.
-use Prim.Native.Nat.{ℕ, zero, suc, _+_, _-_, _*_, _<_, _≤_}
+use Prim.Native.Nat.{ℕ, zero, suc, _+_, _*_, _<_, _≤_}
 use mathlib.Core.Path.{_≡_, refl, ap, ap₂, sym, _∙_, subst}
 use mathlib.Core.Logic.{_⊎_, inl, inr}
 use mathlib.Core.List.{List, [], _∷_, _++_, map, map-map, map-append, append-nil, List·Memᴰ·not-nil, List·Memᴰ·append-cases, Memᴰ·append-left, Memᴰ·append-right, Memᴰ·map}
@@ -12,20 +12,21 @@ use Rattle.hyperlmntal.specs.DenotedSubstitution.{Spot, outerNode, fillWith, fi
 use Rattle.hyperlmntal.proofs.Lists.{map-agree, Each, done, more, each-append, each-maps, all-append, all-map}
 use Rattle.hyperlmntal.proofs.Filling.{fillCells-append}
 use Rattle.hyperlmntal.proofs.Slots.{entryAt}
-use Rattle.sheet.specs.Format.{mostLinks}
-use Rattle.sheet.specs.Limits.{sheetAtoms, figureContexts, sheetMarks}
-use Rattle.sheet.specs.Held.{Held}
-use Rattle.sheet.specs.Packed.{padded, noAtom, noContext}
+use Rattle.rows.specs.Format.{mostLinks}
+use Rattle.rows.specs.Limits.{sheetAtoms, figureContexts, sheetMarks}
+use Rattle.rows.specs.Held.{Held}
+use Rattle.rows.specs.Packed.{padded, noAtom, noContext}
+use Rattle.rows.specs.declared.Atom.{Atom}
+use Rattle.rows.specs.declared.Context.{Context}
+use Rattle.rows.proofs.Padding.{take-padded}
 use Rattle.sheet.specs.Graph.{atomCell, contextCell, graphOf}
-use Rattle.sheet.specs.Normal.{markNode, marksOf, shown}
+use Rattle.sheet.specs.Normal.{markNode, marksOf}
 use Rattle.sheet.specs.NormalSheet.{numberIn, normalAtom, normalContext, normalMarks, packedNormal}
 use Rattle.sheet.specs.NormalRows.{pastContexts}
-use Rattle.sheet.specs.declared.Atom.{Atom}
-use Rattle.sheet.specs.declared.Context.{Context}
-use Rattle.sheet.proofs.Padding.{take-padded}
-use Rattle.sheet.proofs.Ranges.{Every, AtomRange}
-use Rattle.sheet.proofs.Connected.{ports-in}
-use Rattle.sheet.proofs.NormalWritten.{used-links, taken-padded}
+use Rattle.sheet.proofs.read.Ranges.{Every, AtomRange}
+use Rattle.sheet.proofs.normal.Connected.{ports-in}
+use Rattle.sheet.proofs.normal_text.NormalWritten.{used-links, taken-padded}
+use Rattle.texts.proofs.NormalFits.{every-member}
 use Rattle.filling.specs.Read.{partHeld}
 use Rattle.filling.specs.Fill.{figureHeld}
 use Rattle.filling.specs.Parts.{partNormal, partRoom}
@@ -33,7 +34,7 @@ use Rattle.filling.specs.Glued.{placeOf, Own}
 use Rattle.filling.specs.Whole.{labelledAtom, partAtoms, contextAtoms, allAtoms}
 use Rattle.filling.specs.Classes.{linksIn, markLabels}
 use Rattle.filling.proofs.Rows.{read-graph}
-use Rattle.filling.proofs.Parts.{every-member, figure-within, part-within}
+use Rattle.filling.proofs.Parts.{figure-within, part-within}
 use Rattle.filling.proofs.Located.{Right, figureGraph, entries, filledSpots, atomCount, partCount, contextAt, heldAt, nodeAt, entry-at}
 use Rattle.filling.proofs.Labelled.{labels, Known, labelAt, label, label-within}
 
@@ -67,7 +68,7 @@ module _ (figure list : List ℕ) (right : Right figure list) (own : List ℕ) (
 
   one-like : (p : ℕ) → p ≤ partCount figure list → (a : Atom) → a ∈ heldAt figure list p .atoms → Like (labelled p a) (mapCell (nodeAt figure list p) (atomCell a))
   one-like p h a i =
-      let r = every-member AtomRange (heldAt figure list p .atoms) (atoms-in-range p) a i in
+      let r = every-member AtomRange (heldAt figure list p .atoms) a (atoms-in-range p) i in
       let L : ℕ → ℕ = λ x. getD (labels figure list right own O) (placeOf p x) 0 in
       let links = take (a .count) (a .links) in
       let w : a .count ≤ length (a .links) = omega (arith, r .count, r .ports .width) in

@@ -9,13 +9,13 @@ use lib.ListN.{length, drop, length-map}
 use Rattle.hyperlmntal.specs.Link.{_∈_}
 use Rattle.hyperlmntal.specs.Congruence.{_≅_}
 use Rattle.hyperlmntal.specs.Hypergraph.{inner, nodes, mapCell}
-use Rattle.sheet.specs.Held.{Held}
+use Rattle.rows.specs.Held.{Held}
 use Rattle.sheet.specs.Graph.{graphOf, termOfText}
 use Rattle.sheet.specs.Normal.{classOf, classesBy, numberedBy, normalFormBy, normalForm}
 use Rattle.sheet.specs.Reading.{outcomeOf, noPorts}
 use Rattle.sheet.specs.declared.answer.Answer.the-variants.{Passed}
 use Rattle.sheet.specs.declared.kind.Kind.the-variants.{Plain, Pattern, Figure, Fillings}
-use Rattle.sheet.proofs.NormalBounds.{normal-range}
+use Rattle.sheet.proofs.normal.NormalBounds.{normal-range}
 use Rattle.placing.specs.Net.{Range, normalNet}
 use Rattle.placing.specs.Placing.{Placing, Good}
 use Rattle.placing.specs.Fillings.{Filling, ExactMarks, rowsGraph, normalFillingsOf}
@@ -35,6 +35,7 @@ use Rattle.filling.proofs.Rows as Rows
 use Rattle.filling.proofs.Exact as Exact
 use Rattle.filling.proofs.Denotes as Denotes
 use Rattle.filling.proofs.Back as Back
+use Rattle.filling.proofs.ReadAsFigure as ReadAsFigure
 use Rattle.filling.proofs.Chosen as Chosen
 
 -- Where fill writes, both texts passed, every blank has its filling, and every filling has exactly its ports as marks.
@@ -95,4 +96,4 @@ pub chosen-fill : (sheet pattern : List ℕ) → outcomeOf Plain noPorts sheet .
     → termOfText (outcomeOf Plain noPorts (filledText pattern (listText (normalFillingsOf (normalNet (heldSheet sheet)) p (normalNet (heldPattern pattern))))) .held) ≅ termOfText (heldSheet sheet))
 chosen-fill sheet pattern a b p e =
     let g = smallest-good (normalNet (heldSheet sheet)) (normalNet (heldPattern pattern)) p e in
-    (Chosen.pattern-figure pattern b, Chosen.placed-right sheet pattern a b p g, Chosen.placed-fill sheet pattern a b p g)
+    (ReadAsFigure.pattern-figure pattern b, Chosen.placed-right sheet pattern a b p g, Chosen.placed-fill sheet pattern a b p g)

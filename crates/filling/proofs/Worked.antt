@@ -6,11 +6,11 @@ use native.Mathlib.Decide.{ℕ-discrete}
 use Rattle.hyperlmntal.specs.Link.{_≟_}
 use Rattle.hyperlmntal.specs.GraphSubstitution.{sameFunctor}
 use Rattle.hyperlmntal.specs.DenotedSubstitution.{connect}
-use Rattle.sheet.specs.Format.{letterOf, ruleOf}
-use Rattle.sheet.specs.Row.{misplacedIn, fieldOf, suits, judged, fieldsOf, rowOf}
-use Rattle.sheet.specs.RowText.{fieldBytes, fieldsBytes, rowBytes}
-use Rattle.sheet.specs.Held.{indexOf, withLink, withLinks, merged, withFusion, withMark, withAtom, withContext, withFusionRow, withEdgeRow, withHead, withRow}
-use Rattle.sheet.specs.Packed.{portsOf}
+use Rattle.rows.specs.Format.{letterOf, ruleOf}
+use Rattle.rows.specs.Row.{misplacedIn, fieldOf, suits, judged, fieldsOf, rowOf}
+use Rattle.rows.specs.RowText.{fieldBytes, fieldsBytes, rowBytes}
+use Rattle.rows.specs.Held.{indexOf, withLink, withLinks, merged, withFusion, withMark, withAtom, withContext, withFusionRow, withEdgeRow, withHead, withRow}
+use Rattle.rows.specs.Packed.{portsOf}
 use Rattle.sheet.specs.Reading.{strange, lastNumber, clashOf, clashes, firstOf, readFrom, outcomeOf}
 use Rattle.sheet.specs.Filling.{fromHead, beforeHead, fillingOf}
 use Rattle.sheet.specs.Normal.{classOf, inserted, marksAmong, others, distinct, classesBy, numberBy, normalFormBy, normalForm}

@@ -1,5 +1,5 @@
 -- The normal form that the code makes is written as the filled text.
-use Prim.Native.Nat.{ℕ, suc, _+_, _*_, _<_, _≤_}
+use Prim.Native.Nat.{ℕ, _+_, _*_, _<_, _≤_}
 use mathlib.Core.Path.{_≡_, refl, ap, ap₂, sym, _∙_, subst}
 use mathlib.Core.List.{List, [], _∷_, _++_, map, map-map, append-nil, List·Memᴰ·not-nil, List·Memᴰ·head, List·Memᴰ·tail, Memᴰ·append-left, Memᴰ·append-right, Memᴰ·map}
 use native.Mathlib.Omega.{arith}
@@ -9,22 +9,24 @@ use Rattle.hyperlmntal.specs.Link.{_∈_}
 use Rattle.hyperlmntal.specs.Hypergraph.{Node, Label, Cell, portNodes, mapCell}
 use Rattle.hyperlmntal.specs.DenotedSubstitution.{Spot}
 use Rattle.hyperlmntal.proofs.Lists.{map-agree, Each, done, more}
-use Rattle.sheet.specs.Format.{mostLinks, rowWidth}
-use Rattle.sheet.specs.Limits.{sheetAtoms, sheetLinks, sheetMarks}
-use Rattle.sheet.specs.Packed.{padded}
-use Rattle.sheet.specs.RowText.{rowBytes}
+use Rattle.hyperlmntal.proofs.Equivalence.{each-length}
+use Rattle.rows.specs.Format.{mostLinks, rowWidth}
+use Rattle.rows.specs.Limits.{sheetAtoms, sheetLinks, sheetMarks}
+use Rattle.rows.specs.Packed.{padded}
+use Rattle.rows.specs.RowText.{rowBytes}
+use Rattle.rows.specs.declared.Atom.{Atom}
+use Rattle.rows.proofs.Wired.{indexOf-le}
+use Rattle.rows.proofs.Padding.{getD-padded}
+use Rattle.rows.proofs.Lists.{getD-mapped}
 use Rattle.sheet.specs.Normal.{classOf, marksOf, distinct, numberBy, numberedBy, markedBy, normalFormBy, normalForm}
 use Rattle.sheet.specs.NormalSheet.{normalMarks, packedNormal}
 use Rattle.sheet.specs.NormalText.{nodeNumber, cellBytes, edgeBytes, joined, slipLength}
 use Rattle.sheet.specs.NormalRows.{pastAtoms, rowsTo, symbolRow, atomRow, contextRow, markRow, normalRows, Narrow, Writable}
-use Rattle.sheet.specs.declared.Atom.{Atom}
 use Rattle.sheet.specs.declared.normal.Normal.{Normal}
 use Rattle.sheet.specs.declared.kind.Kind.the-variants.{Figure}
-use Rattle.sheet.proofs.Wired.{indexOf-le}
-use Rattle.sheet.proofs.Connected.{getD-in}
-use Rattle.sheet.proofs.Padding.{getD-padded}
-use Rattle.sheet.proofs.NormalRows.{rows-joined}
-use Rattle.sheet.proofs.NormalWritten.{taken-padded, mapped-at, getD-mapped, few-marks, normal-writable}
+use Rattle.sheet.proofs.normal.Merging.{getD-in}
+use Rattle.sheet.proofs.normal_text.NormalRows.{rows-joined}
+use Rattle.sheet.proofs.normal_text.NormalWritten.{taken-padded, mapped-at, few-marks, normal-writable}
 use Rattle.placing.specs.Filled.{spotNode}
 use Rattle.filling.specs.Fill.{figureHeld, filledBy, filledText}
 use Rattle.filling.specs.Glued.{Own}
@@ -36,10 +38,6 @@ use Rattle.filling.proofs.Labelled.{labels, label}
 use Rattle.filling.proofs.Shown.{Like, atoms-like, spotMark, shownSpots, mark-labels, shown-labels}
 use Rattle.filling.proofs.Numbered.{labels-append, labels-distinct}
 use Rattle.filling.proofs.Result.{marks-same, classes, class-number}
-
-each-size : {A B : Type 0} {R : A → B → Type 0} {l : List A} {k : List B} → Each R l k → length l ≡ length k
-each-size done = refl
-each-size (more r e) = ap suc (each-size e)
 
 -- What is related to something has what all such have.
 pub each-left : {A B : Type 0} {R : A → B → Type 0} (P : A → Type 0) → ((a : A) (b : B) → R a b → P a) → {l : List A} {k : List B} → Each R l k → (a : A) → a ∈ l → P a
@@ -61,7 +59,7 @@ module _ (figure list : List ℕ) (right : Right figure list) (own : List ℕ) (
   numbered = numberedBy (classOf (filledBy figure list .fusions)) (filledBy figure list)
 
   pub atom-count : length (filledBy figure list .atoms) ≡ length madeAtoms
-  atom-count = length-map (filledSpots figure list .atoms) (mapCell spotNode) ∙ sym (each-size (atoms-like figure list right own O))
+  atom-count = length-map (filledSpots figure list .atoms) (mapCell spotNode) ∙ sym (each-length (atoms-like figure list right own O))
 
   -- The links of a vertex by their numbers.
   pub symbol-links : (α : Atom) (κ : Cell (Spot ℕ ℕ)) → Like figure list right own O α κ → ((x : Node (Spot ℕ ℕ)) → x ∈ κ .ports → x ∈ shownSpots figure list right own O)

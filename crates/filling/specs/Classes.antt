@@ -3,12 +3,12 @@ use Prim.Native.Nat.{ℕ, suc, _+_, _≤_}
 use mathlib.Core.Path.{_≡_}
 use mathlib.Core.List.{List, [], _∷_, _++_, map}
 use lib.ListN.{length, take, getD}
-use Rattle.sheet.specs.Pick.{pick}
-use Rattle.sheet.specs.Format.{mostLinks}
-use Rattle.sheet.specs.Limits.{sheetLinks, sheetMarks}
-use Rattle.sheet.specs.Held.{indexOf, isIn}
-use Rattle.sheet.specs.Packed.{padded}
-use Rattle.sheet.specs.declared.Atom.{Atom}
+use Rattle.rows.specs.Pick.{pick}
+use Rattle.rows.specs.Format.{mostLinks}
+use Rattle.rows.specs.Limits.{sheetLinks, sheetMarks}
+use Rattle.rows.specs.Held.{indexOf, isIn}
+use Rattle.rows.specs.Packed.{padded}
+use Rattle.rows.specs.declared.Atom.{Atom}
 use Rattle.sheet.specs.declared.normal.Normal.{Normal}
 use Rattle.filling.specs.Whole.{allAtoms, roomFor, wholeAtoms}
 use Rattle.filling.specs.declared.whole.Whole.{Whole}

@@ -3,7 +3,6 @@ use Prim.Native.Nat.{ℕ}
 use mathlib.Core.List.{List, _++_}
 use lib.ListN.{drop}
 use Rattle.sheet.specs.Answer.{refusalNumber}
-use Rattle.sheet.specs.declared.normalise.TaskAnswer.{TaskAnswer}
 use Rattle.filling.specs.declared.done.Done.{Done}
 use Rattle.filling.specs.declared.done.Done.the-variants as done
 
@@ -44,9 +43,6 @@ doneBytes (done.BlankClash input row) = 0
 doneBytes (done.EdgeDiffers input row) = 0
 doneBytes done.NoPlacing = 0
 doneBytes done.TooLarge = 0
-
-abbrev pub doneAnswer : Done → TaskAnswer
-doneAnswer d = record { number = doneNumber d; input = doneInput d; row = doneRow d; bytes = doneBytes d }
 
 -- the slip at exit: 'the slip stays; success changes only the bytes counted'
 abbrev pub slipAfter : Done → List ℕ → List ℕ → List ℕ

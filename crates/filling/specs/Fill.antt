@@ -5,15 +5,15 @@ use mathlib.Core.Bool.{Bool}
 use lib.Dec.{eqb, ltb}
 use lib.ListN.{length}
 use Rattle.hyperlmntal.specs.Hypergraph.{Flat}
-use Rattle.sheet.specs.Pick.{pick, or}
-use Rattle.sheet.specs.Limits.{sheetAtoms, sheetLinks}
-use Rattle.sheet.specs.Held.{Held}
-use Rattle.sheet.specs.Packed.{portsOf}
+use Rattle.rows.specs.Pick.{pick, or}
+use Rattle.rows.specs.Limits.{sheetAtoms, sheetLinks}
+use Rattle.rows.specs.Held.{Held}
+use Rattle.rows.specs.Packed.{portsOf}
+use Rattle.rows.specs.declared.Context.{Context}
 use Rattle.sheet.specs.Graph.{graphOf}
 use Rattle.sheet.specs.Normal.{classOf, classesBy, marksOf}
 use Rattle.sheet.specs.NormalText.{textOf, slipLength}
 use Rattle.sheet.specs.Reading.{outcomeOf, noPorts}
-use Rattle.sheet.specs.declared.Context.{Context}
 use Rattle.sheet.specs.declared.kind.Kind.the-variants.{Figure, Fillings}
 use Rattle.sheet.specs.declared.answer.Answer.{Answer}
 use Rattle.sheet.specs.declared.answer.Answer.the-variants.{Passed, Refused}

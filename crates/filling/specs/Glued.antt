@@ -3,8 +3,8 @@ use Prim.Native.Nat.{ℕ, _+_, _*_, _<_}
 use mathlib.Core.Path.{_≡_}
 use mathlib.Core.List.{List, [], _∷_, _++_, map}
 use lib.ListN.{length, take, getD}
-use Rattle.sheet.specs.Held.{relabelled}
-use Rattle.sheet.specs.declared.Context.{Context}
+use Rattle.rows.specs.Held.{relabelled}
+use Rattle.rows.specs.declared.Context.{Context}
 use Rattle.sheet.specs.declared.normal.Normal.{Normal}
 use Rattle.filling.specs.Parts.{partNormal, partRoom, places}
 

@@ -3,14 +3,14 @@ use Prim.Native.Nat.{ℕ, suc, _+_, _*_, _<_, _≤_}
 use mathlib.Core.List.{List, [], _∷_}
 use lib.Dec.{eqb}
 use lib.ListN.{getD}
-use Rattle.sheet.specs.Pick.{pick}
-use Rattle.sheet.specs.Format.{mostLinks}
-use Rattle.sheet.specs.Limits.{sheetAtoms, figureContexts, sheetMarks, fillingLinks}
-use Rattle.sheet.specs.Held.{Held}
+use Rattle.rows.specs.Pick.{pick}
+use Rattle.rows.specs.Format.{mostLinks}
+use Rattle.rows.specs.Limits.{sheetAtoms, figureContexts, sheetMarks, fillingLinks}
+use Rattle.rows.specs.Held.{Held}
+use Rattle.rows.specs.declared.Context.{Context}
+use Rattle.rows.specs.declared.Sheet.{Sheet}
 use Rattle.sheet.specs.NormalSheet.{packedNormal}
 use Rattle.sheet.specs.NormalRows.{pastAtoms, pastContexts}
-use Rattle.sheet.specs.declared.Context.{Context}
-use Rattle.sheet.specs.declared.Sheet.{Sheet}
 use Rattle.sheet.specs.declared.normal.Normal.{Normal}
 use Rattle.filling.specs.Read.{partHeld}
 

@@ -2,11 +2,11 @@
 use Prim.Native.Nat.{ℕ}
 use mathlib.Core.List.{List, _++_, map}
 use lib.ListN.{take}
-use Rattle.sheet.specs.Held.{Held}
+use Rattle.rows.specs.Held.{Held}
+use Rattle.rows.specs.declared.Atom.{Atom}
+use Rattle.rows.specs.declared.Context.{Context}
 use Rattle.sheet.specs.Filling.{fillingOf}
 use Rattle.sheet.specs.Reading.{outcomeOf, noPorts}
-use Rattle.sheet.specs.declared.Atom.{Atom}
-use Rattle.sheet.specs.declared.Context.{Context}
 use Rattle.sheet.specs.declared.kind.Kind.the-variants.{Fillings}
 use Rattle.placing.specs.Fillings.{Row, symbolRow, pointRow, Filling, markOf}
 

@@ -1,15 +1,15 @@
 // Link classes numbered by first appearance: the labels that have a number, in the order of their numbers.
 use crate::whole::Whole;
-use sheet::Atom;
-use sheet::Sheet;
-use sheet::take::index_of;
+use rows::Atom;
+use rows::Sheet;
+use rows::take::index_of;
 ghost use mathlib.Core.Path.{_≡_};
 ghost use mathlib.Core.List.{[], _∷_, _++_, map};
 ghost use Prim.Native.Nat.{ℕ, _+_, _≤_};
 ghost use lib.ListN.{length, take, drop, getD};
-ghost use Rattle.sheet.specs.Format.{mostLinks};
-ghost use Rattle.sheet.specs.Limits.{sheetAtoms, sheetLinks, sheetMarks};
-ghost use Rattle.sheet.specs.Packed.{padded};
+ghost use Rattle.rows.specs.Format.{mostLinks};
+ghost use Rattle.rows.specs.Limits.{sheetAtoms, sheetLinks, sheetMarks};
+ghost use Rattle.rows.specs.Packed.{padded};
 ghost use Rattle.sheet.specs.NormalRows.{pastAtoms};
 ghost use Rattle.filling.specs.Whole.{wholeAtoms};
 ghost use Rattle.filling.specs.Classes.{seen, Sees, linksIn, numberIn, numberedLinks, numberedAtom};

@@ -1,9 +1,9 @@
 // The task fill: a figure with its contexts filled from a list, as normal text, into an output buffer.
 use crate::done::Done;
-use crate::filled::filled_normal;
+use crate::filled::normal_filled;
 use crate::part::first_differing;
 use crate::part::first_lacking;
-use sheet::Sheet;
+use rows::Sheet;
 use sheet::answer::Answer;
 use sheet::normal_text::write_normal;
 use sheet::read::read_figure;
@@ -12,7 +12,7 @@ ghost use mathlib.Core.Path.{_≡_};
 ghost use mathlib.Core.List.{List};
 ghost use Prim.Native.Nat.{ℕ, _≤_};
 ghost use lib.ListN.{length};
-ghost use Rattle.sheet.specs.Packed.{packed};
+ghost use Rattle.rows.specs.Packed.{packed};
 ghost use Rattle.sheet.specs.NormalText.{slipLength};
 ghost use Rattle.filling.specs.Read.{listHeld};
 ghost use Rattle.filling.specs.Done.{slipAfter};
@@ -33,7 +33,7 @@ fn fill_read(figure: Sheet, heads: Sheet, list: &[u8], out: &mut [u8]) -> Done
     if differing != 0 {
         return Done::EdgeDiffers(2, differing);
     }
-    let normal = filled_normal(figure, list);
+    let normal = normal_filled(figure, list);
     if Sheet::ATOMS < normal.atom_count {
         return Done::TooLarge;
     }

@@ -4,17 +4,17 @@ use crate::glue::PLACES;
 use crate::glue::glued;
 use crate::whole::Whole;
 use crate::whole::whole_of;
-use sheet::Sheet;
+use rows::Sheet;
 use sheet::normal::Normal;
 use sheet::normal::normal_of;
 ghost use mathlib.Core.Path.{_≡_};
 ghost use mathlib.Core.List.{List};
 ghost use Prim.Native.Nat.{ℕ, _+_, _≤_};
 ghost use lib.ListN.{take, getD};
-ghost use Rattle.sheet.specs.Format.{mostLinks};
-ghost use Rattle.sheet.specs.Limits.{sheetAtoms, sheetMarks};
+ghost use Rattle.rows.specs.Format.{mostLinks};
+ghost use Rattle.rows.specs.Limits.{sheetAtoms, sheetMarks};
+ghost use Rattle.rows.specs.Packed.{packed};
 ghost use Rattle.sheet.specs.NormalRows.{pastAtoms};
-ghost use Rattle.sheet.specs.Packed.{packed};
 ghost use Rattle.filling.specs.Read.{listHeld};
 ghost use Rattle.filling.specs.Fill.{figureHeld, firstLacking, firstDiffering};
 ghost use Rattle.filling.specs.Filled.{FilledIs};
@@ -75,7 +75,7 @@ pub(crate) fn filled(figure: Normal, list: &[u8]) -> Normal
 }
 
 // The normal form of a figure filled from a list that has a filling for each of its contexts.
-pub fn filled_normal(figure: Sheet, list: &[u8]) -> Normal
+pub fn normal_filled(figure: Sheet, list: &[u8]) -> Normal
     requires { ⌜ ((text : List ℕ) × (figure ≡ packed (figureHeld text))) ⌝ }
     ensures { λ r. ⌜ ((text : List ℕ) → figure ≡ packed (figureHeld text) → firstLacking (listHeld (now (list .entry)) .contexts) (figureHeld text .contexts) ≡ 0 → firstDiffering (now (list .entry)) (listHeld (now (list .entry)) .contexts) ≡ 0 → FilledIs text (now (list .entry)) r) ⌝ }
 {

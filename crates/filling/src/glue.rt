@@ -2,13 +2,13 @@
 // p * PART + n, part 0 being the figure and part i + 1 the filling put for context i; two places have
 // the same label exactly when they are one.
 use crate::part::part_of;
-use sheet::Sheet;
+use rows::Sheet;
 use sheet::normal::Normal;
 ghost use mathlib.Core.Path.{_≡_};
 ghost use Prim.Native.Nat.{ℕ, _≤_, _<_};
 ghost use lib.ListN.{length, take, getD};
-ghost use Rattle.sheet.specs.Format.{mostLinks};
-ghost use Rattle.sheet.specs.Limits.{figureContexts};
+ghost use Rattle.rows.specs.Format.{mostLinks};
+ghost use Rattle.rows.specs.Limits.{figureContexts};
 ghost use Rattle.filling.specs.Parts.{partRoom, places, Low};
 ghost use Rattle.filling.specs.Glued.{Own, joinedAt, joinedAll, portPairs, Glues};
 

@@ -1,5 +1,5 @@
 // One filling of a list, and the refusals over whole texts.
-use sheet::Sheet;
+use rows::Sheet;
 use sheet::filling::filling_of;
 use sheet::normal::Normal;
 use sheet::normal::normal_of;
@@ -7,9 +7,9 @@ use sheet::read::read_list;
 ghost use mathlib.Core.Path.{_≡_};
 ghost use Prim.Native.Nat.{_≤_};
 ghost use lib.ListN.{take};
-ghost use Rattle.sheet.specs.Limits.{figureContexts, sheetMarks};
-ghost use Rattle.sheet.specs.Held.{Held};
-ghost use Rattle.sheet.specs.Packed.{packed};
+ghost use Rattle.rows.specs.Limits.{figureContexts, sheetMarks};
+ghost use Rattle.rows.specs.Held.{Held};
+ghost use Rattle.rows.specs.Packed.{packed};
 ghost use Rattle.placing.specs.Smallest.{sameList, numbersTo};
 ghost use Rattle.filling.specs.Fill.{firstDiffering};
 ghost use Rattle.filling.specs.Parts.{withoutHeads, partNormal, firstUnported, Counted};

@@ -2,15 +2,15 @@
 use crate::glue::PART;
 use crate::glue::PLACES;
 use crate::part::part_of;
-use sheet::Atom;
-use sheet::Sheet;
+use rows::Atom;
+use rows::Sheet;
 use sheet::normal::Normal;
 ghost use mathlib.Core.Path.{_≡_};
 ghost use mathlib.Core.List.{[], _∷_};
 ghost use Prim.Native.Nat.{ℕ, _+_, _≤_, _<_};
 ghost use lib.ListN.{getD};
-ghost use Rattle.sheet.specs.Format.{mostLinks};
-ghost use Rattle.sheet.specs.Limits.{sheetAtoms, figureContexts};
+ghost use Rattle.rows.specs.Format.{mostLinks};
+ghost use Rattle.rows.specs.Limits.{sheetAtoms, figureContexts};
 ghost use Rattle.filling.specs.Parts.{partRoom, Low};
 ghost use Rattle.filling.specs.Whole.{labelledLinks, partAtoms, allAtoms, roomFor, wholeAtoms, Grown};
 

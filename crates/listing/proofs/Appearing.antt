@@ -10,12 +10,13 @@ use lib.Dec.{eqb, ltb}
 use lib.ListN.{length, getD, set, length-set, length-append, length-replicate, getD-replicate, List·getD-eq-default}
 use lib.Seq.{getD-set-same, getD-set-other}
 use Rattle.hyperlmntal.specs.Link.{_∈_}
-use Rattle.sheet.specs.Pick.{pick}
-use Rattle.sheet.specs.Held.{indexOf}
+use Rattle.rows.specs.Pick.{pick}
+use Rattle.rows.specs.Held.{indexOf}
+use Rattle.rows.proofs.Wired.{indexOf-append, indexOf-added}
 use Rattle.sheet.specs.Normal.{others, distinct}
-use Rattle.sheet.proofs.Wired.{indexOf-append, indexOf-added}
-use Rattle.sheet.proofs.Distinct.{index-below, distinct-in, distinct-of}
-use Rattle.sheet.proofs.NormalWritten.{among-in}
+use Rattle.sheet.proofs.normal.ClassNumbers.{others-append}
+use Rattle.sheet.proofs.normal.Distinct.{index-below, distinct-in, distinct-of}
+use Rattle.sheet.proofs.normal.Merging.{among-in}
 use Rattle.listing.specs.Numbers.{linkRoom, noNumbers, withLink, withLinks}
 use Rattle.listing.specs.declared.numbering.Numbering.{Numbering}
 
@@ -54,16 +55,6 @@ unfolding withLinks
 with-links-snoc n l x = with-links-append n l (x ∷ [])
 
 -- One more at the end of a list: it is new, or all stays.
-others-end : (y x : ℕ) (l : List ℕ) → others y (l ++ (x ∷ [])) ≡ others y l ++ pick (eqb x y) [] (x ∷ [])
-unfolding others
-others-end y x [] = refl
-others-end y x (z ∷ l) = go (eqb z y) (others-end y x l)
-  where
-    go : (t : Bool) → others y (l ++ (x ∷ [])) ≡ others y l ++ pick (eqb x y) [] (x ∷ [])
-        → pick t (others y (l ++ (x ∷ []))) (z ∷ others y (l ++ (x ∷ []))) ≡ pick t (others y l) (z ∷ others y l) ++ pick (eqb x y) [] (x ∷ [])
-    go true ih = ih
-    go false ih = ap (λ r. z ∷ r) ih
-
 abbrev Old : List ℕ → ℕ → Type 0
 Old l x = (x ∈ l) × (distinct (l ++ (x ∷ [])) ≡ distinct l)
 
@@ -76,7 +67,7 @@ snoc [] x = inr (λ m. List·Memᴰ·not-nil m, refl)
 snoc (y ∷ l) x = go (eqb y x) refl (snoc l x)
   where
     behind : y ∷ others y (distinct l ++ (x ∷ [])) ≡ (y ∷ others y (distinct l)) ++ pick (eqb x y) [] (x ∷ [])
-    behind = ap (λ r. y ∷ r) (others-end y x (distinct l))
+    behind = ap (λ r. y ∷ r) (others-append y x (distinct l))
 
     absent : (y ≡ x → ⊥) → ¬ (x ∈ l) → (x ≡ y) ⊎ (x ∈ l) → ⊥
     absent n o (inl e) = n (sym e)

@@ -10,12 +10,12 @@ use lib.Dec.{eqb}
 use lib.ListN.{length, getD, take, length-append, length-map, length-take}
 use lib.Seq.{length-take-le}
 use Rattle.hyperlmntal.specs.Link.{_∈_}
-use Rattle.sheet.specs.Pick.{pick}
-use Rattle.sheet.specs.Format.{mostLinks, fieldCount}
-use Rattle.sheet.specs.Packed.{padded}
-use Rattle.sheet.specs.RowText.{rowBytes}
+use Rattle.rows.specs.Pick.{pick}
+use Rattle.rows.specs.Format.{mostLinks, fieldCount}
+use Rattle.rows.specs.Packed.{padded}
+use Rattle.rows.specs.RowText.{rowBytes}
+use Rattle.rows.proofs.Padding.{take-padded, getD-padding}
 use Rattle.sheet.specs.declared.normal.Normal as form
-use Rattle.sheet.proofs.Padding.{take-padded, getD-padding}
 use Rattle.placing.specs.Net.{NetCell, cellLinks}
 use Rattle.network.specs.NetIn.{atomIn, atomAt, Fit}
 use Rattle.network.proofs.NetIn.{used-range}

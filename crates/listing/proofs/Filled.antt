@@ -6,14 +6,15 @@ use mathlib.Core.Logic.{_⊎_, inl, inr}
 use native.Mathlib.Omega.{arith}
 use lib.ListN.{length, getD, take, length-map, length-append}
 use Rattle.hyperlmntal.specs.Link.{_∈_}
-use Rattle.sheet.specs.Format.{mostLinks, rowWidth}
-use Rattle.sheet.specs.Limits.{sheetLinks}
-use Rattle.sheet.specs.Packed.{padded}
-use Rattle.sheet.specs.RowText.{rowBytes}
+use Rattle.rows.specs.Format.{mostLinks, rowWidth}
+use Rattle.rows.specs.Limits.{sheetLinks}
+use Rattle.rows.specs.Packed.{padded}
+use Rattle.rows.specs.RowText.{rowBytes}
+use Rattle.rows.specs.declared.Context.{Context}
+use Rattle.rows.proofs.Lists.{getD-mapped}
+use Rattle.rows.proofs.RowBytes.{row-width, over, over-more}
 use Rattle.sheet.specs.declared.normal.Normal as form
-use Rattle.sheet.specs.declared.Context.{Context}
-use Rattle.sheet.proofs.NormalWritten.{mapped-at, taken-padded, getD-mapped}
-use Rattle.sheet.proofs.RowBytes.{row-width, over, over-more}
+use Rattle.sheet.proofs.normal_text.NormalWritten.{mapped-at, taken-padded}
 use Rattle.placing.specs.Net.{NetCell, cellLinks}
 use Rattle.placing.proofs.Lists.{member-at, getD-of}
 use Rattle.network.specs.NetIn.{contextIn, Used, Fit}

@@ -8,19 +8,19 @@ use native.Mathlib.Omega.{arith}
 use borrow.Author.Tests.{lt-ltb}
 use lib.ListN.{length, getD, length-map}
 use Rattle.hyperlmntal.specs.Link.{local, free, _∈_}
-use Rattle.hyperlmntal.specs.Hypergraph.{Node, inner, name, Flat, Connected, stay, along, back, then, portNodes, endNodes, mapCell}
+use Rattle.hyperlmntal.specs.Hypergraph.{Node, inner, name, Flat, Connected, stay, along, back, then, portNodes, endNodes}
 use Rattle.hyperlmntal.proofs.Connection.{connected-≡}
 use Rattle.hyperlmntal.proofs.Lists.{map-agree}
-use Rattle.hyperlmntal.proofs.Flats.{flat-≡}
-use Rattle.sheet.specs.Held.{indexOf}
+use Rattle.rows.specs.Held.{indexOf}
 use Rattle.sheet.specs.Graph.{edgeOf}
 use Rattle.sheet.specs.Normal.{inserted, markNode, marksAmong, marksOf, shown, distinct, classesBy, numberBy, markedBy, normalFormBy, normalForm}
-use Rattle.sheet.specs.NormalText.{nodeNumber}
-use Rattle.sheet.proofs.NormalBy.{Labels, normal-by}
-use Rattle.placing.specs.Net.{NetCell, atomsAmong, atomVertex, cellLinks, edgeNumbers, netOf}
-use Rattle.placing.specs.Fillings.{Row, rowsGraph, symbolOf, markOf, netRows, normalRows}
+use Rattle.sheet.proofs.normal.NormalBy.{Labels, normal-by}
+use Rattle.placing.specs.Net.{NetCell, atomVertex, cellLinks, edgeNumbers, netOf}
+use Rattle.placing.specs.Fillings.{Row, symbolOf, markOf, netRows, normalRows}
 use Rattle.placing.specs.ListText.{rowText, rowsText}
 use Rattle.placing.proofs.NormalNets.{atom-nodes}
+use Rattle.placing.proofs.NormalFillings.{rows-of-net}
+use Rattle.placing.proofs.NormalRowsFit.{among-numbered}
 use Rattle.listing.specs.Writing.{symbolsBytes, portsBytes, appearing, numberAmong}
 
 -- The marks of the links where ports stand, from mark i on.
@@ -91,16 +91,6 @@ found g i (x ∷ l) h =
 
 abbrev pub rowsOf : List NetCell → List ℕ → List Row
 rowsOf cells ports = map symbolOf cells ++ map markOf (marksFrom 1 ports)
-
-rows-graph : (a : List NetCell) (m : List (ℕ × ℕ)) → rowsGraph (map symbolOf a ++ map markOf m) ≡ record { atoms = map atomVertex a; fusions = map edgeOf m }
-rows-graph (c ∷ a) m = flat-≡ (ap (λ G. atomVertex c ∷ G .atoms) (rows-graph a m)) (ap (λ G. G .fusions) (rows-graph a m))
-rows-graph [] [] = refl
-rows-graph [] (e ∷ m) = flat-≡ (ap (λ G. G .atoms) (rows-graph [] m)) (ap (λ G. edgeOf e ∷ G .fusions) (rows-graph [] m))
-
-among-cells : (f : Node ℕ → ℕ) (l : List NetCell)
-    → atomsAmong (map (mapCell (λ x. inner (f x))) (map atomVertex l)) ≡ map (λ c. (c .0, map (λ x. f (inner x)) (c .1))) l
-among-cells f [] = refl
-among-cells f (c ∷ l) = ap₂ _∷_ (ap (λ k. (c .0, k)) (map-map nodeNumber (λ x. inner (f x)) (map inner (c .1)) ∙ map-map f inner (c .1))) (among-cells f l)
 
 -- The bytes of rows.
 rows-text-append : (a b : List Row) → rowsText (a ++ b) ≡ rowsText a ++ rowsText b
@@ -189,9 +179,9 @@ module _ (cells : List NetCell) (ports : List ℕ) where
   unfolding graph normalFormBy label
   symbols =
       ap (λ l. rowsText (map symbolOf l))
-      (among-cells (numberBy label graph) cells
-      ∙ map-agree (λ (c : NetCell). (c .0, map (λ x. numberBy label graph (inner x)) (c .1))) (λ c. (c .0, map number (c .1))) cells
-      (λ c i. ap (λ (k : List ℕ). (c .0, k)) (map-agree (λ x. numberBy label graph (inner x)) number (c .1) (λ x m. number-label (inner x)))))
+      (among-numbered (numberBy label graph) cells
+      ∙ map-agree (λ (c : NetCell). (c .0, map (numberBy label graph) (map inner (c .1)))) (λ c. (c .0, map number (c .1))) cells
+      (λ c i. ap (λ (k : List ℕ). (c .0, k)) (map-map (numberBy label graph) inner (c .1) ∙ map-agree (λ x. numberBy label graph (inner x)) number (c .1) (λ x m. number-label (inner x)))))
       ∙ symbols-text number cells
 
   marks : rowsText (map markOf (netOf form .marks)) ≡ portsBytes number 1 ports
@@ -205,7 +195,7 @@ module _ (cells : List NetCell) (ports : List ℕ) where
   pub rows-text : rowsText (normalRows (rowsOf cells ports)) ≡ symbolsBytes number cells ++ portsBytes number 1 ports
   unfolding graph
   rows-text =
-      ap (λ G. rowsText (netRows (netOf (normalForm G)))) (rows-graph cells (marksFrom 1 ports))
+      ap (λ G. rowsText (netRows (netOf (normalForm G)))) (rows-of-net cells (marksFrom 1 ports))
       ∙ ap (λ G. rowsText (netRows (netOf G))) (normal-by graph label labels)
       ∙ rows-text-append (map symbolOf (netOf form .atoms)) (map markOf (netOf form .marks))
       ∙ ap₂ _++_ symbols marks

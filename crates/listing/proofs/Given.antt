@@ -9,9 +9,9 @@ use lib.ListN.{length, getD, take, length-map}
 use lib.Seq.{take-suc, getD-take, length-take-le}
 use Rattle.hyperlmntal.specs.Link.{_∈_}
 use Rattle.hyperlmntal.proofs.Lists.{map-agree}
-use Rattle.sheet.specs.Pick.{pick}
-use Rattle.sheet.specs.Limits.{sheetAtoms}
-use Rattle.sheet.specs.RowText.{rowBytes}
+use Rattle.rows.specs.Pick.{pick}
+use Rattle.rows.specs.Limits.{sheetAtoms}
+use Rattle.rows.specs.RowText.{rowBytes}
 use Rattle.sheet.specs.declared.normal.Normal as form
 use Rattle.placing.specs.Net.{NetCell, Net, Range}
 use Rattle.placing.specs.Placing.{Placing, cellAt}

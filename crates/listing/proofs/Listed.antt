@@ -10,12 +10,12 @@ use lib.Dec.{ltb}
 use lib.ListN.{length, getD, take, drop, length-append, take-append-drop}
 use lib.Seq.{take-all}
 use Rattle.hyperlmntal.specs.Link.{_∈_}
-use Rattle.sheet.specs.Pick.{pick}
-use Rattle.sheet.specs.Format.{mostLinks}
-use Rattle.sheet.specs.Limits.{sheetAtoms, sheetLinks}
+use Rattle.rows.specs.Pick.{pick}
+use Rattle.rows.specs.Format.{mostLinks}
+use Rattle.rows.specs.Limits.{sheetAtoms, sheetLinks}
+use Rattle.rows.proofs.RowBytes.{over, over-more}
 use Rattle.sheet.specs.NormalText.{slipLength}
 use Rattle.sheet.specs.declared.normal.Normal as form
-use Rattle.sheet.proofs.RowBytes.{over, over-more}
 use Rattle.placing.specs.Net.{NetCell, Apart, Range}
 use Rattle.placing.specs.Fillings.{byNumber}
 use Rattle.placing.proofs.Lists.{member-at, getD-of}

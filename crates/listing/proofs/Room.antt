@@ -9,9 +9,9 @@ use borrow.Author.Tests.{eqb-true, ne-eqb}
 use lib.Dec.{eqb, ltb}
 use lib.ListN.{length, getD, length-append}
 use Rattle.hyperlmntal.specs.Link.{_∈_}
-use Rattle.sheet.specs.Pick.{pick}
-use Rattle.sheet.specs.Format.{mostLinks, rowWidth}
-use Rattle.sheet.specs.Limits.{sheetAtoms, figureContexts}
+use Rattle.rows.specs.Pick.{pick}
+use Rattle.rows.specs.Format.{mostLinks, rowWidth}
+use Rattle.rows.specs.Limits.{sheetAtoms, figureContexts}
 use Rattle.sheet.specs.NormalText.{slipLength}
 use Rattle.sheet.specs.declared.normal.Normal as form
 use Rattle.placing.specs.Net.{NetCell, Apart}

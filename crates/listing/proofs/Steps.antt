@@ -8,12 +8,12 @@ use borrow.Author.Tests.{lt-ltb, le-ltb}
 use lib.Dec.{ltb}
 use lib.ListN.{length, getD, take, set, length-map, length-append}
 use lib.Seq.{take-suc, length-take-le}
-use Rattle.sheet.specs.Pick.{pick}
-use Rattle.sheet.specs.Format.{rowWidth}
-use Rattle.sheet.specs.Packed.{padded}
+use Rattle.rows.specs.Pick.{pick}
+use Rattle.rows.specs.Format.{rowWidth}
+use Rattle.rows.specs.Packed.{padded}
+use Rattle.rows.proofs.Padding.{set-padded}
+use Rattle.rows.proofs.RowBytes.{over, over-more}
 use Rattle.sheet.specs.declared.normal.Normal as form
-use Rattle.sheet.proofs.Padding.{set-padded}
-use Rattle.sheet.proofs.RowBytes.{over, over-more}
 use Rattle.placing.specs.Net.{NetCell, cellLinks}
 use Rattle.listing.specs.Numbers.{withLink, withLinks}
 use Rattle.listing.specs.Writing.{givenAt, givenBelow, symbolsBytes, portBytes, portsBytes, fillingBytes, listBytes, below}

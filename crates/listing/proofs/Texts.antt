@@ -6,10 +6,10 @@ use native.Mathlib.Omega.{arith}
 use lib.ListN.{length, length-append, length-map}
 use Rattle.hyperlmntal.specs.Link.{_∈_}
 use Rattle.hyperlmntal.proofs.Lists.{map-agree}
-use Rattle.sheet.specs.Format.{rowWidth}
-use Rattle.sheet.specs.RowText.{rowBytes}
+use Rattle.rows.specs.Format.{rowWidth}
+use Rattle.rows.specs.RowText.{rowBytes}
+use Rattle.rows.proofs.RowBytes.{row-width}
 use Rattle.sheet.specs.declared.normal.Normal as form
-use Rattle.sheet.proofs.RowBytes.{row-width}
 use Rattle.placing.specs.Net.{NetCell, cellLinks}
 use Rattle.listing.specs.Writing.{givenCells, standsAt, portLinks, symbolBytes, symbolsBytes, portBytes, portsBytes, fillingBytes, listBytes}
 

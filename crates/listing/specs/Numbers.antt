@@ -3,8 +3,8 @@ use Prim.Native.Nat.{ℕ, _+_, _*_}
 use mathlib.Core.List.{List, [], _∷_}
 use lib.Dec.{eqb}
 use lib.ListN.{getD, set, replicate}
-use Rattle.sheet.specs.Pick.{pick}
-use Rattle.sheet.specs.Limits.{sheetLinks}
+use Rattle.rows.specs.Pick.{pick}
+use Rattle.rows.specs.Limits.{sheetLinks}
 use Rattle.listing.specs.declared.numbering.Numbering.{Numbering}
 
 -- a filling stands on links of the sheet and, beyond them, on one for each figure link that goes to none; 0 is no link

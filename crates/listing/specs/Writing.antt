@@ -3,10 +3,10 @@ use Prim.Native.Nat.{ℕ, zero, suc, _+_, _-_, _<_, _≤_}
 use mathlib.Core.List.{List, [], _∷_, _++_, map}
 use lib.Dec.{eqb, ltb}
 use lib.ListN.{length, take, getD}
-use Rattle.sheet.specs.Pick.{pick}
-use Rattle.sheet.specs.Held.{indexOf}
+use Rattle.rows.specs.Pick.{pick}
+use Rattle.rows.specs.Held.{indexOf}
+use Rattle.rows.specs.RowText.{rowBytes}
 use Rattle.sheet.specs.Normal.{distinct}
-use Rattle.sheet.specs.RowText.{rowBytes}
 use Rattle.sheet.specs.declared.normal.Normal as form
 use Rattle.placing.specs.Net.{NetCell, cellLinks}
 use Rattle.placing.specs.Placing.{Placing}

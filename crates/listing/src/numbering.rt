@@ -1,11 +1,11 @@
 // The links of a filling, numbered in the order in which they first appear.
-use sheet::Sheet;
+use rows::Sheet;
 use sheet::normal::Normal;
 ghost use mathlib.Core.Path.{_≡_};
 ghost use Prim.Native.Nat.{ℕ, _+_, _*_, _<_, _≤_};
 ghost use lib.ListN.{length, take, getD};
-ghost use Rattle.sheet.specs.Format.{mostLinks};
-ghost use Rattle.sheet.specs.Limits.{sheetAtoms};
+ghost use Rattle.rows.specs.Format.{mostLinks};
+ghost use Rattle.rows.specs.Limits.{sheetAtoms};
 ghost use Rattle.placing.specs.Net.{cellLinks};
 ghost use Rattle.network.specs.NetIn.{Fit};
 ghost use Rattle.listing.specs.Numbers.{linkRoom, noNumbers, withLink, withLinks};

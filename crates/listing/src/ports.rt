@@ -1,12 +1,12 @@
 // Where the ports of a context stand.
-use sheet::Sheet;
+use rows::Sheet;
 ghost use mathlib.Core.Path.{_≡_};
 ghost use mathlib.Core.List.{map};
 ghost use Prim.Native.Nat.{ℕ, _<_, _≤_};
 ghost use lib.ListN.{take, getD};
-ghost use Rattle.sheet.specs.Format.{mostLinks};
-ghost use Rattle.sheet.specs.Limits.{sheetLinks};
-ghost use Rattle.sheet.specs.Packed.{padded};
+ghost use Rattle.rows.specs.Format.{mostLinks};
+ghost use Rattle.rows.specs.Limits.{sheetLinks};
+ghost use Rattle.rows.specs.Packed.{padded};
 ghost use Rattle.placing.specs.Net.{Range};
 ghost use Rattle.listing.specs.Writing.{standsAt};
 

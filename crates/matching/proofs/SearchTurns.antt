@@ -9,7 +9,7 @@ use native.Mathlib.Numerals.{add-one}
 use native.Mathlib.Omega.{arith}
 use lib.ListN.{length, getD, take, set, replicate, length-set}
 use lib.Seq.{length-take-le, take-suc-set, getD-set-same, getD-set-other, getD-append-seam}
-use Rattle.sheet.specs.Limits.{sheetAtoms}
+use Rattle.rows.specs.Limits.{sheetAtoms}
 use Rattle.sheet.specs.declared.normal.Normal as form
 use Rattle.placing.specs.Net.{Net, Range}
 use Rattle.placing.specs.Placing.{atomTo, numberAt}
@@ -22,7 +22,6 @@ use Rattle.network.specs.Ready.{Ready, AtomsIn}
 use Rattle.matching.specs.Search.{mayIn, KeepsIn, searchFrom, foundList, foundIn, Skipped}
 use Rattle.narrowing.specs.Sets.{Keeps}
 use Rattle.narrowing.specs.Tables.{mayAtom, mayLink}
-use Rattle.narrowing.specs.declared.Sets.{Sets}
 use Rattle.symmetry.specs.Checks.{Follows}
 use Rattle.matching.specs.declared.search.Found.{Found}
 use Rattle.matching.proofs.SearchLaws.{nothing-found, none-found, some-found, none-begun, begun-none, restBounds, tried-start, tried-next, tried-end, tried-found}
@@ -93,14 +92,14 @@ module _ (sheet figure : form.Normal) (ready : Ready sheet figure) (chosen : Lis
         nothing-found sheet figure r k ∙ sym (tried-end S F pre small (subst (λ (i : ℕ). Tried (testAfter S F pre) (suc i) (restBounds S F pre)) e (u .tried)))
 
     -- the sets keep a sheet atom with which something begins
-    kept : (sets : Sets) → KeepsIn sheet figure pre sets → (t : ℕ) → Begun S F (pre ++ (suc t ∷ [])) → mayIn (sets .atoms) (figure .«atom_count» - left) t ≡ true
+    kept : (a l : List ℕ) → KeepsIn sheet figure pre a l → (t : ℕ) → Begun S F (pre ++ (suc t ∷ [])) → mayIn a (figure .«atom_count» - left) t ≡ true
     unfolding mayIn
-    kept sets keeps t b = says-eq (getD (sets .atoms) ((figure .«atom_count» - left) * sheetAtoms + t) 0) 1 .complete (ap (λ (i : ℕ). getD (sets .atoms) i 0) (sym place) ∙ marked)
+    kept a l keeps t b = says-eq (getD a ((figure .«atom_count» - left) * sheetAtoms + t) 0) 1 .complete (ap (λ (i : ℕ). getD a i 0) (sym place) ∙ marked)
       where
         split : b .0 .atomsTo ≡ pre ++ (suc t ∷ b .2 .0)
         split = b .2 .1 ∙ append-assoc pre (suc t ∷ []) (b .2 .0)
 
-        marked : mayAtom (sets .atoms) (figure .«atom_count» - left + 1) (atomTo (b .0) (figure .«atom_count» - left + 1))
+        marked : mayAtom a (figure .«atom_count» - left + 1) (atomTo (b .0) (figure .«atom_count» - left + 1))
         marked = keeps (b .0) (b .1) ((suc t ∷ b .2 .0), split) .atoms (figure .«atom_count» - left + 1) (omega arith, omega (arith, above, figure-atoms))
 
         at : atomTo (b .0) (figure .«atom_count» - left + 1) ≡ suc t
@@ -113,11 +112,11 @@ module _ (sheet figure : form.Normal) (ready : Ready sheet figure) (chosen : Lis
       more : ¬ Begun S F (pre ++ (suc t ∷ [])) → Tried (testAfter S F pre) (suc (t + 1)) (restBounds S F pre)
       more n = subst (λ (i : ℕ). Tried (testAfter S F pre) (suc i) (restBounds S F pre)) (sym (add-one t)) (tried-next S F pre small (suc t) (u .tried) n)
 
-      pub tries-skip : (sets : Sets) → KeepsIn sheet figure pre sets → Skipped sheet (sets .atoms) pre failed (figure .«atom_count» - left) t → Tries sheet figure pre failed work (t + 1)
-      tries-skip sets keeps s = record { within = omega arith; tried = more (go s); failures = u .failures; worked = u .worked }
+      pub tries-skip : (a l : List ℕ) → KeepsIn sheet figure pre a l → Skipped sheet a pre failed (figure .«atom_count» - left) t → Tries sheet figure pre failed work (t + 1)
+      tries-skip a l keeps s = record { within = omega arith; tried = more (go s); failures = u .failures; worked = u .worked }
         where
-          go : Skipped sheet (sets .atoms) pre failed (figure .«atom_count» - left) t → ¬ Begun S F (pre ++ (suc t ∷ []))
-          go (inl e) b = both-ways (kept sets keeps t b) e
+          go : Skipped sheet a pre failed (figure .«atom_count» - left) t → ¬ Begun S F (pre ++ (suc t ∷ []))
+          go (inl e) b = both-ways (kept a l keeps t b) e
           go (inr e) b = u .failures (e .by) (e .tried) (e .alike (ready .sheet-normal) F (ready .figure-normal) b)
 
       -- the next choice, as the code writes it
@@ -156,12 +155,12 @@ module _ (sheet figure : form.Normal) (ready : Ready sheet figure) (chosen : Lis
             go v c (no q) = u .failures v (λ z. c (getD-set-other failed t v cost 0 q ∙ z))
 
 -- What choosing promises, for the sheet and figure at hand.
-pub choice-kept : (sheet figure : form.Normal) → Ready sheet figure → (k t : ℕ) → k < figure .«atom_count» → (sets chose : Sets)
-    → ((S F : Net) (pre : List ℕ) → length (S .atoms) ≤ sheetAtoms → length pre ≡ k → k < length (F .atoms) → Keeps S F pre (mayAtom (sets .atoms)) (mayLink (sets .links)) → Keeps S F (pre ++ ((t + 1) ∷ [])) (mayAtom (chose .atoms)) (mayLink (chose .links)))
-    → (pre : List ℕ) → length pre ≡ k → KeepsIn sheet figure pre sets → KeepsIn sheet figure (pre ++ (suc t ∷ [])) chose
-choice-kept sheet figure ready k t h sets chose promise pre e keeps =
-    subst (λ (i : ℕ). KeepsIn sheet figure (pre ++ (i ∷ [])) chose) (add-one t)
-    (promise (netIn sheet) (netIn figure) pre (omega (arith, atoms-length sheet (ready .sheet-fit), ready .sheet-fit .atom-count)) e (omega (arith, atoms-length figure (ready .figure-fit))) keeps)
+pub choice-kept : (sheet figure : form.Normal) → Ready sheet figure → (k t : ℕ) → k < figure .«atom_count» → (a b l : List ℕ)
+    → ((S F : Net) (pre l : List ℕ) → length (S .atoms) ≤ sheetAtoms → length pre ≡ k → k < length (F .atoms) → Keeps S F pre (mayAtom a) (mayLink l) → Keeps S F (pre ++ ((t + 1) ∷ [])) (mayAtom b) (mayLink l))
+    → (pre : List ℕ) → length pre ≡ k → KeepsIn sheet figure pre a l → KeepsIn sheet figure (pre ++ (suc t ∷ [])) b l
+choice-kept sheet figure ready k t h a b l promise pre e keeps =
+    subst (λ (i : ℕ). KeepsIn sheet figure (pre ++ (i ∷ [])) b l) (add-one t)
+    (promise (netIn sheet) (netIn figure) pre l (omega (arith, atoms-length sheet (ready .sheet-fit), ready .sheet-fit .atom-count)) e (omega (arith, atoms-length figure (ready .figure-fit))) keeps)
 
 pub follows-suc : (sheet : form.Normal) (pre : List ℕ) (t u : ℕ) → Follows (netIn sheet) pre (t + 1) (u + 1) → Follows (netIn sheet) pre (suc t) (suc u)
 follows-suc sheet pre t u f = subst₂ (Follows (netIn sheet) pre) (add-one t) (add-one u) f

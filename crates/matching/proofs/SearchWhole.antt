@@ -7,8 +7,8 @@ use mathlib.Core.Option.{Option, none, some}
 use native.Mathlib.Omega.{arith}
 use lib.ListN.{length, take}
 use lib.Seq.{length-take-le}
-use Rattle.sheet.specs.Pick.{pick}
-use Rattle.sheet.specs.Limits.{sheetAtoms, sheetLinks}
+use Rattle.rows.specs.Pick.{pick}
+use Rattle.rows.specs.Limits.{sheetAtoms, sheetLinks}
 use Rattle.sheet.specs.declared.normal.Normal as form
 use Rattle.placing.specs.Placing.{Placing}
 use Rattle.placing.specs.Smallest.{placingFrom, placingIn, smallest}
@@ -18,7 +18,6 @@ use Rattle.network.specs.Begun.{leastAfter}
 use Rattle.network.proofs.NetIn.{atoms-length}
 use Rattle.network.specs.Ready.{Ready, AtomsIn}
 use Rattle.matching.specs.Search.{KeepsIn, behind, searchFrom, foundList, foundIn, placedIn}
-use Rattle.narrowing.specs.declared.Sets.{Sets}
 use Rattle.matching.specs.declared.search.Found.{Found}
 
 behind-nothing : (o : Option (List ℕ)) → behind [] o ≡ o
@@ -32,8 +31,8 @@ none-chosen n chosen = ap (λ (k : ℕ). take k chosen) (let e : n - n ≡ 0 = o
 pub no-atoms : (sheet : form.Normal) (n : ℕ) (chosen : List ℕ) → length chosen ≡ sheetAtoms → AtomsIn sheet (n - n) chosen
 no-atoms sheet n chosen e = record { room = e; within = λ i h. absurd (omega arith) }
 
-pub keeps-start : (sheet figure : form.Normal) (n : ℕ) (chosen : List ℕ) (sets : Sets) → KeepsIn sheet figure [] sets → KeepsIn sheet figure (take (n - n) chosen) sets
-keeps-start sheet figure n chosen sets k = subst (λ (pre : List ℕ). KeepsIn sheet figure pre sets) (sym (none-chosen n chosen)) k
+pub keeps-start : (sheet figure : form.Normal) (n : ℕ) (chosen a l : List ℕ) → KeepsIn sheet figure [] a l → KeepsIn sheet figure (take (n - n) chosen) a l
+keeps-start sheet figure n chosen a l k = subst (λ (pre : List ℕ). KeepsIn sheet figure pre a l) (sym (none-chosen n chosen)) k
 
 module _ (sheet figure : form.Normal) (ready : Ready sheet figure) (r : Found) (atoms : length (r .«atoms_to») ≡ sheetAtoms) (links : length (r .«links_to») ≡ sheetLinks) where
   abbrev parts : Placing

@@ -3,8 +3,8 @@ use Prim.Native.Nat.{ℕ}
 use mathlib.Core.List.{List}
 use mathlib.Core.Bool.{Bool, true, false}
 use mathlib.Core.Option.{Option, none, some}
-use Rattle.sheet.specs.Pick.{pick}
-use Rattle.sheet.specs.Held.{Held}
+use Rattle.rows.specs.Pick.{pick}
+use Rattle.rows.specs.Held.{Held}
 use Rattle.sheet.specs.Reading.{outcomeOf, noPorts}
 use Rattle.sheet.specs.Answer.{refusalNumber}
 use Rattle.sheet.specs.declared.kind.Kind.the-variants.{Plain}

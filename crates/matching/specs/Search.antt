@@ -7,8 +7,8 @@ use mathlib.Core.Bool.{Bool, false}
 use mathlib.Core.Option.{Option, none, some}
 use lib.Dec.{eqb}
 use lib.ListN.{take, getD}
-use Rattle.sheet.specs.Pick.{pick}
-use Rattle.sheet.specs.Limits.{sheetAtoms}
+use Rattle.rows.specs.Pick.{pick}
+use Rattle.rows.specs.Limits.{sheetAtoms}
 use Rattle.sheet.specs.declared.normal.Normal as form
 use Rattle.placing.specs.Net.{Net}
 use Rattle.placing.specs.Placing.{Placing}
@@ -16,7 +16,6 @@ use Rattle.network.specs.NetIn.{netIn}
 use Rattle.network.specs.Begun.{leastAfter}
 use Rattle.narrowing.specs.Sets.{Keeps}
 use Rattle.narrowing.specs.Tables.{mayAtom, mayLink}
-use Rattle.narrowing.specs.declared.Sets.{Sets}
 use Rattle.symmetry.specs.Checks.{Follows}
 use Rattle.matching.specs.declared.search.Found.{Found}
 
@@ -57,5 +56,5 @@ abbrev pub Skipped : form.Normal → List ℕ → List ℕ → List ℕ → ℕ 
 Skipped sheet atoms pre failed k t = (mayIn atoms k t ≡ false) ⊎ Excused sheet pre failed t
 
 -- every good placing that begins so stays in the sets
-abbrev pub KeepsIn : form.Normal → form.Normal → List ℕ → Sets → Type 0
-KeepsIn sheet figure pre s = Keeps (netIn sheet) (netIn figure) pre (mayAtom (s .atoms)) (mayLink (s .links))
+abbrev pub KeepsIn : form.Normal → form.Normal → (pre atoms links : List ℕ) → Type 0
+KeepsIn sheet figure pre atoms links = Keeps (netIn sheet) (netIn figure) pre (mayAtom atoms) (mayLink links)

@@ -2,16 +2,15 @@
 use crate::search::smallest_placing;
 use sheet::answer::Answer;
 use sheet::answer::Refusal;
-use sheet::answer::refusal_number;
 use sheet::normal::Normal;
 use sheet::normal::normal_of;
 use sheet::read::read_sheet;
 ghost use mathlib.Core.Path.{_≡_};
-ghost use Rattle.sheet.specs.Pick.{pick};
+ghost use Rattle.rows.specs.Pick.{pick};
 ghost use Rattle.placing.specs.Smallest.{smallest};
 ghost use Rattle.network.specs.NetIn.{netIn};
 ghost use Rattle.network.specs.Ready.{Ready};
-ghost use Rattle.matching.specs.Compare.{isPlaced, compareAnswer, comparedNumber, comparedInput, comparedRow, comparedYes};
+ghost use Rattle.matching.specs.Compare.{isPlaced, compareAnswer};
 
 // The two sheets are the same, or not; or an input, the first or the second, is refused at a row.
 pub enum Compared {
@@ -53,39 +52,5 @@ pub fn compare(a: &[u8], b: &[u8]) -> Compared
                 }
             }
         }
-    }
-}
-
-// The table's number of an answer, its input and row, and its yes or no.
-pub struct Verdict {
-    pub number: u16,
-    pub input: u16,
-    pub row: usize,
-    pub yes: bool,
-}
-
-// Yes is for the same alone.
-pub fn verdict_of(done: Compared) -> Verdict
-    ensures { λ r. ⌜ r ≡ record { number = comparedNumber done; input = comparedInput done; row = comparedRow done; yes = comparedYes done } ⌝ }
-{
-    match done {
-        Compared::Same => Verdict {
-            number: 0,
-            input: 0,
-            row: 0,
-            yes: true,
-        },
-        Compared::Differs => Verdict {
-            number: 0,
-            input: 0,
-            row: 0,
-            yes: false,
-        },
-        Compared::Refused(input, why, row) => Verdict {
-            number: refusal_number(why),
-            input,
-            row,
-            yes: false,
-        },
     }
 }

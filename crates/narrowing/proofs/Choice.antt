@@ -1,16 +1,26 @@
 -- A choice keeps the good placings that begin with it.
 use Prim.Native.Nat.{ℕ, suc, _+_, _-_, _≤_, _<_}
-use mathlib.Core.Path.{_≡_, sym, _∙_, ap, subst}
-use mathlib.Core.List.{List, [], _∷_, _++_}
+use mathlib.Core.Path.{_≡_, sym, _∙_, ap}
+use mathlib.Core.List.{List, [], _∷_, _++_, append-assoc}
 use native.Mathlib.Omega.{arith}
-use lib.ListN.{length}
-use Rattle.sheet.specs.Limits.{sheetAtoms}
+use lib.ListN.{length, getD}
+use lib.Seq.{getD-append-seam}
+use Rattle.rows.specs.Limits.{sheetAtoms}
 use Rattle.placing.specs.Net.{Net, Range}
-use Rattle.placing.specs.Placing.{atomTo}
-use Rattle.network.specs.Begun.{Begun}
+use Rattle.placing.specs.Placing.{Placing, atomTo}
+use Rattle.network.specs.Begun.{Begins}
 use Rattle.narrowing.specs.Sets.{Obeys, Keeps}
-use Rattle.narrowing.specs.Tables.{Marked, mayAtom, mayLink, Stays}
-use Rattle.narrowing.proofs.Keeping.{begins-before, begins-next}
+use Rattle.narrowing.specs.Tables.{mayAtom, mayLink, Stays}
+
+-- A placing that begins with more begins with less
+begins-before : (pre : List ℕ) (t : ℕ) (p : Placing) → Begins (pre ++ (t ∷ [])) p → Begins pre p
+begins-before pre t p b = ((t ∷ []) ++ b .0, b .1 ∙ append-assoc pre (t ∷ []) (b .0))
+
+-- Where it sends the next figure atom
+begins-next : (pre : List ℕ) (t : ℕ) (p : Placing) → Begins (pre ++ (t ∷ [])) p → atomTo p (suc (length pre)) ≡ t
+begins-next pre t p b =
+    ap (λ (k : ℕ). getD (p .atomsTo) k 0) (let q : suc (length pre) - 1 ≡ length pre = omega arith in q)
+    ∙ ap (λ (l : List ℕ). getD l (length pre) 0) (b .1 ∙ append-assoc pre (t ∷ []) (b .0)) ∙ getD-append-seam pre t (b .0) 0
 
 module _ (a b c l : List ℕ) (k t : ℕ) (row : Stays sheetAtoms a b (λ i u. i ≡ k → u ≡ t)) (column : Stays sheetAtoms b c (λ i u. u ≡ t → i ≡ k)) where
   pub choose-keeps : (S F : Net) (pre : List ℕ) → length (S .atoms) ≤ sheetAtoms → length pre ≡ k → k < length (F .atoms)
@@ -34,14 +44,3 @@ module _ (a b c l : List ℕ) (k t : ℕ) (row : Stays sheetAtoms a b (λ i u. i
           let x : i - 1 ≡ k → u - 1 ≡ t = λ w. omega (arith, there, ap (atomTo p) (let z : i ≡ suc (length pre) = omega (arith, r .0, w) in z)) in
           let y : u - 1 ≡ t → i - 1 ≡ k = λ w. omega (arith, g .sending .different i (suc (length pre)) r mine (let z : u ≡ t + 1 = omega (arith, s .0, w) in z ∙ sym there)) in
           column (i - 1) (u - 1) q (row (i - 1) (u - 1) q (o .atoms i r) x) y
-
--- A sheet atom that is not marked need not be tried.
-pub unmarked-dropped : (S F : Net) (pre a l : List ℕ) (k t : ℕ) → length pre ≡ k → k < length (F .atoms)
-    → Keeps S F pre (mayAtom a) (mayLink l) → ¬ Marked sheetAtoms a k t → ¬ Begun S F (pre ++ ((t + 1) ∷ []))
-unmarked-dropped S F pre a l k t e h keeps n s =
-    let p = s .0 in
-    let u = begins-next pre (t + 1) p (s .2) in
-    let m = keeps p (s .1) (begins-before pre (t + 1) p (s .2)) .atoms (suc (length pre)) (omega arith, omega arith) in
-    let q : suc (length pre) - 1 ≡ k = omega arith in
-    let r : atomTo p (suc (length pre)) - 1 ≡ t = omega (arith, u) in
-    n (subst (λ (v : ℕ). Marked sheetAtoms a k v) r (subst (λ (v : ℕ). Marked sheetAtoms a v (atomTo p (suc (length pre)) - 1)) q m))

@@ -4,12 +4,12 @@ use Prim.Native.Nat.{ℕ, suc, _-_, _≤_, _<_}
 use mathlib.Core.Path.{_≡_, refl, sym, _∙_, ap, subst}
 use mathlib.Core.Logic.{_⊎_, inl, inr}
 use mathlib.Core.Bool.{Bool, true, false}
-use mathlib.Core.List.{List, [], _∷_, List·Memᴰ·not-nil, Memᴰ·map}
+use mathlib.Core.List.{List, [], _∷_, Memᴰ·map}
 use native.Mathlib.Omega.{arith}
 use lib.ListN.{length, getD, length-map}
 use Rattle.hyperlmntal.specs.Link.{_∈_}
-use Rattle.sheet.proofs.Distinct.{Once}
-use Rattle.sheet.proofs.Merging.{getD-mapped}
+use Rattle.rows.proofs.Lists.{getD-mapped}
+use Rattle.sheet.proofs.normal.Distinct.{Once}
 use Rattle.placing.specs.Net.{NetCell, Net, Range, cellLinks, Normal}
 use Rattle.placing.specs.Placing.{Placing, cellAt, atomTo, linkTo, givenTo, Taken, Linked, here, step, PortAt, Inside, Good}
 use Rattle.placing.specs.Smallest.{isTaken}
@@ -21,7 +21,7 @@ use Rattle.placing.proofs.GoodTest.{says-taken}
 use Rattle.narrowing.specs.Count.{count}
 use Rattle.narrowing.specs.Sets.{Decided, by-atom, by-mark, linkAt, linkCount}
 use Rattle.narrowing.proofs.Counting.{count-append, count-none, count-sent, count-alone, count-pairs-le, count-pairs-eq}
-use Rattle.narrowing.proofs.Sums.{sumTo, sum-front, sum-same, sum-once-le, sum-once-eq, ones-over, ones-to}
+use Rattle.narrowing.proofs.Sums.{sumTo, sum-front, sum-same, sum-once-le, sum-once-eq}
 
 -- The rows after the first.
 cell-after : (c : NetCell) (l : List NetCell) (j : ℕ) → 1 ≤ j → cellAt (c ∷ l) (suc j) ≡ cellAt l j
@@ -39,7 +39,7 @@ count-rows y (c ∷ l) =
     omega (arith, a, b, e, d)
 
 module _ (S F : Net) (NS : Normal S) (NF : Normal F) (p : Placing) (g : Good S F p) where
-  pub taken-dec : (j : ℕ) → Dec (Taken S F p j)
+  taken-dec : (j : ℕ) → Dec (Taken S F p j)
   taken-dec j = go (isTaken S F p j) refl
     where
       go : (b : Bool) → isTaken S F p j ≡ b → Dec (Taken S F p j)
@@ -50,7 +50,7 @@ module _ (S F : Net) (NS : Normal S) (NF : Normal F) (p : Placing) (g : Good S F
   place-count i h = ap length (sym (g .across i h .places)) ∙ length-map ((cellAt (F .atoms) i) .1) (linkTo p)
 
   pub place-sent : (i k : ℕ) → Range (length (F .atoms)) i → k < linkCount F i → linkAt S (atomTo p i) k ≡ linkTo p (linkAt F i k)
-  place-sent i k h l = ap (λ (z : List ℕ). getD z k 0) (sym (g .across i h .places)) ∙ getD-mapped (linkTo p) ((cellAt (F .atoms) i) .1) k l
+  place-sent i k h l = ap (λ (z : List ℕ). getD z k 0) (sym (g .across i h .places)) ∙ getD-mapped (linkTo p) ((cellAt (F .atoms) i) .1) k 0 0 l
 
   pub place-member : (i k : ℕ) → k < linkCount F i → linkAt F i k ∈ (cellAt (F .atoms) i) .1
   place-member i k l = getD-member ((cellAt (F .atoms) i) .1) k 0 l
@@ -157,14 +157,3 @@ module _ (S F : Net) (NS : Normal S) (NF : Normal F) (p : Placing) (g : Good S F
 
         off : (j : ℕ) → Range (length (S .atoms)) j → ¬ (j ∈ p .atomsTo) → placesAt (linkTo p x) j ≡ 0
         off j h n = count-none _ _ (λ m. n (of-taken j (closed-taken j h m)))
-
-  -- Without contexts every sheet atom is taken.
-  pub same-size : F .contexts ≡ [] → length (F .atoms) ≡ length (S .atoms)
-  same-size e = sym (g .sending .atoms-sent) ∙ sym (ones-over (p .atomsTo)) ∙ sum-once-eq (λ j. 1) (length (S .atoms)) (p .atomsTo) atoms-once taken-in off ∙ ones-to (length (S .atoms))
-    where
-      taken : (j : ℕ) → Range (length (S .atoms)) j → Dec (Taken S F p j) → Taken S F p j
-      taken j h (yes t) = t
-      taken j h (no n) = let r = g .sending .to-contexts j h n in absurd (List·Memᴰ·not-nil (subst (λ (l : List NetCell). r .0 ∈ l) e (r .1)))
-
-      off : (j : ℕ) → Range (length (S .atoms)) j → ¬ (j ∈ p .atomsTo) → _≡_ {A = ℕ} 1 0
-      off j h n = absurd (n (of-taken j (taken j h (taken-dec j))))

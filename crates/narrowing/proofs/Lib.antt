@@ -3,9 +3,6 @@ pub mod Counting
 pub mod Sums
 -- What a good placing does at links.
 pub mod GoodLinks
--- The sets.
-pub mod Narrowings
-pub mod Keeping
 -- The sets as arrays, and nets in arrays.
 pub mod Staying
 pub mod NetRows

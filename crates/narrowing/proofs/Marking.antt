@@ -6,8 +6,8 @@ use lib.ListN.{getD}
 use Rattle.hyperlmntal.specs.Link.{_∈_}
 use Rattle.sheet.specs.declared.normal.Normal.{Normal as NormalForm}
 use Rattle.network.specs.NetIn.{netIn, Fit}
+use Rattle.network.proofs.NetIn.{mark-in}
 use Rattle.narrowing.specs.Steps.{Enough, MarksOn, MarksBack}
-use Rattle.narrowing.proofs.NetRows.{mark-in}
 
 mark-at : (n : NormalForm) → Fit n → (p z : ℕ) → p < n .«mark_count» → z ≡ getD (n .marked) p 0 - 1 → (z + 1, getD (n .marks) p 0) ∈ (netIn n) .marks
 mark-at n fit p z h e =

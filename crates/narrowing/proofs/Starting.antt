@@ -5,7 +5,7 @@ use mathlib.Core.List.{List, []}
 use native.Mathlib.Omega.{arith}
 use lib.ListN.{length, getD, replicate, getD-replicate}
 use Rattle.hyperlmntal.specs.Link.{_∈_}
-use Rattle.sheet.specs.Limits.{sheetAtoms, sheetLinks}
+use Rattle.rows.specs.Limits.{sheetAtoms, sheetLinks}
 use Rattle.sheet.specs.declared.normal.Normal.{Normal as NormalForm}
 use Rattle.placing.specs.Net.{Net, Range, cellLinks, Normal}
 use Rattle.placing.specs.Placing.{Placing, atomTo, linkTo, Good}
@@ -32,7 +32,7 @@ module _ (sheet figure : NormalForm) (fs : Fit sheet) (ff : Fit figure) (NS : No
   module _ (p : Placing) (g : Good S F p) where
     alike-at : (i : ℕ) → Range (length (F .atoms)) i → Alike (atomAt figure (i - 1)) (atomAt sheet (atomTo p i - 1))
     alike-at i r = record {
-      names = sym (atom-name figure ff (i - 1) (here sheet figure fs ff NS NF p g i r)) ∙ g .across i r .name ∙ atom-name sheet fs (atomTo p i - 1) (there sheet figure fs ff NS NF p g i r);
+      names = sym (atom-name figure ff i (here sheet figure fs ff NS NF p g i r)) ∙ g .across i r .name ∙ atom-name sheet fs (atomTo p i) (there sheet figure fs ff NS NF p g i r);
       counts = same-count sheet figure fs ff NS NF p g i r;
       echoes = λ k h j l e. link-sent sheet figure fs ff NS NF p g i j r (omega arith) ∙ ap (linkTo p) e ∙ sym (link-sent sheet figure fs ff NS NF p g i k r h);
     }
@@ -72,8 +72,8 @@ module _ (sheet figure : NormalForm) (fs : Fit sheet) (ff : Fit figure) (NS : No
       atoms i r =
           let u = here sheet figure fs ff NS NF p g i r in
           let v = there sheet figure fs ff NS NF p g i r in
-          alike (i - 1) (atomTo p i - 1) (omega (arith, v, fs .atom-count))
-          (getD-replicate (sheetAtoms * sheetAtoms) ((i - 1) * sheetAtoms + (atomTo p i - 1)) 1 0 (omega (arith, u, v, fs .atom-count, ff .atom-count))) (λ h k. alike-at p g i r)
+          alike (i - 1) (atomTo p i - 1) (omega (arith, v .0, v .1, fs .atom-count))
+          (getD-replicate (sheetAtoms * sheetAtoms) ((i - 1) * sheetAtoms + (atomTo p i - 1)) 1 0 (omega (arith, u .0, u .1, v .0, v .1, fs .atom-count, ff .atom-count))) (λ h k. alike-at p g i r)
 
       links : (x : ℕ) → Decided F x → mayLink l₃ x (linkTo p x)
       links x d =

@@ -5,9 +5,8 @@ use mathlib.Core.Logic.{_⊎_, inl, inr}
 use mathlib.Core.List.{List, [], _∷_, List·Memᴰ·head, List·Memᴰ·tail, List·Memᴰ·cases-cons, List·Memᴰ·not-nil}
 use native.Mathlib.Decide.{ℕ-discrete}
 use native.Mathlib.Omega.{arith}
-use lib.ListN.{length}
 use Rattle.hyperlmntal.specs.Link.{_∈_}
-use Rattle.sheet.proofs.Distinct.{Once}
+use Rattle.sheet.proofs.normal.Distinct.{Once}
 use Rattle.placing.specs.Net.{Range}
 
 unfoldable pub sumOver : (ℕ → ℕ) → List ℕ → ℕ
@@ -90,14 +89,3 @@ pub sum-same : (f g : ℕ → ℕ) (n : ℕ) → ((j : ℕ) → Range n j → f 
 unfolding sumTo
 sum-same f g zero h = refl
 sum-same f g (suc n) h = omega (arith, h (suc n) (omega arith, omega arith), sum-same f g n (λ j k. let b : j ≤ n = k .1 in h j (k .0, omega arith)))
-
--- How many.
-pub ones-over : (l : List ℕ) → sumOver (λ j. 1) l ≡ length l
-unfolding sumOver
-ones-over [] = refl
-ones-over (x ∷ l) = omega (arith, ones-over l)
-
-pub ones-to : (n : ℕ) → sumTo (λ j. 1) n ≡ n
-unfolding sumTo
-ones-to zero = refl
-ones-to (suc n) = omega (arith, ones-to n)

@@ -8,15 +8,15 @@ use native.Mathlib.Omega.{arith}
 use lib.ListN.{length, getD, set, take, replicate}
 use lib.Seq.{getD-set-same, getD-set-other}
 use Rattle.hyperlmntal.specs.Link.{_∈_}
-use Rattle.sheet.specs.Limits.{sheetLinks}
-use Rattle.sheet.specs.declared.Atom.{Atom}
+use Rattle.rows.specs.Limits.{sheetLinks}
+use Rattle.rows.specs.declared.Atom.{Atom}
 use Rattle.sheet.specs.declared.normal.Normal.{Normal as NormalForm}
 use Rattle.placing.specs.Net.{Range, cellLinks, Normal}
 use Rattle.network.specs.NetIn.{atomIn, netIn, Fit}
+use Rattle.network.proofs.NetIn.{mark-in, mark-of}
 use Rattle.narrowing.specs.Count.{one, count}
 use Rattle.narrowing.specs.Steps.{AllAtMost}
 use Rattle.narrowing.proofs.Counting.{count-append}
-use Rattle.narrowing.proofs.NetRows.{mark-in, mark-of}
 
 count-next : (x : ℕ) (l : List ℕ) (k : ℕ) → k < length l → count x (take (suc k) l) ≡ count x (take k l) + one (ℕ-discrete x (getD l k 0))
 unfolding count
@@ -75,7 +75,7 @@ module _ (n : NormalForm) (fit : Fit n) (normal : Normal (netIn n)) (m : ℕ) wh
   mark-found p h e x i = normal .one-link x (getD (n .marked) p 0) m i (subst (λ (k : ℕ). (getD (n .marked) p 0, k) ∈ (netIn n) .marks) e (mark-in n fit p h))
 
   pub mark-nowhere : ((p : ℕ) → p < n .«mark_count» → getD (n .marks) p 0 ≡ m → ⊥) → (x : ℕ) → ¬ ((x, m) ∈ (netIn n) .marks)
-  mark-nowhere f x i = let t = mark-of n fit x m i in f (t .0) (t .1) (t .3)
+  mark-nowhere f x i = let t = mark-of n fit (x, m) i in f (t .0) (t .1) (ap (λ (e : ℕ × ℕ). e .1) (t .2))
 
 pub zeros-at : (n q : ℕ) → _≡_ {A = ℕ} (getD (replicate n 0) q 0) 0
 zeros-at zero q = refl

@@ -4,13 +4,15 @@ use mathlib.Core.Path.{_≡_}
 use mathlib.Core.List.{List}
 use lib.ListN.{getD}
 use Rattle.hyperlmntal.specs.Link.{_∈_}
-use Rattle.sheet.specs.Limits.{sheetAtoms}
-use Rattle.sheet.specs.declared.Atom.{Atom}
+use Rattle.rows.specs.Limits.{sheetAtoms, sheetLinks}
+use Rattle.rows.specs.declared.Atom.{Atom}
 use Rattle.sheet.specs.declared.normal.Normal.{Normal as NormalForm}
 use Rattle.placing.specs.Net.{cellLinks}
+use Rattle.placing.specs.Placing.{Placing, Good}
 use Rattle.network.specs.NetIn.{netIn, atomAt}
 use Rattle.narrowing.specs.Count.{count}
-use Rattle.narrowing.specs.Tables.{Marked, mayLink}
+use Rattle.narrowing.specs.Sets.{Obeys}
+use Rattle.narrowing.specs.Tables.{Marked, mayAtom, mayLink, Stays}
 
 -- link k of an atom
 abbrev pub linkOf : Atom → ℕ → ℕ
@@ -43,8 +45,17 @@ abbrev pub Given : NormalForm → List ℕ → ℕ → ℕ → ℕ → Type 0
 Given sheet a i k y = (t : ℕ) × GivenBy sheet a i k y t
 
 -- link z + 1 of figure atom i, at each of its places, is given y + 1
-abbrev pub GivenRow : NormalForm → NormalForm → List ℕ → ℕ → ℕ → ℕ → Type 0
-GivenRow sheet figure a i z y = (k : ℕ) → k < atomAt figure i .count → linkOf (atomAt figure i) k ≡ z + 1 → Given sheet a i k y
+abbrev pub GivenRow : NormalForm → Atom → List ℕ → ℕ → ℕ → ℕ → Type 0
+GivenRow sheet here a i z y = (k : ℕ) → k < here .count → linkOf here k ≡ z + 1 → Given sheet a i k y
+
+-- figure atom i by its links, then these by it: what stays of the arrays a and l in b and k
+pub record Visited (sheet : NormalForm) (here : Atom) (i : ℕ) (a l b k : List ℕ) : Type 0 where
+  pub atoms : Stays sheetAtoms a b (λ j t. j ≡ i → t < sheet .«atom_count» → Fitting here (atomAt sheet t) l)
+  pub links : Stays sheetLinks l k (GivenRow sheet here b i)
+
+-- A good placing in the sets of the first two arrays is in those of the others.
+abbrev pub Narrowed : NormalForm → NormalForm → (a l b k : List ℕ) → Type 0
+Narrowed sheet figure a l b k = (p : Placing) → Good (netIn sheet) (netIn figure) p → Obeys (netIn sheet) (netIn figure) (mayAtom a) (mayLink l) p → Obeys (netIn sheet) (netIn figure) (mayAtom b) (mayLink k) p
 
 -- the places of atoms at link x + 1
 abbrev pub placesOf : NormalForm → ℕ → ℕ

@@ -1,13 +1,13 @@
 // Sheet atoms that are like a figure atom.
 use crate::Sets;
-use sheet::Atom;
-use sheet::Sheet;
+use rows::Atom;
+use rows::Sheet;
 use sheet::normal::Normal;
 ghost use mathlib.Core.Path.{_≡_};
 ghost use mathlib.Core.Bool.{true};
 ghost use Prim.Native.Nat.{_<_};
-ghost use Rattle.sheet.specs.Format.{mostLinks};
-ghost use Rattle.sheet.specs.Limits.{sheetAtoms, sheetLinks};
+ghost use Rattle.rows.specs.Format.{mostLinks};
+ghost use Rattle.rows.specs.Limits.{sheetAtoms, sheetLinks};
 ghost use Rattle.network.specs.NetIn.{Fit, Used, atomAt};
 ghost use Rattle.narrowing.specs.Tables.{Stays};
 ghost use Rattle.narrowing.specs.Steps.{Echoes, Alike};

@@ -1,11 +1,11 @@
 // A choice of the search: a figure atom goes to a sheet atom.
 use crate::Sets;
-use sheet::Sheet;
+use rows::Sheet;
 ghost use mathlib.Core.Path.{_≡_};
 ghost use mathlib.Core.List.{List, [], _∷_, _++_};
 ghost use Prim.Native.Nat.{ℕ, _+_, _<_, _≤_};
 ghost use lib.ListN.{length};
-ghost use Rattle.sheet.specs.Limits.{sheetAtoms};
+ghost use Rattle.rows.specs.Limits.{sheetAtoms};
 ghost use Rattle.placing.specs.Net.{Net};
 ghost use Rattle.narrowing.specs.Sets.{Keeps};
 ghost use Rattle.narrowing.specs.Tables.{mayAtom, mayLink, Stays};
@@ -39,13 +39,10 @@ fn only_from(k: usize, t: usize, atoms: &mut [u8; Sets::ATOM_PAIRS])
 }
 
 // Figure atom k, the next after those placed, goes to sheet atom t.
-pub fn choose(sets: Sets, k: usize, t: usize) -> Sets
+pub fn choose(k: usize, t: usize, atoms: &mut [u8; Sets::ATOM_PAIRS])
     requires { ⌜ (k < sheetAtoms) × (t < sheetAtoms) ⌝ }
-    ensures { λ r. ⌜ ((S F : Net) (pre : List ℕ) → length (S .atoms) ≤ sheetAtoms → length pre ≡ k → k < length (F .atoms) → Keeps S F pre (mayAtom (sets .atoms)) (mayLink (sets .links)) → Keeps S F (pre ++ ((t + 1) ∷ [])) (mayAtom (r .atoms)) (mayLink (r .links))) ⌝ }
+    ensures { λ _. ⌜ ((S F : Net) (pre l : List ℕ) → length (S .atoms) ≤ sheetAtoms → length pre ≡ k → k < length (F .atoms) → Keeps S F pre (mayAtom (now (atoms .entry))) (mayLink l) → Keeps S F (pre ++ ((t + 1) ∷ [])) (mayAtom (now (atoms .exit))) (mayLink l)) ⌝ }
 {
-    let mut atoms = sets.atoms;
-    let links = sets.links;
-    only_to(k, t, &mut atoms);
-    only_from(k, t, &mut atoms);
-    Sets { atoms, links }
+    only_to(k, t, atoms);
+    only_from(k, t, atoms);
 }

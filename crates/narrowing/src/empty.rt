@@ -1,31 +1,32 @@
 // Empty rows: a figure atom or link that may go nowhere.
 use crate::Sets;
-use sheet::Atom;
-use sheet::Sheet;
+use rows::Atom;
+use rows::Sheet;
 use sheet::normal::Normal;
 ghost use mathlib.Core.Path.{_≡_};
 ghost use mathlib.Core.Bool.{true};
 ghost use Prim.Native.Nat.{ℕ, _-_, _<_, _≤_};
 ghost use lib.ListN.{getD};
-ghost use Rattle.sheet.specs.Limits.{sheetAtoms, sheetLinks};
+ghost use Rattle.rows.specs.Limits.{sheetAtoms, sheetLinks};
 ghost use Rattle.placing.specs.Net.{Range};
 ghost use Rattle.network.specs.NetIn.{Fit, Used, atomAt};
 ghost use Rattle.narrowing.specs.Tables.{Blank};
 ghost use Rattle.narrowing.specs.Steps.{linkOf};
 
 // Figure atom i may go to none of the first n sheet atoms.
-fn no_atom(atoms: &[u8; Sets::ATOM_PAIRS], i: usize, n: usize) -> bool
+pub(crate) fn no_atom(atoms: &[u8; Sets::ATOM_PAIRS], i: usize, n: usize) -> bool
     requires { ⌜ (i < sheetAtoms) × (n ≤ sheetAtoms) ⌝ }
     ensures { λ r. ⌜ (r ≡ true → Blank sheetAtoms (now (atoms .entry)) i n) ⌝ }
 {
+    let mut none = true;
     let mut t = 0;
     while t < n {
         if atoms[i * Sheet::ATOMS + t] == 1 {
-            return false;
+            none = false;
         }
         t += 1;
     }
-    true
+    none
 }
 
 // Figure link x may go to none of the first n sheet links.
@@ -33,14 +34,15 @@ fn no_link(links: &[u8; Sets::LINK_PAIRS], x: usize, n: usize) -> bool
     requires { ⌜ Range sheetLinks x × (n ≤ sheetLinks) ⌝ }
     ensures { λ r. ⌜ (r ≡ true → Blank sheetLinks (now (links .entry)) (x - 1) n) ⌝ }
 {
+    let mut none = true;
     let mut y = 0;
     while y < n {
         if links[(x - 1) * Sheet::LINKS + y] == 1 {
-            return false;
+            none = false;
         }
         y += 1;
     }
-    true
+    none
 }
 
 // Some figure atom may go nowhere.
@@ -52,40 +54,6 @@ pub(crate) fn atom_lost(sheet: Normal, figure: Normal, atoms: &[u8; Sets::ATOM_P
     let mut i = 0;
     while i < figure.atom_count {
         if no_atom(atoms, i, n) {
-            return true;
-        }
-        i += 1;
-    }
-    false
-}
-
-// Some link of a figure atom may go to none of the first n sheet links.
-fn place_lost(here: Atom, links: &[u8; Sets::LINK_PAIRS], n: usize) -> bool
-    requires { ⌜ Used sheetLinks (here .count) (here .links) × (n ≤ sheetLinks) ⌝ }
-    ensures { λ r. ⌜ (r ≡ true → (k : ℕ) × (k < here .count) × Blank sheetLinks (now (links .entry)) (linkOf here k - 1) n) ⌝ }
-{
-    let count = here.count as usize;
-    let mut k = 0;
-    while k < count {
-        let x = here.links[k] as usize;
-        if no_link(links, x, n) {
-            return true;
-        }
-        k += 1;
-    }
-    false
-}
-
-// Some link of some figure atom may go nowhere.
-pub(crate) fn link_lost(sheet: Normal, figure: Normal, links: &[u8; Sets::LINK_PAIRS]) -> bool
-    requires { ⌜ Fit sheet × Fit figure ⌝ }
-    ensures { λ r. ⌜ (r ≡ true → (i : ℕ) × (i < figure .«atom_count») × ((k : ℕ) × (k < atomAt figure i .count) × Blank sheetLinks (now (links .entry)) (linkOf (atomAt figure i) k - 1) (sheet .«class_count»))) ⌝ }
-{
-    let n = sheet.class_count;
-    let mut i = 0;
-    while i < figure.atom_count {
-        let here = figure.atoms[i];
-        if place_lost(here, links, n) {
             return true;
         }
         i += 1;

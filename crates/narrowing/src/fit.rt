@@ -1,12 +1,12 @@
 // Sheet atoms whose links may not be where the figure atom's links go.
 use crate::Sets;
-use sheet::Atom;
-use sheet::Sheet;
+use rows::Atom;
+use rows::Sheet;
 use sheet::normal::Normal;
 ghost use mathlib.Core.Path.{_≡_};
 ghost use mathlib.Core.Bool.{true};
 ghost use Prim.Native.Nat.{_<_};
-ghost use Rattle.sheet.specs.Limits.{sheetAtoms, sheetLinks};
+ghost use Rattle.rows.specs.Limits.{sheetAtoms, sheetLinks};
 ghost use Rattle.network.specs.NetIn.{Fit, Used, atomAt};
 ghost use Rattle.narrowing.specs.Tables.{Stays};
 ghost use Rattle.narrowing.specs.Steps.{Fitting};
@@ -32,19 +32,20 @@ fn fits(here: Atom, there: Atom, links: &[u8; Sets::LINK_PAIRS]) -> bool
     true
 }
 
-// What does not fit is taken out of the row of figure atom i. Whether anything was.
-fn narrow_row(
+// What does not fit is taken out of the row of `here`, which is figure atom i. Whether anything was, or
+// `forced`.
+pub(crate) fn narrow_row(
     sheet: Normal,
-    figure: Normal,
+    here: Atom,
     i: usize,
+    forced: bool,
     atoms: &mut [u8; Sets::ATOM_PAIRS],
     links: &[u8; Sets::LINK_PAIRS],
 ) -> bool
-    requires { ⌜ Fit sheet × Fit figure × (i < figure .«atom_count») ⌝ }
-    ensures { λ _. ⌜ Stays sheetAtoms (now (atoms .entry)) (now (atoms .exit)) (λ j t. j ≡ i → t < sheet .«atom_count» → Fitting (atomAt figure i) (atomAt sheet t) (now (links .entry))) ⌝ }
+    requires { ⌜ Fit sheet × Used sheetLinks (here .count) (here .links) × (i < sheetAtoms) ⌝ }
+    ensures { λ _. ⌜ Stays sheetAtoms (now (atoms .entry)) (now (atoms .exit)) (λ j t. j ≡ i → t < sheet .«atom_count» → Fitting here (atomAt sheet t) (now (links .entry))) ⌝ }
 {
-    let here = figure.atoms[i];
-    let mut changed = false;
+    let mut changed = forced;
     let mut t = 0;
     while t < sheet.atom_count {
         let at = i * Sheet::ATOMS + t;
@@ -56,27 +57,6 @@ fn narrow_row(
             }
         }
         t += 1;
-    }
-    changed
-}
-
-// What does not fit is taken out of every row.
-pub(crate) fn narrow_atoms(
-    sheet: Normal,
-    figure: Normal,
-    atoms: &mut [u8; Sets::ATOM_PAIRS],
-    links: &[u8; Sets::LINK_PAIRS],
-) -> bool
-    requires { ⌜ Fit sheet × Fit figure ⌝ }
-    ensures { λ _. ⌜ Stays sheetAtoms (now (atoms .entry)) (now (atoms .exit)) (λ i t. i < figure .«atom_count» → t < sheet .«atom_count» → Fitting (atomAt figure i) (atomAt sheet t) (now (links .entry))) ⌝ }
-{
-    let mut changed = false;
-    let mut i = 0;
-    while i < figure.atom_count {
-        if narrow_row(sheet, figure, i, atoms, links) {
-            changed = true;
-        }
-        i += 1;
     }
     changed
 }

@@ -7,8 +7,9 @@ mod links;
 pub mod narrow;
 mod profile;
 pub mod start;
+mod sweep;
 
-use sheet::Sheet;
+use rows::Sheet;
 
 // Where figure atoms and figure links may go: 1 where one may, 0 where it may not. Atoms are counted
 // from 0: figure atom i and sheet atom t at i * Sheet::ATOMS + t. Links are counted from 1: figure link

@@ -1,12 +1,12 @@
 // Sheet links that no sheet atom left for a figure atom has.
 use crate::Sets;
-use sheet::Atom;
-use sheet::Sheet;
+use rows::Atom;
+use rows::Sheet;
 use sheet::normal::Normal;
 ghost use mathlib.Core.Path.{_≡_};
 ghost use Prim.Native.Nat.{ℕ, _-_, _<_};
-ghost use Rattle.sheet.specs.Format.{mostLinks};
-ghost use Rattle.sheet.specs.Limits.{sheetAtoms, sheetLinks};
+ghost use Rattle.rows.specs.Format.{mostLinks};
+ghost use Rattle.rows.specs.Limits.{sheetAtoms, sheetLinks};
 ghost use Rattle.placing.specs.Net.{Range};
 ghost use Rattle.network.specs.NetIn.{Fit, Used};
 ghost use Rattle.narrowing.specs.Tables.{Cleared, Stays, StaysCleared};
@@ -44,16 +44,17 @@ fn missing_links(sheet: Normal, i: usize, atoms: &[u8; Sets::ATOM_PAIRS]) -> [u8
     missing
 }
 
-// What is missing at place k is taken out of the row of figure link x.
+// What is missing at place k is taken out of the row of figure link x. Whether anything was.
 fn drop_missing(
     x: usize,
     k: usize,
     missing: &[u8; Sets::PLACES],
     links: &mut [u8; Sets::LINK_PAIRS],
-)
+) -> bool
     requires { ⌜ Range sheetLinks x × (k < mostLinks) ⌝ }
     ensures { λ _. ⌜ Stays sheetLinks (now (links .entry)) (now (links .exit)) (λ z y. z ≡ x - 1 → Cleared sheetLinks (now (missing .entry)) k y) ⌝ }
 {
+    let mut changed = false;
     let mut y = 0;
     while y < Sheet::LINKS {
         let at = (x - 1) * Sheet::LINKS + y;
@@ -62,46 +63,36 @@ fn drop_missing(
         if missing[k * Sheet::LINKS + y] == 0 {
             kept = before;
         }
+        if kept != before {
+            changed = true;
+        }
         links[at] = kept;
         y += 1;
     }
+    changed
 }
 
-// The rows of the links of figure atom i.
-fn narrow_places(
+// The rows of the links of `here`, which is figure atom i. The pass is noted for each that got smaller.
+pub(crate) fn narrow_places(
     sheet: Normal,
-    figure: Normal,
+    here: Atom,
     i: usize,
+    pass: usize,
     atoms: &[u8; Sets::ATOM_PAIRS],
     links: &mut [u8; Sets::LINK_PAIRS],
+    changes: &mut [usize; Sheet::LINKS],
 )
-    requires { ⌜ Fit sheet × Fit figure × (i < figure .«atom_count») ⌝ }
-    ensures { λ _. ⌜ Stays sheetLinks (now (links .entry)) (now (links .exit)) (GivenRow sheet figure (now (atoms .entry)) i) ⌝ }
+    requires { ⌜ Fit sheet × Used sheetLinks (here .count) (here .links) × (i < sheetAtoms) ⌝ }
+    ensures { λ _. ⌜ Stays sheetLinks (now (links .entry)) (now (links .exit)) (GivenRow sheet here (now (atoms .entry)) i) ⌝ }
 {
-    let here = figure.atoms[i];
     let count = here.count as usize;
     let missing = missing_links(sheet, i, atoms);
     let mut k = 0;
     while k < count {
         let x = here.links[k] as usize;
-        drop_missing(x, k, &missing, links);
+        if drop_missing(x, k, &missing, links) {
+            changes[x - 1] = pass;
+        }
         k += 1;
-    }
-}
-
-// The rows of the links of every figure atom.
-pub(crate) fn narrow_links(
-    sheet: Normal,
-    figure: Normal,
-    atoms: &[u8; Sets::ATOM_PAIRS],
-    links: &mut [u8; Sets::LINK_PAIRS],
-)
-    requires { ⌜ Fit sheet × Fit figure ⌝ }
-    ensures { λ _. ⌜ Stays sheetLinks (now (links .entry)) (now (links .exit)) (λ z y. (i : ℕ) → i < figure .«atom_count» → GivenRow sheet figure (now (atoms .entry)) i z y) ⌝ }
-{
-    let mut i = 0;
-    while i < figure.atom_count {
-        narrow_places(sheet, figure, i, atoms, links);
-        i += 1;
     }
 }

@@ -1,10 +1,10 @@
 // Narrowing until nothing changes, and the question whether there is hope.
 use crate::Sets;
 use crate::empty::atom_lost;
-use crate::empty::link_lost;
 use crate::empty::mark_lost;
-use crate::fit::narrow_atoms;
-use crate::links::narrow_links;
+use crate::sweep::changed;
+use crate::sweep::sweep;
+use rows::Sheet;
 use sheet::normal::Normal;
 ghost use mathlib.Core.Path.{_≡_};
 ghost use mathlib.Core.Bool.{true};
@@ -16,40 +16,44 @@ ghost use Rattle.network.specs.NetIn.{netIn, Fit};
 ghost use Rattle.narrowing.specs.Sets.{Keeps};
 ghost use Rattle.narrowing.specs.Tables.{mayAtom, mayLink};
 
-// Links by atoms and atoms by links, until no atom's row changes or one is empty. A pass that changes
+// Atoms by links and links by atoms, until no row changes or one is empty. A pass that changes
 // a row takes at least one pair out, so there are never more passes than pairs.
-pub fn narrow(sheet: Normal, figure: Normal, sets: Sets) -> Sets
+pub fn narrow(
+    sheet: Normal,
+    figure: Normal,
+    links: &[u8; Sets::LINK_PAIRS],
+    atoms: &mut [u8; Sets::ATOM_PAIRS],
+)
     requires { ⌜ Fit sheet × Fit figure × NormalNet (netIn sheet) × NormalNet (netIn figure) ⌝ }
-    ensures { λ r. ⌜ ((pre : List ℕ) → Keeps (netIn sheet) (netIn figure) pre (mayAtom (sets .atoms)) (mayLink (sets .links)) → Keeps (netIn sheet) (netIn figure) pre (mayAtom (r .atoms)) (mayLink (r .links))) ⌝ }
+    ensures { λ _. ⌜ ((pre : List ℕ) → Keeps (netIn sheet) (netIn figure) pre (mayAtom (now (atoms .entry))) (mayLink (now (links .entry))) → Keeps (netIn sheet) (netIn figure) pre (mayAtom (now (atoms .exit))) (mayLink (now (links .entry)))) ⌝ }
 {
-    let mut atoms = sets.atoms;
-    let mut links = sets.links;
+    let mut rows = *links;
+    let mut changes = [Sets::ATOM_PAIRS; Sheet::LINKS];
     let mut left = Sets::ATOM_PAIRS;
     while left > 0 {
-        narrow_links(sheet, figure, &atoms, &mut links);
-        let fewer = narrow_atoms(sheet, figure, &mut atoms, &links);
-        let lost = atom_lost(sheet, figure, &atoms);
+        let before = left;
         left -= 1;
-        if !fewer {
-            left = 0;
+        if sweep(sheet, figure, before, left, atoms, &mut rows, &mut changes) {
+            return;
         }
-        if lost {
-            left = 0;
+        if !changed(left, &changes) {
+            return;
         }
     }
-    Sets { atoms, links }
 }
 
-// Whether some figure atom, or some link of a figure atom or of a mark, may go nowhere.
-pub fn hopeless(sheet: Normal, figure: Normal, sets: Sets) -> bool
+// Whether some figure atom or some marked figure link may go nowhere.
+pub fn hopeless<'a>(
+    sheet: Normal,
+    figure: Normal,
+    atoms: &'a [u8; Sets::ATOM_PAIRS],
+    links: &'a [u8; Sets::LINK_PAIRS],
+) -> bool
     requires { ⌜ Fit sheet × Fit figure × NormalNet (netIn sheet) × NormalNet (netIn figure) ⌝ }
-    ensures { λ r. ⌜ (r ≡ true → (pre : List ℕ) → Keeps (netIn sheet) (netIn figure) pre (mayAtom (sets .atoms)) (mayLink (sets .links)) → ¬ Begun (netIn sheet) (netIn figure) pre) ⌝ }
+    ensures { λ r. ⌜ (r ≡ true → (pre : List ℕ) → Keeps (netIn sheet) (netIn figure) pre (mayAtom (now (atoms .entry))) (mayLink (now (links .entry))) → ¬ Begun (netIn sheet) (netIn figure) pre) ⌝ }
 {
-    if atom_lost(sheet, figure, &sets.atoms) {
+    if atom_lost(sheet, figure, atoms) {
         return true;
     }
-    if link_lost(sheet, figure, &sets.links) {
-        return true;
-    }
-    mark_lost(sheet, figure, &sets.links)
+    mark_lost(sheet, figure, links)
 }

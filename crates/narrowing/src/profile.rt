@@ -1,15 +1,15 @@
 // What a net says of each of its links: how many places of atoms it has, whether a context has it, and
 // which link has a mark.
-use sheet::Atom;
-use sheet::Context;
-use sheet::Sheet;
+use rows::Atom;
+use rows::Context;
+use rows::Sheet;
 use sheet::normal::Normal;
 ghost use mathlib.Core.Path.{_≡_};
 ghost use Prim.Native.Nat.{ℕ, _+_, _-_, _*_, _<_, _≤_};
 ghost use lib.ListN.{getD, take};
 ghost use Rattle.hyperlmntal.specs.Link.{_∈_};
-ghost use Rattle.sheet.specs.Format.{mostLinks};
-ghost use Rattle.sheet.specs.Limits.{sheetAtoms, sheetLinks};
+ghost use Rattle.rows.specs.Format.{mostLinks};
+ghost use Rattle.rows.specs.Limits.{sheetAtoms, sheetLinks};
 ghost use Rattle.placing.specs.Net.{cellLinks, Normal as NormalNet};
 ghost use Rattle.network.specs.NetIn.{netIn, Fit, Used};
 ghost use Rattle.narrowing.specs.Count.{count};

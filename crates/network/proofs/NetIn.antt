@@ -85,9 +85,6 @@ module _ (n : form.Normal) (f : Fit n) where
   pub atom-used : (t : ℕ) → Range (n .«atom_count») t → Used (n .«class_count») (atomAt n (t - 1) .count) (atomAt n (t - 1) .links)
   atom-used t r = f .atoms (t - 1) (let h : 1 ≤ t = r .0 in let k : t ≤ n .«atom_count» = r .1 in omega arith)
 
-  pub context-used : (t : ℕ) → Range (n .«context_count») t → Used (n .«class_count») (contextAt n (t - 1) .count) (contextAt n (t - 1) .links)
-  context-used t r = f .contexts (t - 1) (let h : 1 ≤ t = r .0 in let k : t ≤ n .«context_count» = r .1 in omega arith)
-
   -- A mark and its link.
   pub mark-at : (i : ℕ) → i < n .«mark_count» → getD (netIn n .marks) i (0, 0) ≡ (getD (n .marked) i 0, getD (n .marks) i 0)
   mark-at i h =

@@ -1,9 +1,9 @@
 -- The arrays of a text that was read: their net is that of the text's normal form, and they fit.
 use Prim.Native.Nat.{ℕ, zero, suc, _+_, _-_, _≤_, _<_}
 use mathlib.Core.Path.{_≡_, refl, ap, ap₂, sym, _∙_, subst}
-use mathlib.Core.Logic.{_⊎_, inl, inr, ⊎-elim}
+use mathlib.Core.Logic.{_⊎_, inl, inr}
 use mathlib.Core.Bool.{false, true≢false}
-use mathlib.Core.List.{List, [], _∷_, map, map-map, List·Memᴰ·append-cases, List·Memᴰ·cases-cons, List·Memᴰ·not-nil, Memᴰ·cast, Memᴰ·map, Memᴰ·of-map}
+use mathlib.Core.List.{List, [], _∷_, map, map-map, List·Memᴰ·append-cases, Memᴰ·cast, Memᴰ·map, Memᴰ·of-map}
 use native.Mathlib.Omega.{arith}
 use lib.ListN.{length, getD, take, length-map}
 use lib.Seq.{length-take-le, getD-take}
@@ -11,10 +11,12 @@ use Rattle.hyperlmntal.specs.Link.{_∈_}
 use Rattle.hyperlmntal.specs.Hypergraph.{Node, inner, portNodes, nodes}
 use Rattle.hyperlmntal.proofs.Lists.{map-agree}
 use Rattle.hyperlmntal.proofs.Flats.{on-atoms, on-fusions, ends-in}
-use Rattle.sheet.specs.Format.{mostLinks}
-use Rattle.sheet.specs.Limits.{sheetAtoms, sheetLinks, sheetMarks, figureContexts, isList, linkLimit}
-use Rattle.sheet.specs.Held.{Held, indexOf}
-use Rattle.sheet.specs.Packed.{padded, noAtom, noContext}
+use Rattle.rows.specs.Format.{mostLinks}
+use Rattle.rows.specs.Limits.{sheetAtoms, sheetLinks, sheetMarks, figureContexts}
+use Rattle.rows.specs.Held.{Held, indexOf}
+use Rattle.rows.specs.Packed.{padded, noAtom, noContext}
+use Rattle.rows.proofs.Padding.{length-padded, take-padded}
+use Rattle.sheet.specs.Kinds.{isList, linkLimit}
 use Rattle.sheet.specs.Graph.{graphOf}
 use Rattle.sheet.specs.Agrees.{Agrees}
 use Rattle.sheet.specs.Reading.{outcomeOf}
@@ -23,18 +25,17 @@ use Rattle.sheet.specs.NormalSheet.{numberIn, normalAtom, normalContext, normal
 use Rattle.sheet.specs.NormalRows.{pastAtoms, pastContexts}
 use Rattle.sheet.specs.declared.kind.Kind.{Kind}
 use Rattle.sheet.specs.declared.kind.Kind.the-variants.{Plain, Pattern, Figure, Replacement, Fillings}
-use Rattle.sheet.proofs.Merging.{at-indexOf}
-use Rattle.sheet.proofs.Distinct.{index-below, distinct-in, distinct-of, distinct-once, once-length}
-use Rattle.sheet.proofs.Padding.{length-padded, take-padded}
-use Rattle.sheet.proofs.Ranges.{Every, AtomRange, ContextRange, WithinLimits}
-use Rattle.sheet.proofs.HeldLimits.{held-within}
-use Rattle.sheet.proofs.Room.{limits-most}
-use Rattle.sheet.proofs.Connected.{getD-in, atom-port, context-port, agrees-read}
-use Rattle.sheet.proofs.NormalNodes.{form-ports}
-use Rattle.sheet.proofs.NormalBy.{port-shown, mark-shown}
-use Rattle.sheet.proofs.NormalBounds.{classCount, number-range, normal-range, text-links}
-use Rattle.sheet.proofs.NormalFits.{upTo, upTo-length, upTo-in}
-use Rattle.sheet.proofs.NormalWritten.{mapped-at, taken-padded, number, used-links, atom-at, context-at, marked-at, atom-range, context-range, atom-room, context-room, links-known, few-marks}
+use Rattle.sheet.proofs.normal.Merging.{at-indexOf, getD-in}
+use Rattle.sheet.proofs.normal.Distinct.{index-below, distinct-in, distinct-of, distinct-once, once-length}
+use Rattle.sheet.proofs.read.Ranges.{AtomRange, ContextRange, WithinLimits}
+use Rattle.sheet.proofs.read.HeldLimits.{held-within}
+use Rattle.sheet.proofs.read.Room.{limits-most}
+use Rattle.sheet.proofs.normal.Connected.{atom-port, context-port, agrees-read}
+use Rattle.sheet.proofs.normal.NormalNodes.{form-ports}
+use Rattle.sheet.proofs.normal.NormalBy.{port-shown, mark-shown}
+use Rattle.sheet.proofs.normal.NormalBounds.{classCount, number-range, normal-range, text-links}
+use Rattle.sheet.proofs.normal_text.NormalWritten.{mapped-at, taken-padded, number, used-links, atom-at, context-at, marked-at, atom-range, context-range, atom-room, context-room, links-known, few-marks}
+use Rattle.texts.proofs.NormalFits.{every-member, upTo, upTo-length, upTo-in}
 use Rattle.placing.specs.Net.{NetCell, Net, Range, standing, edgeNumbers, normalNet, Normal}
 use Rattle.placing.proofs.NormalNets.{standing-node, node-standing, atomNumbers, contextNumbers, linkNumber, normal-graph, normal-atoms, normal-contexts, normal-net}
 use Rattle.network.specs.NetIn.{atomIn, contextIn, paired, netIn, Used, Fit}
@@ -96,11 +97,7 @@ module _ (h : Held) where
       ap₂ paired (taken-padded (sheetMarks + 1) (map (λ m. numberIn h (markNode m)) (normalMarks h)) (length (normalMarks h)) (length-map (normalMarks h) _)) (take-padded (sheetMarks + 1) 0 (normalMarks h))
       ∙ marks-paired (normalMarks h)
 
-every-member : {A : Type 0} (P : A → Type 0) (l : List A) → Every P l → (x : A) → x ∈ l → P x
-every-member P [] p x i = absurd (List·Memᴰ·not-nil i)
-every-member P (y ∷ l) p x i = ⊎-elim (λ e. subst P (sym e) (p .0)) (λ j. every-member P l (p .1) x j) (List·Memᴰ·cases-cons i)
-
-net-≡ : {a a′ c c′ : List NetCell} {m m′ : List (ℕ × ℕ)} {n n′ : ℕ} → a ≡ a′ → c ≡ c′ → m ≡ m′ → n ≡ n′
+pub net-≡ : {a a′ c c′ : List NetCell} {m m′ : List (ℕ × ℕ)} {n n′ : ℕ} → a ≡ a′ → c ≡ c′ → m ≡ m′ → n ≡ n′
     → _≡_ {A = Net} (record { atoms = a; contexts = c; marks = m; links = n }) (record { atoms = a′; contexts = c′; marks = m′; links = n′ })
 net-≡ a c m n i = record { atoms = a i; contexts = c i; marks = m i; links = n i }
 
@@ -114,7 +111,7 @@ module _ (kind : Kind) (h : Held) (w : WithinLimits kind h) where
       ap (map atomIn) (ap (λ k. take k (padded (sheetAtoms + 1) noAtom (map (normalAtom h) (h .atoms)))) (sym (length-map (h .atoms) (normalAtom h))) ∙ take-padded (sheetAtoms + 1) noAtom (map (normalAtom h) (h .atoms)))
       ∙ map-map atomIn (normalAtom h) (h .atoms)
       ∙ map-agree (λ a. atomIn (normalAtom h a)) (atomNumbers (linkNumber h)) (h .atoms) (λ a m.
-      let r = every-member AtomRange (h .atoms) (w .ranges .atoms) a m in
+      let r = every-member AtomRange (h .atoms) a (w .ranges .atoms) m in
       ap (λ l. (a .name, l)) (links-read (a .count) (a .links) (omega (arith, r .count, r .ports .width))))
       ∙ sym (normal-atoms h)
 
@@ -123,7 +120,7 @@ module _ (kind : Kind) (h : Held) (w : WithinLimits kind h) where
       ap (map contextIn) (ap (λ k. take k (padded (figureContexts + 1) noContext (map (normalContext h) (h .contexts)))) (sym (length-map (h .contexts) (normalContext h))) ∙ take-padded (figureContexts + 1) noContext (map (normalContext h) (h .contexts)))
       ∙ map-map contextIn (normalContext h) (h .contexts)
       ∙ map-agree (λ c. contextIn (normalContext h c)) (contextNumbers (linkNumber h)) (h .contexts) (λ c m.
-      let r = every-member (ContextRange kind) (h .contexts) (w .ranges .contexts) c m in
+      let r = every-member (ContextRange kind) (h .contexts) c (w .ranges .contexts) m in
       ap (λ l. (c .number, l)) (links-read (c .count) (c .links) (omega (arith, r .count, r .ports .width))))
       ∙ sym (normal-contexts h)
 

@@ -1,6 +1,6 @@
 // Prints the normal text of a sheet: an A row with number, input and row, then its rows. The sheet is the
 // file that the first argument names, or sheet.txt.
-use sheet::Sheet;
+use rows::Sheet;
 
 fn main() {
     let fd = task_files::open_input(1, b"sheet.txt");

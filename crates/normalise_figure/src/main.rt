@@ -1,6 +1,6 @@
 // Prints the normal text of a figure: an A row with number, input and row, then its rows. The figure is the
 // file that the first argument names, or figure.txt.
-use sheet::Sheet;
+use rows::Sheet;
 
 fn main() {
     let fd = task_files::open_input(1, b"figure.txt");

@@ -69,7 +69,7 @@ found-in (g ∷ θ) x n f i p q = at (sameFunctor x n (flatEntry g)) refl (List�
     at (no k) e (inr j) h = let t = h j in record { filling = t .filling; listed = List·Memᴰ·tail (t .listed); number = t .number; ports = t .ports; rows = t .rows ∙ sym (ap (λ d. select d (g .rows) (rowsWith x n θ)) e); found = ap (λ d. select d (some (flatEntry g)) (lookup x n (map flatEntry θ))) e ∙ t .found }
 
 -- Port i of a context is its i-th link.
-connect-port : (l : List ℕ) (s i : ℕ) → s ≤ i → i < s + length l → connect {P = ℕ} {Q = ℕ} (map inner l) (marksFrom s (length l)) (free i) ≡ figN (getD l (i - s) 0)
+pub connect-port : (l : List ℕ) (s i : ℕ) → s ≤ i → i < s + length l → connect {P = ℕ} {Q = ℕ} (map inner l) (marksFrom s (length l)) (free i) ≡ figN (getD l (i - s) 0)
 unfolding connect
 connect-port [] s i p q = absurd (omega arith)
 connect-port (x ∷ l) s i p q = at (ℕ-discrete i s) (λ h. connect-port l (suc s) i h (omega arith))
@@ -123,9 +123,6 @@ module _ (F : Net) (θ : List Filling) (fit : Fits F θ) where
 
   pub exact-for : (c : NetCell) → c ∈ F .contexts → (x m : ℕ) → edgeRow x m ∈ rowsFor c → Range (length (c .1)) m
   exact-for c i x m j = let f = found-for c i in subst (λ n. Range n m) (f .ports) (fit .exact (f .filling) (f .listed) .within x m (subst (λ r. edgeRow x m ∈ r) (sym (f .rows)) j))
-
-  pub mark-for : (c : NetCell) → c ∈ F .contexts → (m : ℕ) → Range (length (c .1)) m → (x : ℕ) × (edgeRow x m ∈ rowsFor c)
-  mark-for c i m h = let f = found-for c i in let t = fit .exact (f .filling) (f .listed) .every m (subst (λ n. Range n m) (sym (f .ports)) h) in (t .0, subst (λ r. edgeRow (t .0) m ∈ r) (f .rows) (t .1))
 
   -- A fusion of the filled hypergraph: a mark of the figure, a point of a filling, or a port of a filling at its figure link.
   pub data Edge (e : Fusion (Spot ℕ ℕ)) : Type 0 where

@@ -8,9 +8,9 @@ use Rattle.hyperlmntal.specs.GraphSubstitution.{Entry}
 use Rattle.hyperlmntal.specs.Hypergraph.{Node, Cell, Flat, mapCell}
 use Rattle.hyperlmntal.specs.Isomorphism.{functor}
 use Rattle.hyperlmntal.specs.DenotedSubstitution.{outerNode, plug, entryFor, fillWith, fillCells}
-use Rattle.sheet.specs.Held.{Held}
-use Rattle.sheet.specs.declared.Atom.{Atom}
-use Rattle.sheet.specs.declared.Context.{Context}
+use Rattle.rows.specs.Held.{Held}
+use Rattle.rows.specs.declared.Atom.{Atom}
+use Rattle.rows.specs.declared.Context.{Context}
 use Rattle.sheet.specs.Graph.{atomCell, contextCell, graphOf}
 use Rattle.sheet.specs.Normal.{classOf, numberedBy, normalFormBy, normalForm}
 use Rattle.placing.specs.Fillings.{Filling}

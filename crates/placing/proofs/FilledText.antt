@@ -17,10 +17,10 @@ use Rattle.hyperlmntal.proofs.Equivalence.{SameNames, isomorphic-of-iso, isomor
 use Rattle.hyperlmntal.proofs.Completeness.{isomorphic-congruent}
 use Rattle.hyperlmntal.proofs.Denoting.{termOf-isomorphic}
 use Rattle.hyperlmntal.proofs.ExactPorts.{ExactFlat, exact-names}
-use Rattle.sheet.specs.Held.{Held}
+use Rattle.rows.specs.Held.{Held}
 use Rattle.sheet.specs.Graph.{graphOf, termOfText}
-use Rattle.sheet.proofs.NormalIso.{normal-isomorphic, normal-marked}
-use Rattle.sheet.proofs.TextGraph.{graph-marked}
+use Rattle.sheet.proofs.normal.TextGraph.{graph-marked}
+use Rattle.texts.proofs.NormalIso.{normal-isomorphic, normal-marked}
 use Rattle.placing.specs.Fillings.{Filling, ExactMarks}
 use Rattle.placing.specs.Holding.{holdingTerm}
 use Rattle.placing.specs.Filled.{flatEntry, ofPart, spotNumber, spotNode, filledGraph, filledNormal}

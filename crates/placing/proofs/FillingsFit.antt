@@ -9,7 +9,7 @@ use borrow.Author.Tests.{ltb-true}
 use lib.Dec.{ltb}
 use lib.ListN.{length, getD}
 use Rattle.hyperlmntal.specs.Link.{_∈_}
-use Rattle.sheet.specs.Pick.{pick}
+use Rattle.rows.specs.Pick.{pick}
 use Rattle.placing.specs.Net.{NetCell, Net, Range, Normal, Apart}
 use Rattle.placing.specs.Placing.{Placing, numberAt, cellAt, linkTo, Good}
 use Rattle.placing.specs.Fillings.{Row, pointRow, edgeRow, rowLinks, Filling, ExactMarks, Fits, placesOf, byNumber, symbolOf, standsOn, portRows, givenRows, fillingFor, fillingsOf}

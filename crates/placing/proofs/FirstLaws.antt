@@ -9,7 +9,7 @@ use mathlib.Core.Option.{Option, none, some}
 use native.Mathlib.Decide.{decLt}
 use native.Mathlib.Omega.{arith}
 use lib.ListN.{length}
-use Rattle.sheet.specs.Pick.{pick}
+use Rattle.rows.specs.Pick.{pick}
 use Rattle.placing.specs.First.{Within, nothing, also, Before, here, later, after, headed, orElse, firstFrom, firstList, Least, Answer}
 
 pub both-ways : {A : Type 0} {b : Bool} → b ≡ true → b ≡ false → A

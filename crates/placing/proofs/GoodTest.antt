@@ -6,7 +6,7 @@ use mathlib.Core.Bool.{Bool, true, false}
 use lib.Dec.{eqb}
 use lib.ListN.{length}
 use Rattle.hyperlmntal.specs.Link.{_∈_}
-use Rattle.sheet.specs.Pick.{not}
+use Rattle.rows.specs.Pick.{not}
 use Rattle.placing.specs.Net.{NetCell, Net, Range}
 use Rattle.placing.specs.Placing.{Placing, cellAt, atomTo, linkTo, givenTo, Taken, Sending, Across, SameMarks, PortAt, Inside, Good}
 use Rattle.placing.specs.Smallest.{numbersTo, allOf, inRange, isTaken, givenRight, isDifferent, sendingTest, acrossTest, markOnward, markBackward, marksTest, portTest, onlyThere, insideTest, ownLinks, goodTest}

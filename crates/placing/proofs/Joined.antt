@@ -2,35 +2,31 @@
 use Prim.Native.Nat.{ℕ, zero, suc, _+_, _-_, _≤_, _<_}
 use mathlib.Core.Path.{_≡_, refl, sym, _∙_, ap, subst}
 use mathlib.Core.Logic.{_⊎_, inl, inr}
-use mathlib.Core.List.{List, [], _∷_, map, List·Memᴰ·head, List·Memᴰ·tail, List·Memᴰ·cases-cons, List·Memᴰ·not-nil}
+use mathlib.Core.List.{List, [], _∷_, List·Memᴰ·head, List·Memᴰ·tail, List·Memᴰ·cases-cons, List·Memᴰ·not-nil}
 use native.Mathlib.Decide.{ℕ-discrete}
 use native.Mathlib.Omega.{arith}
 use lib.ListN.{length, getD, length-map}
 use borrow.Author.Tests.{eq-eqb, ne-eqb}
 use Rattle.hyperlmntal.specs.Link.{_∈_}
-use Rattle.sheet.specs.Held.{relabelled}
+use Rattle.rows.specs.Held.{relabelled}
+use Rattle.rows.proofs.Lists.{getD-mapped}
 use Rattle.placing.specs.Net.{Range}
 use Rattle.placing.specs.Placing.{numberAt}
 use Rattle.placing.specs.Smallest.{numbersFrom, labelsBy}
 
-numbers-length : (s n : ℕ) → length (numbersFrom s n) ≡ n
+pub numbers-length : (s n : ℕ) → length (numbersFrom s n) ≡ n
 numbers-length s zero = refl
 numbers-length s (suc n) = ap suc (numbers-length (suc s) n)
 
-numbers-at : (s n i : ℕ) → i < n → getD (numbersFrom s n) i 0 ≡ s + i
+pub numbers-at : (s n i : ℕ) → i < n → getD (numbersFrom s n) i 0 ≡ s + i
 numbers-at s zero i h = absurd (omega arith)
 numbers-at s (suc n) zero h = omega arith
 numbers-at s (suc n) (suc i) h = numbers-at (suc s) n i (omega arith) ∙ (let q : suc s + i ≡ s + suc i = omega arith in q)
 
-mapped-at : (f : ℕ → ℕ) (l : List ℕ) (i : ℕ) → i < length l → getD (map f l) i 0 ≡ f (getD l i 0)
-mapped-at f [] i h = absurd (omega arith)
-mapped-at f (x ∷ l) zero h = refl
-mapped-at f (x ∷ l) (suc i) h = mapped-at f l i (omega arith)
-
-relabelled-hit : (from to c : ℕ) → c ≡ from → relabelled from to c ≡ to
+pub relabelled-hit : (from to c : ℕ) → c ≡ from → relabelled from to c ≡ to
 relabelled-hit from to c e = rw (eq-eqb c from e)
 
-relabelled-miss : (from to c : ℕ) → ¬ (c ≡ from) → relabelled from to c ≡ c
+pub relabelled-miss : (from to c : ℕ) → ¬ (c ≡ from) → relabelled from to c ≡ c
 relabelled-miss from to c e = rw (ne-eqb c from e)
 
 module _ (n : ℕ) where
@@ -51,7 +47,7 @@ module _ (n : ℕ) where
   unfolding labelsBy
   label-joined e E x r =
       let h : 1 ≤ x = r .0 in let g : x ≤ n = r .1 in
-      mapped-at (relabelled (numberAt (labelsBy n E) (e .1)) (numberAt (labelsBy n E) (e .0))) (labelsBy n E) (x - 1) (omega (arith, labels-length E))
+      getD-mapped (relabelled (numberAt (labelsBy n E) (e .1)) (numberAt (labelsBy n E) (e .0))) (labelsBy n E) (x - 1) 0 0 (omega (arith, labels-length E))
 
   -- pairs of links
   abbrev pub Pairs : List (ℕ × ℕ) → Type 0

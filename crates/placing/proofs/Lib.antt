@@ -1,4 +1,4 @@
--- The theorems in one place, and worked sheets.
+-- The theorems in one place, and worked placings.
 pub mod Theorems
 pub mod WorkedPlacings
 -- Lists, orders and connections.

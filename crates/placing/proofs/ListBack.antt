@@ -5,22 +5,21 @@ use mathlib.Core.List.{List, [], _∷_, _++_, map, map-append, append-nil, appen
 use native.Mathlib.Omega.{arith}
 use lib.ListN.{length, length-append, length-map}
 use Rattle.hyperlmntal.specs.Link.{_∈_}
-use Rattle.sheet.specs.Format.{mostLinks}
-use Rattle.sheet.specs.Limits.{rowLimit, figureContexts, sheetAtoms}
-use Rattle.sheet.specs.Held.{Held, nothing, withHead}
+use Rattle.rows.specs.Format.{mostLinks}
+use Rattle.rows.specs.Limits.{rowLimit, figureContexts, sheetAtoms}
+use Rattle.rows.specs.Held.{Held, nothing, withHead}
+use Rattle.rows.specs.declared.Atom.{Atom}
+use Rattle.rows.specs.declared.Context.{Context}
+use Rattle.rows.proofs.RowRange.{Within}
 use Rattle.sheet.specs.Reading.{lastNumber, passed, readFrom, outcomeOf, noPorts}
-use Rattle.sheet.specs.declared.Atom.{Atom}
-use Rattle.sheet.specs.declared.Context.{Context}
 use Rattle.sheet.specs.declared.kind.Kind.the-variants.{Fillings}
 use Rattle.sheet.specs.declared.answer.Answer.the-variants.{Passed}
-use Rattle.sheet.proofs.RowRange.{Within}
-use Rattle.sheet.proofs.ReadingLaws.{read-none}
-use Rattle.sheet.proofs.BuiltRows.{heldAtom}
+use Rattle.sheet.proofs.read.ReadingLaws.{read-none}
+use Rattle.texts.proofs.BuiltRows.{heldAtom}
 use Rattle.placing.specs.Net.{NetCell}
 use Rattle.placing.specs.Fillings.{Row, symbolRow, pointRow, edgeRow, Filling}
 use Rattle.placing.specs.ListText.{rowText, rowsText, listText}
 use Rattle.placing.proofs.Names.{symbolsIn}
-use Rattle.placing.proofs.NormalTexts.{textBlank}
 use Rattle.placing.proofs.ListRows.{Stock, RowFits, Went, went-none, went-then, headOf, headNums, went-head, Stocked, Led, pointsIn, edgesIn, one-row}
 
 -- The atoms of a list of fillings, in order.
@@ -160,13 +159,6 @@ went-list given (f ∷ θ) g up p few atoms rows =
       edges = t .edges ∙ ap (λ z. ofLast edgesIn z θ) (b .edges);
     }
 
-abbrev pub headNumbers : Filling → ℕ × ℕ
-headNumbers f = (f .number, f .ports)
-
-heads-numbers : (row : ℕ) (θ : List Filling) → map textBlank (listHeads row θ) ≡ map headNumbers θ
-heads-numbers row [] = refl
-heads-numbers row (f ∷ θ) = ap (λ l. headNumbers f ∷ l) (heads-numbers (row + (1 + length (f .rows))) θ)
-
 module _ (θ : List Filling) (fits : ListFits θ) where
   through : Through noPorts nothing θ
   unfolding lastNumber
@@ -189,13 +181,6 @@ module _ (θ : List Filling) (fits : ListFits θ) where
 
   pub list-heads : outcomeOf Fillings noPorts (listText θ) .held .contexts ≡ listHeads 0 θ
   list-heads = ap (λ o. o .held .contexts) outcome ∙ through .went .heads
-
-  -- The numbers and port counts of the heads, in order.
-  pub list-blanks : map textBlank (outcomeOf Fillings noPorts (listText θ) .held .contexts) ≡ map headNumbers θ
-  list-blanks = ap (map textBlank) list-heads ∙ heads-numbers 0 θ
-
-  pub list-row-count : outcomeOf Fillings noPorts (listText θ) .held .rows ≡ listRows θ
-  list-row-count = ap (λ o. o .held .rows) outcome ∙ through .went .rows ∙ (let q : 0 + listRows θ ≡ listRows θ = omega arith in q)
 
   -- The fusions and edges that are held are those of the last filling.
   pub list-points : outcomeOf Fillings noPorts (listText θ) .held .fusions ≡ ofLast pointsIn [] θ

@@ -1,5 +1,5 @@
 -- The part of the text of a list that is one blank's filling: its H row and its rows, no more and no less.
-use Prim.Native.Nat.{ℕ, zero, suc, _+_, _-_, _*_, _<_, _≤_}
+use Prim.Native.Nat.{ℕ, zero, suc, _+_, _-_, _<_, _≤_}
 use mathlib.Core.Path.{_≡_, refl, sym, ap, _∙_, subst}
 use mathlib.Core.List.{List, [], _∷_, _++_, map, append-nil, append-assoc, List·Memᴰ·head, List·Memᴰ·tail, List·Memᴰ·not-nil, List·Memᴰ·cases-cons}
 use mathlib.Core.Bool.{Bool, true, false}
@@ -9,22 +9,22 @@ use borrow.Author.Tests.{le-ltb, eq-eqb, ne-eqb}
 use lib.Dec.{eqb, ltb}
 use lib.ListN.{length, getD, take, length-append}
 use Rattle.hyperlmntal.specs.Link.{_∈_}
-use Rattle.sheet.specs.Pick.{pick, and}
-use Rattle.sheet.specs.Format.{rowWidth}
-use Rattle.sheet.specs.Row.{rowOf}
-use Rattle.sheet.specs.RowText.{rowBytes}
+use Rattle.rows.specs.Pick.{pick}
+use Rattle.rows.specs.Format.{rowWidth}
+use Rattle.rows.specs.Row.{rowOf}
+use Rattle.rows.specs.RowText.{rowBytes}
+use Rattle.rows.proofs.RowBytes.{row-width}
 use Rattle.sheet.specs.Filling.{fromHead, beforeHead, firstFilling, isPassed, fillingOf}
 use Rattle.sheet.specs.Reading.{Outcome, outcomeOf, noPorts}
 use Rattle.sheet.specs.declared.kind.Kind.the-variants.{Fillings}
 use Rattle.sheet.specs.declared.answer.Answer.the-variants.{Passed}
-use Rattle.sheet.proofs.RowBytes.{row-width}
-use Rattle.sheet.proofs.BuiltRows.{heldAtom}
-use Rattle.sheet.proofs.RowBack.{row-first, row-after, row-byte, head-back}
+use Rattle.texts.proofs.BuiltRows.{heldAtom}
+use Rattle.texts.proofs.RowBack.{row-first, row-after, row-byte, head-back}
 use Rattle.placing.specs.Fillings.{Row, symbolRow, pointRow, edgeRow, Filling}
 use Rattle.placing.specs.ListText.{rowText, rowsText, headText, listText}
 use Rattle.placing.proofs.Names.{symbolsIn}
-use Rattle.placing.proofs.ListRows.{headOf, pointsIn, edgesIn}
-use Rattle.placing.proofs.ListBack.{listAtoms, listRows, Ascends, FillingFits, ListFits, list-passes, list-atoms, list-heads, list-points, list-edges}
+use Rattle.placing.proofs.ListRows.{pointsIn, edgesIn}
+use Rattle.placing.proofs.ListBack.{listAtoms, listRows, Ascends, FillingFits, ListFits, list-passes, list-atoms, list-points, list-edges}
 
 -- A text that begins with a row.
 module _ (b : ℕ) (nums rest : List ℕ) where
@@ -74,7 +74,7 @@ before-rows (r ∷ l) rest n h =
     ∙ ap (λ t. rowText r ++ t) (before-rows l rest (n - 1) (omega arith) ∙ ap (λ i. rowsText l ++ beforeHead i rest) q)
     ∙ sym (append-assoc (rowText r) (rowsText l) (beforeHead (n - suc (length l)) rest))
 
-before-none : (n : ℕ) → beforeHead n [] ≡ []
+pub before-none : (n : ℕ) → beforeHead n [] ≡ []
 unfolding beforeHead
 before-none zero = refl
 before-none (suc n) = refl
@@ -205,9 +205,6 @@ module _ (θ : List Filling) (fits : ListFits θ) (f : Filling) (m : f ∈ θ) w
 
   pub part-passes : partOf θ f .answer ≡ Passed
   part-passes = sym (ap (λ o. o .answer) part-alone) ∙ list-passes (f ∷ []) alone
-
-  pub part-head : partOf θ f .held .contexts ≡ headOf f 1 ∷ []
-  part-head = sym (ap (λ o. o .held .contexts) part-alone) ∙ list-heads (f ∷ []) alone
 
   pub part-atoms : partOf θ f .held .atoms ≡ map heldAtom (symbolsIn (f .rows))
   part-atoms = sym (ap (λ o. o .held .atoms) part-alone) ∙ list-atoms (f ∷ []) alone ∙ ap (map heldAtom) (append-nil (symbolsIn (f .rows)))

@@ -8,21 +8,22 @@ use native.Mathlib.Omega.{arith}
 use borrow.Author.Tests.{lt-leb, ne-eqb}
 use lib.ListN.{length, replicate, length-append}
 use Rattle.hyperlmntal.specs.Link.{_∈_}
-use Rattle.sheet.specs.Format.{mostLinks}
-use Rattle.sheet.specs.Limits.{rowLimit, figureContexts, sheetAtoms, sheetMarks, fillingLinks}
-use Rattle.sheet.specs.Row.{rowWith, rowOf}
-use Rattle.sheet.specs.RowText.{rowBytes}
-use Rattle.sheet.specs.Held.{Held, withLinks, merged, withFusion, withAtom, withFusionRow, withEdgeRow, withHead, withRow}
+use Rattle.rows.specs.Format.{mostLinks}
+use Rattle.rows.specs.Limits.{rowLimit, figureContexts, sheetAtoms, sheetMarks, fillingLinks}
+use Rattle.rows.specs.Row.{rowWith, rowOf}
+use Rattle.rows.specs.RowText.{rowBytes}
+use Rattle.rows.specs.Held.{Held, withLinks, merged, withFusion, withAtom, withFusionRow, withEdgeRow, withHead, withRow}
+use Rattle.rows.specs.declared.Atom.{Atom}
+use Rattle.rows.specs.declared.Context.{Context}
+use Rattle.rows.proofs.RowRange.{Within}
+use Rattle.rows.proofs.Wired.{links-marks, mark-links}
+use Rattle.rows.proofs.Padding.{take-padded}
 use Rattle.sheet.specs.Reading.{strange, lastNumber, clashes, readFrom}
-use Rattle.sheet.specs.declared.Atom.{Atom}
-use Rattle.sheet.specs.declared.Context.{Context}
 use Rattle.sheet.specs.declared.kind.Kind.the-variants.{Fillings}
-use Rattle.sheet.proofs.RowRange.{Within}
-use Rattle.sheet.proofs.Ranges.{LinkRange, MarkRange}
-use Rattle.sheet.proofs.Wired.{links-marks, mark-links}
-use Rattle.sheet.proofs.RowBack.{row-first, row-after, row-whole, symbol-back, fusion-back, edge-back, head-back}
-use Rattle.sheet.proofs.Taken.{rowAt, Taken, read-taken}
-use Rattle.sheet.proofs.BuiltRows.{Few, few-length, few-links, few-mark, vertexNums, heldAtom, take-padded, every-in}
+use Rattle.sheet.proofs.read.Ranges.{LinkRange, MarkRange}
+use Rattle.sheet.proofs.read.Taken.{rowAt, Taken, read-taken}
+use Rattle.texts.proofs.RowBack.{row-first, row-after, row-whole, symbol-back, fusion-back, edge-back, head-back}
+use Rattle.texts.proofs.BuiltRows.{Few, few-length, few-links, few-mark, vertexNums, heldAtom, every-in}
 use Rattle.placing.specs.Fillings.{Row, symbolRow, pointRow, edgeRow, Filling}
 use Rattle.placing.specs.ListText.{rowText, headText}
 use Rattle.placing.proofs.Names.{symbolsIn}
@@ -149,7 +150,7 @@ module _ (given links marks : List ℕ) (stock : Stock links marks) where
     symbol a l f atoms =
         let t : Stocked (withAtom g (vertexNums (a, l))) =
         record {
-          own-links = rw (take-padded l) (few-links links (g .wiring) l (f .2) (s .own-links));
+          own-links = rw (take-padded mostLinks 0 l) (few-links links (g .wiring) l (f .2) (s .own-links));
           own-marks = rw links-marks (s .own-marks);
           headed = s .headed;
         } in

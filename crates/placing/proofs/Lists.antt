@@ -9,7 +9,7 @@ use lib.ListN.{length, getD, getElem?}
 use Rattle.hyperlmntal.specs.Link.{_∈_}
 use Rattle.hyperlmntal.proofs.Lists.{Each, done, more}
 use Rattle.hyperlmntal.proofs.Positions.{some-injective}
-use Rattle.sheet.proofs.Ranges.{Every}
+use Rattle.sheet.proofs.read.Ranges.{Every}
 
 -- What stands at a position.
 pub at-left : {A : Type 0} (k l : List A) (i : ℕ) → i < length k → getElem? (k ++ l) i ≡ getElem? k i
@@ -125,8 +125,3 @@ some-member {A} Q d (x ∷ l) = at (d x) (some-member Q d l)
         neither : (t : (a : A) × (a ∈ (x ∷ l)) × Q a) → (t .0 ≡ x) ⊎ (t .0 ∈ l) → ⊥
         neither t (inl e) = n (subst Q e (t .2))
         neither t (inr i) = k (t .0, i, t .2)
-
--- What holds of every element holds of each.
-pub every-member : {A : Type 0} (P : A → Type 0) (l : List A) (x : A) → Every P l → x ∈ l → P x
-every-member P [] x p i = absurd (List·Memᴰ·not-nil i)
-every-member P (y ∷ l) x p i = ⊎-elim (λ e. subst P (sym e) (p .0)) (λ j. every-member P l x (p .1) j) (List·Memᴰ·cases-cons i)

@@ -10,7 +10,7 @@ use lib.Dec.{eqb, leb}
 use lib.ListN.{length, getD, drop, List·getD-append}
 use lib.Seq.{getD-take, getD-drop}
 use Rattle.hyperlmntal.specs.Link.{_∈_}
-use Rattle.sheet.specs.Pick.{and}
+use Rattle.rows.specs.Pick.{and}
 use Rattle.placing.specs.Net.{Net, Range}
 use Rattle.placing.specs.Placing.{Placing, numberAt, cellAt, atomTo, linkTo, Good}
 use Rattle.placing.specs.Smallest.{numbersTo, allOf, someOf, implies, inRange, boundsOf, placingFrom, goodList, placingIn, smallest}

@@ -9,7 +9,7 @@ use native.Mathlib.Omega.{arith}
 use lib.Dec.{eqb}
 use lib.ListN.{length}
 use Rattle.hyperlmntal.specs.Congruence.{_≅_}
-use Rattle.sheet.specs.Pick.{not}
+use Rattle.rows.specs.Pick.{not}
 use Rattle.placing.specs.Net.{NetCell, Net, Range, netTerm, withLinkCount, NormalSheet, NormalPattern}
 use Rattle.placing.specs.Placing.{Placing, linkTo, here, Across, PortAt, Good}
 use Rattle.placing.specs.Fillings.{Filling, Fits}

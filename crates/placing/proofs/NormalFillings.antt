@@ -14,8 +14,8 @@ use Rattle.hyperlmntal.proofs.Theorems.{fillings-congruent}
 use Rattle.sheet.specs.Graph.{edgeOf}
 use Rattle.sheet.specs.Normal.{classOf, marksOf, numberBy, markedBy, normalFormBy, normalForm}
 use Rattle.sheet.specs.NormalText.{nodeNumber}
-use Rattle.sheet.proofs.NormalIso.{normal-names, normal-congruent}
-use Rattle.sheet.proofs.NormalBounds.{normal-range}
+use Rattle.sheet.proofs.normal.NormalBounds.{normal-range}
+use Rattle.texts.proofs.NormalIso.{normal-names, normal-congruent}
 use Rattle.placing.specs.Net.{NetCell, Net, Range, atomsAmong, edgeNumbers, netOf, atomVertex}
 use Rattle.placing.specs.Fillings.{Row, edgeRow, rowLinks, rowsGraph, rowsTerm, Filling, ExactMarks, Fits, symbolOf, markOf, normalRows, normalFilling}
 use Rattle.placing.specs.Holding.{substitutionOf, holdingTerm}
@@ -24,7 +24,7 @@ use Rattle.placing.proofs.Standing.{in-cells}
 use Rattle.placing.proofs.NormalNets.{atom-nodes}
 
 -- The hypergraph of a net's rows.
-rows-of-net : (a : List NetCell) (m : List (ℕ × ℕ)) → rowsGraph (map symbolOf a ++ map markOf m) ≡ record { atoms = map atomVertex a; fusions = map edgeOf m }
+pub rows-of-net : (a : List NetCell) (m : List (ℕ × ℕ)) → rowsGraph (map symbolOf a ++ map markOf m) ≡ record { atoms = map atomVertex a; fusions = map edgeOf m }
 rows-of-net (c ∷ a) m = flat-≡ (ap (λ G. atomVertex c ∷ G .atoms) (rows-of-net a m)) (ap (λ G. G .fusions) (rows-of-net a m))
 rows-of-net [] [] = refl
 rows-of-net [] (e ∷ m) = flat-≡ (ap (λ G. G .atoms) (rows-of-net [] m)) (ap (λ G. edgeOf e ∷ G .fusions) (rows-of-net [] m))

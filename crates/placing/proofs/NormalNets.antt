@@ -11,16 +11,16 @@ use lib.ListN.{length, getD, take}
 use Rattle.hyperlmntal.specs.Link.{_∈_}
 use Rattle.hyperlmntal.specs.Hypergraph.{Node, inner, name, Cell, Flat, portNodes, endNodes, nodes, mapCell}
 use Rattle.hyperlmntal.proofs.Flats.{flat-≡, cell-≡, portNodes-append, on-atoms, on-fusions, ends-in}
-use Rattle.sheet.specs.Pick.{pick}
-use Rattle.sheet.specs.Held.{Held, indexOf}
+use Rattle.rows.specs.Pick.{pick}
+use Rattle.rows.specs.Held.{Held, indexOf}
+use Rattle.rows.specs.declared.Atom.{Atom}
+use Rattle.rows.specs.declared.Context.{Context}
 use Rattle.sheet.specs.Graph.{atomCell, contextCell, edgeOf, graphOf}
 use Rattle.sheet.specs.Normal.{classOf, markNode, marksOf, shown, distinct, classesBy, numberBy, numberedBy, markedBy, normalFormBy, normalForm}
 use Rattle.sheet.specs.NormalText.{nodeNumber}
-use Rattle.sheet.specs.declared.Atom.{Atom}
-use Rattle.sheet.specs.declared.Context.{Context}
-use Rattle.sheet.proofs.Distinct.{Once, distinct-of, distinct-once}
-use Rattle.sheet.proofs.NormalNodes.{form-ports}
-use Rattle.sheet.proofs.NormalBounds.{classCount, normal-range}
+use Rattle.sheet.proofs.normal.Distinct.{Once, distinct-of, distinct-once}
+use Rattle.sheet.proofs.normal.NormalNodes.{form-ports}
+use Rattle.sheet.proofs.normal.NormalBounds.{classCount, normal-range}
 use Rattle.placing.specs.Net.{NetCell, Net, Range, cellLinks, markLinks, standing, greatest, atomsAmong, contextsAmong, edgeNumbers, normalNet, atomVertex, contextVertex, netGraph, Normal}
 use Rattle.placing.proofs.Lists.{getD-member}
 use Rattle.placing.proofs.Standing.{of-marks}
@@ -108,7 +108,7 @@ index-at (x ∷ l) o (suc i) h = at (eqb x (getD l i 0)) refl (index-at l (o .1)
     at false e q = ap suc q
 
 -- The number of each node that is shown is there.
-shown-node : (label : Node ℕ → ℕ) (F : Flat ℕ) (x : Node ℕ) → x ∈ shown F → inner (numberBy label F x) ∈ nodes (normalFormBy label F)
+pub shown-node : (label : Node ℕ → ℕ) (F : Flat ℕ) (x : Node ℕ) → x ∈ shown F → inner (numberBy label F x) ∈ nodes (normalFormBy label F)
 unfolding normalFormBy
 shown-node label F x m = side (List·Memᴰ·append-cases (portNodes (F .atoms)) m)
   where

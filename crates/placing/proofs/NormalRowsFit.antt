@@ -8,15 +8,15 @@ use lib.ListN.{length, length-append, length-map}
 use Rattle.hyperlmntal.specs.Link.{free, _∈_}
 use Rattle.hyperlmntal.specs.Hypergraph.{Node, inner, name, Connected, along, back, then, portNodes, nodes, mapCell}
 use Rattle.hyperlmntal.proofs.Connection.{connected-≡}
-use Rattle.sheet.specs.Format.{mostLinks}
-use Rattle.sheet.specs.Limits.{fillingLinks}
+use Rattle.rows.specs.Format.{mostLinks}
+use Rattle.rows.specs.Limits.{fillingLinks}
+use Rattle.rows.proofs.RowRange.{Within}
 use Rattle.sheet.specs.Normal.{classOf, markNode, marksOf, shown, numberBy, markedBy, normalFormBy, normalForm}
 use Rattle.sheet.specs.NormalText.{nodeNumber}
-use Rattle.sheet.proofs.RowRange.{Within}
-use Rattle.sheet.proofs.Distinct.{once-length}
-use Rattle.sheet.proofs.Marks.{marks-of}
-use Rattle.sheet.proofs.NormalBounds.{classCount, number-range, classes-bound, normal-marks}
-use Rattle.sheet.proofs.NormalFits.{upTo, upTo-length, upTo-in, upTo-of}
+use Rattle.sheet.proofs.normal.Distinct.{once-length}
+use Rattle.sheet.proofs.normal.Marks.{marks-of}
+use Rattle.sheet.proofs.normal.NormalBounds.{classCount, number-range, classes-bound, normal-marks}
+use Rattle.texts.proofs.NormalFits.{upTo, upTo-length, upTo-in, upTo-of}
 use Rattle.placing.specs.Net.{NetCell, Net, Range, atomsAmong, edgeNumbers, netOf, atomVertex, cellLinks}
 use Rattle.placing.specs.Fillings.{Row, symbolRow, pointRow, edgeRow, rowLinks, rowsGraph, Filling, ExactMarks, symbolOf, markOf, normalRows, normalFilling}
 use Rattle.placing.proofs.Names.{symbolsIn, rows-atoms, fusion-rows, rows-name}
@@ -26,7 +26,7 @@ use Rattle.placing.proofs.ListRows.{RowFits}
 use Rattle.placing.proofs.ListBack.{FillingFits}
 
 -- The S row of an atom among rows.
-symbol-row : (r : List Row) (c : NetCell) → c ∈ symbolsIn r → symbolOf c ∈ r
+pub symbol-row : (r : List Row) (c : NetCell) → c ∈ symbolsIn r → symbolOf c ∈ r
 symbol-row [] c m = absurd (List·Memᴰ·not-nil m)
 symbol-row (symbolRow a l ∷ r) c m = at (List·Memᴰ·cases-cons m) (symbol-row r c)
   where
@@ -36,12 +36,12 @@ symbol-row (symbolRow a l ∷ r) c m = at (List·Memᴰ·cases-cons m) (symbol-r
 symbol-row (pointRow x y ∷ r) c m = List·Memᴰ·tail (symbol-row r c m)
 symbol-row (edgeRow x k ∷ r) c m = List·Memᴰ·tail (symbol-row r c m)
 
-symbols-of-net : (a : List NetCell) (m : List (ℕ × ℕ)) → symbolsIn (map symbolOf a ++ map markOf m) ≡ a
+pub symbols-of-net : (a : List NetCell) (m : List (ℕ × ℕ)) → symbolsIn (map symbolOf a ++ map markOf m) ≡ a
 symbols-of-net (c ∷ a) m = ap (λ l. c ∷ l) (symbols-of-net a m)
 symbols-of-net [] [] = refl
 symbols-of-net [] (e ∷ m) = symbols-of-net [] m
 
-among-numbered : (f : Node ℕ → ℕ) (l : List NetCell)
+pub among-numbered : (f : Node ℕ → ℕ) (l : List NetCell)
     → atomsAmong (map (mapCell (λ x. inner (f x))) (map atomVertex l)) ≡ map (λ c. (c .0, map f (map inner (c .1)))) l
 among-numbered f [] = refl
 among-numbered f (c ∷ l) = ap₂ _∷_ (ap (λ k. (c .0, k)) (map-map nodeNumber (λ x. inner (f x)) (map inner (c .1)))) (among-numbered f l)

@@ -6,7 +6,7 @@ use mathlib.Core.List.{List, [], _∷_}
 use mathlib.Core.Bool.{Bool, true}
 use lib.Dec.{eqb, leb}
 use Rattle.hyperlmntal.specs.Link.{_∈_}
-use Rattle.sheet.specs.Pick.{not, and}
+use Rattle.rows.specs.Pick.{not, and}
 use Rattle.placing.specs.Net.{NetCell, Net, Range, standing, Normal, NormalSheet, Apart, NormalPattern}
 use Rattle.placing.specs.Smallest.{numbersTo, allOf, implies, inRange, isAmong}
 use Rattle.placing.proofs.Tests.{Says, says-by, says-and, says-not, says-implies, says-eq, says-le, says-range, says-all, says-all-to, says-among}

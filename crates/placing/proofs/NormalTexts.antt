@@ -10,22 +10,23 @@ use lib.Dec.{eqb}
 use lib.ListN.{length, getD, take, length-map, length-take}
 use Rattle.hyperlmntal.specs.Link.{_∈_}
 use Rattle.hyperlmntal.specs.Hypergraph.{Node, inner}
-use Rattle.sheet.specs.Pick.{pick, not}
-use Rattle.sheet.specs.Held.{Held, contextOf, withRow, withAtom, withContext, withFusionRow, withEdgeRow}
-use Rattle.sheet.specs.Packed.{portsOf}
-use Rattle.sheet.specs.Format.{rowWidth}
-use Rattle.sheet.specs.Limits.{isList}
+use Rattle.rows.specs.Pick.{pick, not}
+use Rattle.rows.specs.Held.{Held, contextOf, withRow, withAtom, withContext, withFusionRow, withEdgeRow}
+use Rattle.rows.specs.Packed.{portsOf}
+use Rattle.rows.specs.Format.{rowWidth}
+use Rattle.rows.specs.declared.Context.{Context}
+use Rattle.rows.proofs.Bools.{not-false}
+use Rattle.rows.proofs.RowRange.{good-letter}
+use Rattle.sheet.specs.Kinds.{isList}
 use Rattle.sheet.specs.Reading.{outcomeOf, strange, clashes, clashOf}
-use Rattle.sheet.specs.declared.Context.{Context}
 use Rattle.sheet.specs.declared.kind.Kind.{Kind}
 use Rattle.sheet.specs.declared.kind.Kind.the-variants.{Plain, Pattern}
-use Rattle.sheet.proofs.ReadingLaws.{row-by}
-use Rattle.sheet.proofs.Taken.{rowAt, Taken, outcome-keeps, not-false}
-use Rattle.sheet.proofs.RowRange.{good-letter}
-use Rattle.sheet.proofs.Ranges.{Every, ContextRange}
-use Rattle.sheet.proofs.HeldLimits.{head-list, held-within}
+use Rattle.sheet.proofs.read.ReadingLaws.{row-by}
+use Rattle.sheet.proofs.read.Taken.{rowAt, Taken, outcome-keeps}
+use Rattle.sheet.proofs.read.Ranges.{Every, ContextRange}
+use Rattle.sheet.proofs.read.HeldLimits.{head-list, held-within}
 use Rattle.placing.specs.Net.{NetCell, normalNet, Apart, NormalSheet, NormalPattern}
-use Rattle.placing.proofs.Lists.{every-member}
+use Rattle.texts.proofs.NormalFits.{every-member}
 use Rattle.placing.proofs.NormalNets.{contextNumbers, linkNumber, normal-contexts, normal-net}
 
 -- A sheet text holds no blanks.

@@ -14,7 +14,7 @@ use Rattle.hyperlmntal.proofs.Connection.{connected-≡, recast}
 use Rattle.hyperlmntal.proofs.Relational.{Alike, Match, Via, iso-by}
 use Rattle.hyperlmntal.proofs.Equivalence.{SameNames, isomorphic-of-iso}
 use Rattle.hyperlmntal.proofs.ExactPorts.{exact-names}
-use Rattle.sheet.proofs.Distinct.{Once}
+use Rattle.sheet.proofs.normal.Distinct.{Once}
 use Rattle.placing.specs.Net.{NetCell, Net, Range, atomVertex, contextVertex, netGraph, Apart}
 use Rattle.placing.specs.Placing.{Placing, cellAt, atomTo, linkTo, givenTo, Taken, Across, PortAt, Inside}
 use Rattle.placing.specs.Fillings.{placesOf}
@@ -23,7 +23,7 @@ use Rattle.placing.proofs.Lists.{member-at, getD-of, getD-member, each-
 use Rattle.placing.proofs.Names.{symbolsIn, net-name, name-net, all-exact-flat}
 use Rattle.placing.proofs.Reduction.{filled}
 use Rattle.placing.proofs.Filled.{FilledNode, figN, ownN, figCell, ownCell, rowsFor, Slot, slot-member, ownCells, filled-atoms}
-use Rattle.placing.proofs.Standing.{atom-link, context-link, cell-in}
+use Rattle.placing.proofs.Standing.{atom-link, context-link, cell-in, place-link}
 use Rattle.placing.proofs.Orders.{upTo, up-to-in, up-to-out, count-once, places-in, places-out, places-once, once-append, once-perm, once-by-place}
 use Rattle.placing.proofs.FillingsFit.{filling-symbols, stands-there, rows-found}
 use Rattle.placing.proofs.PlacingFillings.{Placed, θ, fit, H, K, slot-of, one-slot, port-there, Hit, Touched, hit-dec, taken-dec, touched-dec, given-slot, homeOf, onSheet, onFigure, hit-home, onward, backward}
@@ -51,9 +51,6 @@ module _ (C : Placed) where
   abbrev vertexAt : ℕ → Cell ℕ
   vertexAt j = atomVertex (cellAt (S .atoms) j)
 
-  sheet-link : (j y : ℕ) → Range (length (S .atoms)) j → y ∈ (cellAt (S .atoms) j) .1 → Range (S .links) y
-  sheet-link j y h m = atom-link S (C .sheet-normal) (cellAt (S .atoms) j) y (cell-in (S .atoms) j h) m
-
   -- A figure atom and the sheet atom that it goes to.
   figure-alike : (i : ℕ) → Range (length (F .atoms)) i → Alike Partners (figCell (cellAt (F .atoms) i)) (vertexAt (atomTo p i))
   figure-alike i h = (
@@ -68,7 +65,7 @@ module _ (C : Placed) where
 
       at : (x : ℕ) → x ∈ (cellAt (F .atoms) i) .1 → Partners (figN x) (inner (linkTo p x))
       at x m =
-          let r : Range (S .links) (linkTo p x) = sheet-link (atomTo p i) (linkTo p x) (C .good .sending .to-atoms i h) (subst (λ l. linkTo p x ∈ l) (a .places) (Memᴰ·map (linkTo p) m)) in
+          let r : Range (S .links) (linkTo p x) = place-link S (C .sheet-normal) (atomTo p i) (linkTo p x) (C .good .sending .to-atoms i h) (subst (λ l. linkTo p x ∈ l) (a .places) (Memᴰ·map (linkTo p) m)) in
           (connected-≡ (K C) (ap inner (sym (stands-there S p x (r .1)))), hit-home C x (linkTo p x) (atom-link F (C .figure-normal) (cellAt (F .atoms) i) x (cell-in (F .atoms) i h) m) refl r)
 
   -- The atoms given to context c.
@@ -100,7 +97,7 @@ module _ (C : Placed) where
       at y m = side (C .good .own-links j (g .sheet-atom) (g .other) y m)
         where
           r : Range (S .links) y
-          r = sheet-link j y (g .sheet-atom) m
+          r = place-link S (C .sheet-normal) j y (g .sheet-atom) m
 
           inside : Inside S F p (givenTo p j) y → (d : Dec (Hit C y)) (d′ : Dec (Touched C y)) → Connected (H C) (ownN k y) (homeOf C y d d′)
           inside w (yes t) d′ = absurd (w .no-figure-link (t .0) (up-to-out (F .links) (t .0) (t .1)) (t .2))

@@ -9,12 +9,12 @@ use borrow.Author.Tests.{ltb-true, ltb-false}
 use lib.Dec.{ltb}
 use lib.ListN.{length, getD, length-append, length-map}
 use Rattle.hyperlmntal.specs.Link.{_∈_}
-use Rattle.sheet.specs.Pick.{pick}
-use Rattle.sheet.specs.Format.{mostLinks}
-use Rattle.sheet.specs.Limits.{sheetAtoms, sheetLinks}
-use Rattle.sheet.proofs.RowRange.{Within}
-use Rattle.sheet.proofs.Distinct.{Once, once-length}
-use Rattle.sheet.proofs.NormalFits.{upTo, upTo-length, upTo-in}
+use Rattle.rows.specs.Pick.{pick}
+use Rattle.rows.specs.Format.{mostLinks}
+use Rattle.rows.specs.Limits.{sheetAtoms, sheetLinks}
+use Rattle.rows.proofs.RowRange.{Within}
+use Rattle.sheet.proofs.normal.Distinct.{Once, once-length}
+use Rattle.texts.proofs.NormalFits.{upTo, upTo-length, upTo-in}
 use Rattle.placing.specs.Net.{NetCell, Net, Apart, NormalSheet, NormalPattern}
 use Rattle.placing.specs.Placing.{Placing, Good, cellAt, numberAt}
 use Rattle.placing.specs.Fillings.{Row, rowLinks, Filling, ExactMarks, Fits, placesOf, withContext, byNumber, standsOn, fillingFor, fillingsOf, normalFilling, normalFillingsOf}

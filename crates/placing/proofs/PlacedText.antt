@@ -7,33 +7,31 @@ use native.Mathlib.Omega.{arith}
 use lib.ListN.{length, take, length-map, length-take}
 use Rattle.hyperlmntal.specs.Link.{_∈_}
 use Rattle.hyperlmntal.specs.Hypergraph.{Node, inner, nodes}
-use Rattle.sheet.specs.Format.{mostLinks}
-use Rattle.sheet.specs.Held.{Held}
+use Rattle.rows.specs.Format.{mostLinks}
+use Rattle.rows.specs.Held.{Held}
+use Rattle.rows.specs.declared.Atom.{Atom}
+use Rattle.rows.specs.declared.Context.{Context}
+use Rattle.rows.proofs.RowRange.{Within}
 use Rattle.sheet.specs.Graph.{graphOf}
-use Rattle.sheet.specs.Agrees.{Among, Agrees}
+use Rattle.sheet.specs.Agrees.{Agrees}
 use Rattle.sheet.specs.Filling.{fillingOf}
 use Rattle.sheet.specs.Reading.{outcomeOf, noPorts}
-use Rattle.sheet.specs.declared.Atom.{Atom}
-use Rattle.sheet.specs.declared.Context.{Context}
 use Rattle.sheet.specs.declared.kind.Kind.the-variants.{Plain, Pattern, Fillings}
 use Rattle.sheet.specs.declared.answer.Answer.the-variants.{Passed}
-use Rattle.sheet.proofs.RowRange.{Within}
-use Rattle.sheet.proofs.Ranges.{AtomRange, ContextRange}
-use Rattle.sheet.proofs.HeldLimits.{held-within}
-use Rattle.sheet.proofs.Merging.{at-indexOf}
-use Rattle.sheet.proofs.Connected.{agrees-read, atom-links, context-links, edge-links}
-use Rattle.sheet.proofs.TextGraph.{Linked}
-use Rattle.sheet.proofs.NormalBounds.{normal-range, text-links}
-use Rattle.sheet.proofs.BuiltRows.{heldAtom}
+use Rattle.sheet.proofs.read.Ranges.{AtomRange, ContextRange}
+use Rattle.sheet.proofs.read.HeldLimits.{held-within}
+use Rattle.sheet.proofs.normal.Connected.{agrees-read, atom-links, context-links, edge-links}
+use Rattle.sheet.proofs.normal.TextGraph.{Linked}
+use Rattle.sheet.proofs.normal.NormalBounds.{normal-range, text-links}
+use Rattle.sheet.proofs.normal.Merging.{among-in}
 use Rattle.placing.specs.Net.{NetCell, Net, Range, standing, normalNet}
 use Rattle.placing.specs.Placing.{Placing, Good}
 use Rattle.placing.specs.Fillings.{Row, symbolRow, pointRow, edgeRow, Filling, Fits, normalFillingsOf}
 use Rattle.placing.specs.ListText.{rowsText, headText, listText}
-use Rattle.placing.proofs.Lists.{getD-member, every-member}
+use Rattle.texts.proofs.NormalFits.{every-member}
 use Rattle.placing.proofs.NormalNets.{standing-node, atomNumbers, contextNumbers, linkNumber, normal-graph, normal-atoms, normal-contexts, normal-net}
-use Rattle.placing.proofs.NormalTexts.{textBlank}
 use Rattle.placing.proofs.Theorems.{heldSheet, heldPattern, sheet-net, pattern-net, text-placing-fillings}
-use Rattle.placing.proofs.ListBack.{listAtoms, headNumbers, ListFits, list-passes, list-atoms, list-blanks}
+use Rattle.placing.proofs.ListBack.{ListFits, list-passes}
 use Rattle.placing.proofs.ListRows.{edgesIn}
 use Rattle.placing.proofs.ListParts.{list-part, partOf, part-passes, part-edges}
 use Rattle.placing.proofs.PlacedList.{Small, placed-fits}
@@ -52,9 +50,6 @@ edge-out (symbolRow a l ∷ r) x m i = List·Memᴰ·tail (edge-out r x m i)
 edge-out (pointRow a b ∷ r) x m i = List·Memᴰ·tail (edge-out r x m i)
 edge-out (edgeRow y n ∷ r) x m i =
     ⊎-elim (λ e. List·Memᴰ·head (ap (λ z. edgeRow (z .0) (z .1)) e)) (λ k. List·Memᴰ·tail (edge-out r x m k)) (List·Memᴰ·cases-cons i)
-
-among-in : (x : ℕ) (l : List ℕ) → Among x l → x ∈ l
-among-in x l h = subst (λ y. y ∈ l) (at-indexOf x l h) (getD-member l _ 0 h)
 
 -- A normal net has no more links than its text.
 module _ (h : Held) (A : Agrees h) where
@@ -104,7 +99,7 @@ module _ (sheet pattern : List ℕ) where
       let r = every-member (ContextRange Pattern) (heldPattern pattern .contexts) (t .0) (held-within Pattern noPorts pattern .ranges .contexts) (t .1) in
       subst (λ z. Within 1 (z .0) 4 × (length (z .1) ≤ mostLinks)) (t .2) (r .number, numbers-count f (t .0 .count) (t .0 .links) (r .count))
 
-  text-small : Small S F
+  pub text-small : Small S F
   text-small =
       record {
         links = omega (arith, net-links (heldSheet sheet) (agrees-read Plain noPorts sheet refl), held-within Plain noPorts sheet .links);
@@ -120,13 +115,6 @@ module _ (sheet pattern : List ℕ) where
     -- The list of fillings that a good placing gives passes as a list of fillings.
     pub placed-list-passes : outcomeOf Fillings noPorts (listText (normalFillingsOf S p F)) .answer ≡ Passed
     placed-list-passes = list-passes (normalFillingsOf S p F) text-fits
-
-    -- Its heads are those of the fillings, in order, and so are its atoms.
-    pub placed-list-heads : map textBlank (outcomeOf Fillings noPorts (listText (normalFillingsOf S p F)) .held .contexts) ≡ map headNumbers (normalFillingsOf S p F)
-    placed-list-heads = list-blanks (normalFillingsOf S p F) text-fits
-
-    pub placed-list-atoms : outcomeOf Fillings noPorts (listText (normalFillingsOf S p F)) .held .atoms ≡ map heldAtom (listAtoms (normalFillingsOf S p F))
-    placed-list-atoms = list-atoms (normalFillingsOf S p F) text-fits
 
     -- One filling for each blank, its marks exactly that blank's ports.
     pub placed-list-fits : Fits F (normalFillingsOf S p F)

@@ -95,6 +95,10 @@ module _ (N : Net) (normal : Normal N) where
 pub cell-in : (l : List NetCell) (i : ℕ) → Range (length l) i → cellAt l i ∈ l
 cell-in l i h = let a : 1 ≤ i = h .0 in let b : i ≤ length l = h .1 in getD-member l (i - 1) (0, []) (omega arith)
 
+-- The links of an atom by its place.
+pub place-link : (N : Net) → Normal N → (j y : ℕ) → Range (length (N .atoms)) j → y ∈ (cellAt (N .atoms) j) .1 → Range (N .links) y
+place-link N normal j y h m = atom-link N normal (cellAt (N .atoms) j) y (cell-in (N .atoms) j h) m
+
 pub port-in : (l : List ℕ) (i : ℕ) → Range (length l) i → numberAt l i ∈ l
 port-in l i h = let a : 1 ≤ i = h .0 in let b : i ≤ length l = h .1 in getD-member l (i - 1) 0 (omega arith)
 

@@ -9,7 +9,7 @@ use native.Mathlib.Omega.{arith}
 use lib.Dec.{eqb, leb}
 use borrow.Author.Tests.{eqb-true, eq-eqb, leb-true, le-leb}
 use Rattle.hyperlmntal.specs.Link.{_∈_}
-use Rattle.sheet.specs.Pick.{pick, not, and, or}
+use Rattle.rows.specs.Pick.{pick, not, and, or}
 use Rattle.placing.specs.Net.{Range}
 use Rattle.placing.specs.Smallest.{numbersFrom, numbersTo, allOf, someOf, implies, inRange, isAmong, sameList}
 use Rattle.placing.proofs.FirstLaws.{both-ways}

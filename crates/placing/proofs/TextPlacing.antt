@@ -4,9 +4,9 @@ use mathlib.Core.List.{List}
 use Rattle.hyperlmntal.specs.Congruence.{_≅_, ≅-sym, ≅-trans}
 use Rattle.hyperlmntal.specs.TermOf.{termOf}
 use Rattle.hyperlmntal.proofs.Theorems.{substitute-congruent}
-use Rattle.sheet.specs.Held.{Held}
+use Rattle.rows.specs.Held.{Held}
 use Rattle.sheet.specs.Graph.{termOfText}
-use Rattle.sheet.proofs.TextGraph.{text-normal}
+use Rattle.texts.proofs.NormalIso.{text-normal}
 use Rattle.placing.specs.Net.{normalNet, netTerm}
 use Rattle.placing.specs.Fillings.{Filling, Fits}
 use Rattle.placing.specs.Holding.{substitutionOf, holdingTerm, holding}

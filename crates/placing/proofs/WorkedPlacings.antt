@@ -1,4 +1,4 @@
--- The worked sheets of document 01 that concern placing and filling: what the definitions give, from the texts to the texts.
+-- Stage and hut of document 01 with rows in another order: what the definitions give, from the texts to the texts.
 use Prim.Native.Nat.{ℕ}
 use mathlib.Core.Path.{_≡_, refl, _∙_, ap, ap₂}
 use mathlib.Core.List.{List, [], _∷_, _++_, map}
@@ -7,7 +7,7 @@ use native.Mathlib.Decide.{ℕ-discrete}
 use Rattle.hyperlmntal.specs.Link.{_≟_}
 use Rattle.hyperlmntal.specs.GraphSubstitution.{sameFunctor}
 use Rattle.hyperlmntal.specs.DenotedSubstitution.{connect}
-use Rattle.sheet.specs.Held.{Held}
+use Rattle.rows.specs.Held.{Held}
 use Rattle.sheet.specs.Graph.{graphOf}
 use Rattle.sheet.specs.Normal.{normalForm, normalFormBy, classOf, classesBy, numberBy, marksAmong, inserted, distinct, others}
 use Rattle.sheet.specs.NormalText.{joined, textOf, normalText}
@@ -15,7 +15,7 @@ use Rattle.sheet.specs.Reading.{outcomeOf, noPorts}
 use Rattle.sheet.specs.declared.kind.Kind.the-variants.{Plain, Pattern}
 use Rattle.sheet.specs.declared.answer.Answer.{Answer}
 use Rattle.sheet.specs.declared.answer.Answer.the-variants.{Passed}
-use Rattle.sheet.proofs.Texts.{symbol, context, edge, head, answerTo}
+use Rattle.texts.proofs.Texts.{symbol, context, edge, head, answerTo}
 use Rattle.placing.specs.Net.{Net, normalNet}
 use Rattle.placing.specs.Placing.{Placing}
 use Rattle.placing.specs.Fillings.{placesOf, withContext, byNumber, normalFillingsOf}
@@ -69,13 +69,6 @@ resultBy search c =
 abbrev stated : Case → Result
 stated c = record { sheetAnswer = Passed; patternAnswer = Passed; sheetText = c .sheet; patternText = c .pattern; placed = c .placed }
 
--- `S 40 1 1`, `S 41 1 1`; `S 40 1 1`, `S 41 1 2`
-abbrev oneJoint : List ℕ
-oneJoint = symbol (40 ∷ 1 ∷ 1 ∷ []) ++ symbol (41 ∷ 1 ∷ 1 ∷ [])
-
-abbrev twoJoints : List ℕ
-twoJoints = symbol (40 ∷ 1 ∷ 1 ∷ []) ++ symbol (41 ∷ 1 ∷ 2 ∷ [])
-
 -- the rows of the stage, `S 10 3 1 2 3`, `S 21 1 1`, `E 2 1`, `E 3 2`, and of the hut, `S 10 3 1 2 3`, `B 1 2 3 4`, `B 2 1 1`, `E 2 1`, `E 4 2`
 abbrev cons : List ℕ
 cons = symbol (10 ∷ 3 ∷ 1 ∷ 2 ∷ 3 ∷ [])
@@ -95,42 +88,8 @@ stageList = head 1 2 ++ edge 1 1 ++ edge 1 2 ++ head 2 1 ++ one ++ edge 1 1
 
 abbrev cases : List Case
 cases =
-    -- figure `B 1 1 1`, empty sheet: filling `H 1 1`, `E 1 1`
-    record {
-      sheet = [];
-      pattern = context (1 ∷ 1 ∷ 1 ∷ []);
-      placed = some (record { placing = record { atomsTo = []; linksTo = 1 ∷ []; given = [] }; list = head 1 1 ++ edge 1 1; filled = [] });
-    }
-    -- figure `B 1 0`, `B 2 0`, sheet `S 50 0`: `H 1 0`, `S 50 0`, `H 2 0`
-    ∷ record {
-      sheet = symbol (50 ∷ 0 ∷ []);
-      pattern = context (1 ∷ 0 ∷ []) ++ context (2 ∷ 0 ∷ []);
-      placed = some (record {
-        placing = record { atomsTo = []; linksTo = []; given = 1 ∷ [] };
-        list = head 1 0 ++ symbol (50 ∷ 0 ∷ []) ++ head 2 0;
-        filled = symbol (50 ∷ 0 ∷ []);
-      });
-    }
-    -- two local joints made one by `B 1 2 1 2`: `H 1 2`, `E 1 1`, `E 1 2`
-    ∷ record {
-      sheet = oneJoint;
-      pattern = twoJoints ++ context (1 ∷ 2 ∷ 1 ∷ 2 ∷ []);
-      placed = some (record {
-        placing = record { atomsTo = 1 ∷ 2 ∷ []; linksTo = 1 ∷ 1 ∷ []; given = 0 ∷ 0 ∷ [] };
-        list = head 1 2 ++ edge 1 1 ++ edge 1 2;
-        filled = oneJoint;
-      });
-    }
-    -- 'Without the B row: 11'
-    ∷ record { sheet = oneJoint; pattern = twoJoints; placed = none }
-    -- stage and hut
-    ∷ record {
-      sheet = stage;
-      pattern = hut;
-      placed = some (record { placing = record { atomsTo = 1 ∷ []; linksTo = 1 ∷ 2 ∷ 3 ∷ 3 ∷ []; given = 0 ∷ 2 ∷ [] }; list = stageList; filled = stage });
-    }
     -- the stage's S rows in the other order: the same list; the filled hut has its own S row first
-    ∷ record {
+    record {
       sheet = one ++ cons ++ edge 2 1 ++ edge 3 2;
       pattern = hut;
       placed = some (record { placing = record { atomsTo = 2 ∷ []; linksTo = 1 ∷ 2 ∷ 3 ∷ 3 ∷ []; given = 2 ∷ 0 ∷ [] }; list = stageList; filled = stage });
@@ -140,17 +99,6 @@ cases =
       sheet = stage;
       pattern = cons ++ context (2 ∷ 1 ∷ 1 ∷ []) ++ context (1 ∷ 2 ∷ 3 ∷ 4 ∷ []) ++ edge 2 1 ++ edge 4 2;
       placed = some (record { placing = record { atomsTo = 1 ∷ []; linksTo = 1 ∷ 2 ∷ 3 ∷ 3 ∷ []; given = 0 ∷ 2 ∷ [] }; list = stageList; filled = stage });
-    }
-    -- sheet `S 10 3 1 2 3`, `S 21 1 1`, `S 10 3 4 5 2`, `S 22 1 4`, `E 5 1`, `E 3 2`, the hut: blank 1 gets `S 10 3 1 2 3`, `S 21 1 1`,
-    -- `E 2 1`, `E 3 2`; blank 2 gets `S 22 1 1`, `E 1 1`
-    ∷ record {
-      sheet = cons ++ one ++ symbol (10 ∷ 3 ∷ 4 ∷ 5 ∷ 2 ∷ []) ++ symbol (22 ∷ 1 ∷ 4 ∷ []) ++ edge 5 1 ++ edge 3 2;
-      pattern = hut;
-      placed = some (record {
-        placing = record { atomsTo = 3 ∷ []; linksTo = 4 ∷ 5 ∷ 2 ∷ 3 ∷ []; given = 1 ∷ 1 ∷ 0 ∷ 2 ∷ [] };
-        list = head 1 2 ++ stage ++ head 2 1 ++ symbol (22 ∷ 1 ∷ 1 ∷ []) ++ edge 1 1;
-        filled = cons ++ symbol (10 ∷ 3 ∷ 4 ∷ 3 ∷ 5 ∷ []) ++ symbol (21 ∷ 1 ∷ 4 ∷ []) ++ symbol (22 ∷ 1 ∷ 1 ∷ []) ++ edge 2 1 ++ edge 5 2;
-      });
     }
     ∷ []
 

@@ -7,7 +7,7 @@ use mathlib.Core.List.{List, [], _∷_, _++_, map}
 use lib.Dec.{eqb, ltb}
 use lib.ListN.{length}
 use Rattle.hyperlmntal.specs.Link.{_∈_}
-use Rattle.sheet.specs.Pick.{pick}
+use Rattle.rows.specs.Pick.{pick}
 use Rattle.placing.specs.Net.{NetCell, Net, Range}
 use Rattle.placing.specs.Placing.{Placing, cellAt, linkTo, givenTo, Taken, At, Linked, Sending, Across, SameMarks, PortAt, Inside, Good}
 use Rattle.placing.specs.Fillings.{Row, edgeRow, Filling, placesOf, byNumber, standsOn, portRows, givenRows, fillingsOf}

@@ -8,7 +8,7 @@ use Rattle.hyperlmntal.specs.Link.{free, _∈_}
 use Rattle.hyperlmntal.specs.Template.{Template}
 use Rattle.hyperlmntal.specs.Hypergraph.{name, Flat}
 use Rattle.hyperlmntal.specs.TermOf.{termOf}
-use Rattle.sheet.specs.Pick.{pick}
+use Rattle.rows.specs.Pick.{pick}
 use Rattle.sheet.specs.Graph.{fusionOf, edgeOf}
 use Rattle.sheet.specs.Normal.{normalForm}
 use Rattle.placing.specs.Net.{NetCell, Net, Range, atomVertex, netOf}

@@ -7,7 +7,7 @@ use Rattle.hyperlmntal.specs.Link.{_∈_}
 use Rattle.hyperlmntal.specs.Template.{Template}
 use Rattle.hyperlmntal.specs.Hypergraph.{inner, Label, symbol, hole, Cell, Fusion, Flat}
 use Rattle.hyperlmntal.specs.TermOf.{termOf}
-use Rattle.sheet.specs.Held.{Held}
+use Rattle.rows.specs.Held.{Held}
 use Rattle.sheet.specs.Graph.{graphOf, edgeOf}
 use Rattle.sheet.specs.Normal.{normalForm}
 use Rattle.sheet.specs.NormalText.{nodeNumber}

@@ -7,8 +7,8 @@ use mathlib.Core.Bool.{Bool, true, false}
 use mathlib.Core.Option.{Option, none, some}
 use lib.Dec.{eqb, leb}
 use lib.ListN.{length, take, drop, replicate}
-use Rattle.sheet.specs.Pick.{pick, not, and, or}
-use Rattle.sheet.specs.Held.{relabelled}
+use Rattle.rows.specs.Pick.{pick, not, and, or}
+use Rattle.rows.specs.Held.{relabelled}
 use Rattle.placing.specs.Net.{NetCell, Net, greatest}
 use Rattle.placing.specs.Placing.{Placing, numberAt, cellAt, atomTo, linkTo, givenTo}
 use Rattle.placing.specs.First.{Before, firstList}

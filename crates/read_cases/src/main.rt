@@ -1,10 +1,10 @@
 // Reads texts of every kind and prints, for each, the number, input and row of the reader's answer.
 // The arguments go in pairs: a kind (sheet, pattern, figure, replacement, list), and a file. A
 // replacement is read against the pattern before it.
+use answers::refusal_number;
 use libc::STDOUT_FILENO;
-use sheet::Sheet;
+use rows::Sheet;
 use sheet::answer::Answer;
-use sheet::answer::refusal_number;
 use sheet::read::Reading;
 
 // The name of the file.

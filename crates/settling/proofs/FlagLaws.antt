@@ -7,7 +7,7 @@ use native.Mathlib.Decide.{decLt}
 use native.Mathlib.Omega.{arith}
 use native.Mathlib.Numerals.{add-one}
 use lib.ListN.{length, getD, set, replicate, length-set, length-replicate}
-use Rattle.sheet.specs.Limits.{sheetAtoms, sheetLinks}
+use Rattle.rows.specs.Limits.{sheetAtoms, sheetLinks}
 use Rattle.sheet.specs.declared.normal.Normal as form
 use Rattle.placing.specs.Net.{Range}
 use Rattle.placing.specs.Placing.{numberAt}
@@ -16,7 +16,8 @@ use Rattle.network.specs.Ready.{Flag, AtomsIn}
 use Rattle.settling.specs.Flags.{Among, Twice, Different, Opens}
 use Rattle.settling.specs.Links.{Places}
 use Rattle.settling.specs.Kinds.{StandingIn}
-use Rattle.settling.proofs.Sets.{set-cases, zeros, below-cases}
+use Rattle.faults.proofs.Tables.{zeros}
+use Rattle.settling.proofs.Sets.{set-cases, below-cases}
 
 among-more : (l : List ℕ) (n j : ℕ) → Among l n j → Among l (n + 1) j
 among-more l n j t = (t .0, (let h : t .0 < n = t .1 in omega arith), t .2)

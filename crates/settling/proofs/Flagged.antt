@@ -11,7 +11,7 @@ use lib.ListN.{length, take, getD, set, length-take, List·getD-eq-default}
 use lib.Seq.{getD-take, take-set-lt}
 use borrow.Author.Tests.{eq-eqb, ne-eqb}
 use Rattle.hyperlmntal.specs.Link.{_∈_}
-use Rattle.sheet.specs.Pick.{pick}
+use Rattle.rows.specs.Pick.{pick}
 use Rattle.placing.specs.Fillings.{placesOf}
 use Rattle.placing.proofs.Orders.{places-in, places-out}
 use Rattle.completing.specs.Leaf.{Ascending}

@@ -6,7 +6,7 @@ use native.Mathlib.Decide.{decLt}
 use native.Mathlib.Omega.{arith}
 use lib.ListN.{length, getD, take, set, replicate, length-set, length-replicate}
 use Rattle.hyperlmntal.specs.Link.{_∈_}
-use Rattle.sheet.specs.Limits.{sheetLinks, figureContexts}
+use Rattle.rows.specs.Limits.{sheetLinks, figureContexts}
 use Rattle.sheet.specs.declared.normal.Normal as form
 use Rattle.placing.specs.Net.{NetCell}
 use Rattle.placing.proofs.Lists.{member-at, getD-of}
@@ -15,7 +15,8 @@ use Rattle.network.proofs.NetIn.{used-length, used-at, used-in, contexts-length
 use Rattle.settling.specs.Flags.{Among}
 use Rattle.settling.specs.Links.{Places}
 use Rattle.settling.specs.Kinds.{StandingIn, doubledBy, Doubled, twoTo, KindsTo, KindsIn}
-use Rattle.settling.proofs.Sets.{set-cases, zeros}
+use Rattle.faults.proofs.Tables.{zeros}
+use Rattle.settling.proofs.Sets.{set-cases}
 
 pub doubled-next : (kinds flags next : List ℕ) → length next ≡ sheetLinks → (x : ℕ) → x < sheetLinks → ((z : ℕ) → z < x → getD next z 0 ≡ doubledBy kinds flags z)
     → (v : ℕ) → v ≡ getD flags x 0

@@ -7,7 +7,7 @@ use native.Mathlib.Omega.{arith}
 use native.Mathlib.Numerals.{add-one}
 use lib.ListN.{length, take, getD}
 use Rattle.hyperlmntal.specs.Link.{_∈_}
-use Rattle.sheet.specs.Limits.{sheetLinks}
+use Rattle.rows.specs.Limits.{sheetLinks}
 use Rattle.sheet.specs.declared.normal.Normal as form
 use Rattle.placing.specs.Net.{Net}
 use Rattle.network.specs.NetIn.{netIn}

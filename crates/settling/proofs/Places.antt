@@ -7,7 +7,7 @@ use native.Mathlib.Omega.{arith}
 use native.Mathlib.Numerals.{add-one}
 use lib.ListN.{length, getD, length-set}
 use lib.Seq.{getD-set-same}
-use Rattle.sheet.specs.Limits.{sheetLinks}
+use Rattle.rows.specs.Limits.{sheetLinks}
 use Rattle.placing.specs.Placing.{numberAt}
 use Rattle.settling.specs.Links.{Enters, Places, AcrossFrom, PlacesAgree, PlacesIn, Clash}
 use Rattle.settling.proofs.Sets.{set-cases, below-cases}

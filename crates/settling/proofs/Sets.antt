@@ -1,4 +1,4 @@
--- A list after a store, and a list of zeros.
+-- A list after a store.
 use Prim.Native.Nat.{ℕ, zero, suc, _≤_, _<_}
 use mathlib.Core.Path.{_≡_, refl, sym, subst}
 use mathlib.Core.Logic.{_≢_}
@@ -15,11 +15,6 @@ set-cases P l i v x h a b = go (ℕ-discrete x i)
     go : Dec (x ≡ i) → P (getD (set l i v) x 0)
     go (yes e) = subst (λ (z : ℕ). P (getD (set l i v) z 0)) (sym e) (subst P (sym (getD-set-same l i v 0 h)) (a e))
     go (no n) = subst P (sym (getD-set-other l i x v 0 n)) (b n)
-
-pub zeros : (n i : ℕ) → _≡_ {A = ℕ} (getD (replicate n 0) i 0) 0
-zeros zero i = refl
-zeros (suc n) zero = refl
-zeros (suc n) (suc i) = zeros n i
 
 -- below k + 1: below k, or k
 pub below-cases : (P : ℕ → Type 0) (k i : ℕ) → i < suc k → (i < k → P i) → P k → P i

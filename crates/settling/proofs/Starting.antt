@@ -9,7 +9,7 @@ use native.Mathlib.Numerals.{add-one}
 use lib.ListN.{length, take, getD, length-map}
 use lib.Seq.{getD-take, length-take-le, ext-getD}
 use Rattle.hyperlmntal.specs.Link.{_∈_}
-use Rattle.sheet.specs.declared.Atom.{Atom}
+use Rattle.rows.specs.declared.Atom.{Atom}
 use Rattle.sheet.specs.declared.normal.Normal as form
 use Rattle.placing.specs.Net.{NetCell, Net, Range}
 use Rattle.placing.specs.Placing.{Placing, numberAt, cellAt, atomTo, linkTo, Taken, Across, SameMarks, Good}
@@ -20,7 +20,7 @@ use Rattle.network.proofs.NetIn.{used-length, used-at, atoms-length, atom-cell,
 use Rattle.completing.specs.Completion.{Open, Partial}
 use Rattle.completing.specs.Leaf.{OpenLinks, StateOf, NoneWith}
 use Rattle.completing.proofs.State.{state-partial}
-use Rattle.completing.proofs.Lists.{getD-map}
+use Rattle.rows.proofs.Lists.{getD-mapped}
 use Rattle.settling.specs.Flags.{Twice, Different, Opens}
 use Rattle.settling.specs.Agrees.{AtomAgrees, Agrees}
 use Rattle.settling.specs.Completes.{unsettled, Working}
@@ -188,7 +188,7 @@ module _ (sheet figure : form.Normal) (ready : Ready sheet figure) (atoms : List
               let few : k < length ((cellAt (F .atoms) i) .1) = omega (arith, length-map ((cellAt (F .atoms) i) .1) (linkTo q)) in
               let m : k < mine i r .count = omega (arith, fig) in
               let at = ap (λ (c : NetCell). getD (c .1) k 0) (figure-cell i r) ∙ used-at (figure .«class_count») (mine i r .count) (mine i r .links) (figure-used i r) k m in
-              getD-map (linkTo q) ((cellAt (F .atoms) i) .1) k 0 0 few ∙ (ap (linkTo q) at
+              getD-mapped (linkTo q) ((cellAt (F .atoms) i) .1) k 0 0 few ∙ (ap (linkTo q) at
               ∙ (told-link (getD (mine i r .links) k 0) (figure-used i r .numbered k m) (place-some i r k m) ∙ (agrees i r .places k m
               ∙ sym (ap (λ (c : NetCell). getD (c .1) k 0) (sheet-cell i r) ∙ used-at (sheet .«class_count») (there i r .count) (there i r .links) (sheet-used i r) k (omega (arith, agrees i r .count))))))
 

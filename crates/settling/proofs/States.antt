@@ -1,46 +1,29 @@
 -- One link settled, in the arrays.
 use Prim.Native.Nat.{ℕ, suc, _-_, _≤_, _<_}
 use mathlib.Core.Path.{_≡_, refl, sym, _∙_, ap, subst}
-use mathlib.Core.List.{List, [], List·Memᴰ·not-nil, List·Memᴰ·eq-of-singleton, _∷_}
-use native.Mathlib.Decide.{decLt}
+use mathlib.Core.List.{List, []}
 use native.Mathlib.Omega.{arith}
-use lib.ListN.{length, take, getD, set, length-set, List·getD-eq-default}
+use lib.ListN.{length, take, getD, set, length-set}
 use lib.Seq.{take-set-lt}
 use Rattle.hyperlmntal.specs.Link.{_∈_}
-use Rattle.sheet.specs.Limits.{sheetLinks}
+use Rattle.rows.specs.Limits.{sheetLinks}
 use Rattle.sheet.specs.declared.normal.Normal as form
-use Rattle.placing.specs.Net.{NetCell, Net, Range, Normal}
-use Rattle.placing.specs.Placing.{Placing, cellAt}
-use Rattle.placing.proofs.Lists.{getD-member}
-use Rattle.placing.proofs.Standing.{atom-link}
+use Rattle.placing.specs.Net.{Net, Range}
+use Rattle.placing.specs.Placing.{Placing}
 use Rattle.network.specs.NetIn.{netIn}
-use Rattle.network.specs.Ready.{Ready, LinksIn, stateIn, TakenIn}
+use Rattle.network.specs.Ready.{Ready, LinksIn, stateIn, Flag, TakenIn}
 use Rattle.completing.specs.Completion.{Partial, Completable, put, remove}
-use Rattle.completing.specs.Fault.{Fault, apart, cut-off}
+use Rattle.completing.specs.Fault.{Fault}
 use Rattle.completing.proofs.Lists.{of-remove, in-remove}
 use Rattle.completing.proofs.Kept.{taken-same}
+use Rattle.completing.proofs.Needs.{fault-links}
 use Rattle.completing.proofs.Put.{completable-wider, partial-fewer, put-partial, completable-back}
 use Rattle.completing.proofs.Interchange.{interchange}
 use Rattle.completing.proofs.Completing.{fault-completable}
 use Rattle.settling.specs.Kinds.{KindsIn}
-use Rattle.settling.specs.Completes.{unsettled, Working, CompletableIn, CompletableAt}
+use Rattle.settling.specs.Completes.{unsettled, Working, CompletableIn, CompletableAt, WayOut}
 use Rattle.settling.proofs.Sets.{set-cases}
 use Rattle.settling.proofs.Flagged.{flagged-in, flagged-out, cleared-out, cleared-in}
-
--- the links that a fault names are links of the sheet
-cell-link : (N : Net) → Normal N → (j y : ℕ) → y ∈ (cellAt (N .atoms) j) .1 → Range (N .links) y
-cell-link N normal j y m = go (decLt (j - 1) (length (N .atoms)))
-  where
-    go : Dec (j - 1 < length (N .atoms)) → Range (N .links) y
-    go (yes h) = atom-link N normal (cellAt (N .atoms) j) y (getD-member (N .atoms) (j - 1) (0, []) h) m
-    go (no h) = absurd (List·Memᴰ·not-nil (subst (λ (c : NetCell). y ∈ c .1) (List·getD-eq-default (N .atoms) (0, []) (let u : length (N .atoms) ≤ j - 1 = omega arith in u)) m))
-
-pub fault-links : (S F : Net) (q : Placing) → Normal S → {v : List ℕ} → Fault S F q v → (y : ℕ) → y ∈ v → Range (S .links) y
-fault-links S F q normal (apart z t) y m = subst (Range (S .links)) (sym (single m)) (t .one-at .sheet-link)
-  where
-    single : {a b : ℕ} → a ∈ (b ∷ []) → a ≡ b
-    single k = List·Memᴰ·eq-of-singleton k
-fault-links S F q normal (cut-off set seen t) y m = let w = t .touched y m in cell-link S normal (w .0) y (w .2)
 
 -- What the links say of the arrays.
 pub links-set : (sheet figure : form.Normal) (to : List ℕ) → LinksIn sheet figure to → (x y : ℕ) → x < figure .«class_count» → figure .«class_count» ≤ sheetLinks → Range (suc (sheet .«class_count»)) y
@@ -119,15 +102,23 @@ module _ (sheet figure : form.Normal) (ready : Ready sheet figure) (taken to fla
         interchange S F (ready .figure-normal) q un (w .partial) (suc x) (suc z) y mine (flagged-in (figure .«class_count») flags z (omega arith) f)
         (k .same x z (omega arith) (omega arith) (sym e)) (to-put y c)
 
-  -- Every flagged link was tried at every link of a fault.
-  pub all-refused : {v : List ℕ} → Fault S F q v → ((y : ℕ) → y ∈ v → Range (S .links) y
-      → (x : ℕ) → x < figure .«class_count» → getD flags x 0 ≡ 1 → ¬ CompletableAt sheet figure to flags x y atoms) → ¬ CompletableIn sheet figure to flags atoms
-  all-refused f refused c =
+  -- A fault is mended by a flagged link at one of its links, if it is.
+  pub way-out : {v : List ℕ} → Fault S F q v → (links : List ℕ) → ((y : ℕ) → y ∈ v → Flag links y) → CompletableIn sheet figure to flags atoms → WayOut sheet figure to flags links atoms
+  way-out f links named c =
       let t = fault-completable S F (ready .sheet-normal) (ready .figure-normal) q un (w .partial) f c in
       let u = flagged-out (figure .«class_count») flags (t .0) (t .1) in
       let s = t .2 in
-      refused (s .0) (s .1) (fault-links S F q (ready .sheet-normal) f (s .0) (s .1)) (u .index) (u .within) (u .flag)
-      (of-put (u .index) (u .within) (u .flag) (s .0) (subst (λ (z : ℕ). Completable S F (put q z (s .0)) (remove z un)) (u .number) (s .2)))
+      let r : Range (S .links) (s .0) = fault-links S F (ready .sheet-normal) q f (s .0) (s .1) in
+      record {
+        link = u .index;
+        link-in = u .within;
+        flag = u .flag;
+        at = s .0 - 1;
+        at-in = omega (arith, r .0, r .1);
+        at-flag = named (s .0) (s .1);
+        completes = subst (λ (n : ℕ). CompletableAt sheet figure to flags (u .index) n atoms) (let e : s .0 ≡ suc (s .0 - 1) = omega (arith, r .0) in e)
+            (of-put (u .index) (u .within) (u .flag) (s .0) (subst (λ (z : ℕ). Completable S F (put q z (s .0)) (remove z un)) (u .number) (s .2)));
+      }
 
   pub earlier-refused : (kinds : List ℕ) → KindsIn figure kinds → (x z y : ℕ) → x < figure .«class_count» → getD flags x 0 ≡ 1 → z < x → getD flags z 0 ≡ 1 → getD kinds z 0 ≡ getD kinds x 0
       → ¬ CompletableAt sheet figure to flags z y atoms → ¬ CompletableAt sheet figure to flags x y atoms

@@ -8,8 +8,8 @@ use native.Mathlib.Numerals.{add-one}
 use lib.ListN.{length, take, getD, replicate, length-map, length-replicate}
 use lib.Seq.{getD-take}
 use Rattle.hyperlmntal.specs.Link.{_∈_}
-use Rattle.sheet.specs.Limits.{sheetLinks}
-use Rattle.sheet.specs.declared.Atom.{Atom}
+use Rattle.rows.specs.Limits.{sheetLinks}
+use Rattle.rows.specs.declared.Atom.{Atom}
 use Rattle.sheet.specs.declared.normal.Normal as form
 use Rattle.placing.specs.Net.{NetCell, Net, Range}
 use Rattle.placing.specs.Placing.{Placing, numberAt, cellAt, atomTo, linkTo}
@@ -20,7 +20,8 @@ use Rattle.completing.specs.Leaf.{NoneWith}
 use Rattle.completing.proofs.State.{by-atom}
 use Rattle.settling.specs.Links.{Places, AcrossFrom, PlacesIn, Clash, Tells, Told}
 use Rattle.settling.specs.Agrees.{AtomAgrees, AtomsAgreeTo}
-use Rattle.settling.proofs.Sets.{zeros, below-cases}
+use Rattle.faults.proofs.Tables.{zeros}
+use Rattle.settling.proofs.Sets.{below-cases}
 use Rattle.settling.proofs.Places.{agree-kept, number-some}
 use Rattle.settling.proofs.KindLaws.{places-of}
 

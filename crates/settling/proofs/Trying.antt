@@ -6,21 +6,22 @@ use mathlib.Core.Bool.{Bool, true, false}
 use native.Mathlib.Omega.{arith}
 use native.Mathlib.Numerals.{add-one}
 use lib.ListN.{length, getD, set}
-use Rattle.sheet.specs.Limits.{sheetLinks}
+use Rattle.rows.specs.Limits.{sheetLinks}
 use Rattle.sheet.specs.declared.normal.Normal as form
 use Rattle.hyperlmntal.specs.Link.{_∈_}
 use Rattle.placing.proofs.FirstLaws.{both-ways}
 use Rattle.network.specs.NetIn.{netIn}
-use Rattle.network.specs.Ready.{Ready, stateIn, Flag, TakenIn}
+use Rattle.network.specs.Ready.{Ready, stateIn, TakenIn}
 use Rattle.completing.specs.Completion.{Partial}
-use Rattle.completing.specs.Fault as fault
-use Rattle.completing.proofs.Completing.{no-fault-completable}
+use Rattle.completing.specs.Fault.{Torn}
+use Rattle.completing.proofs.Completing.{no-fault-completable, torn-refused}
 use Rattle.faults.specs.Finds.{Finds}
 use Rattle.settling.specs.Kinds.{KindsIn}
 use Rattle.faults.specs.declared.fault.Fault.{Fault}
-use Rattle.settling.specs.Completes.{unsettled, Tables, Working, CompletableIn, CompletableAt, Completes, CompletesAt, FirstFor, FirstOfKind}
+use Rattle.settling.specs.Completes.{unsettled, Tables, Working, CompletableIn, CompletableAt, Completes, CompletesAt, Hinders, FirstFor, FirstOfKind}
 use Rattle.settling.proofs.Sets.{below-cases}
-use Rattle.settling.proofs.States.{links-set, working-put, put-back, all-refused, earlier-refused}
+use Rattle.settling.proofs.Flagged.{flagged-out}
+use Rattle.settling.proofs.States.{links-set, working-put, put-back, way-out, earlier-refused}
 
 -- what the finder says of every state with these arrays
 abbrev pub FindsAll : form.Normal → form.Normal → List ℕ → List ℕ → Fault → Type 0
@@ -125,23 +126,38 @@ module _ (sheet figure : form.Normal) (ready : Ready sheet figure) (taken to fla
         let s = w .earlier e f in
         earlier-refused sheet figure ready taken to flags atoms room u kinds k x (s .0) (suc y) h f (s .1) (s .2) (s .3) (t atoms u (s .0) (s .1) (s .2) y m g))
 
-  -- What the finder says of every state with these arrays.
-  module _ (r : Fault) (finds : FindsAll sheet figure taken to r) where
+  -- What stands in the way.
+  pub find-hinders : (r : Fault) → FindsAll sheet figure taken to r → Hinders sheet figure taken to flags r
+  find-hinders r finds = record {
+    free = λ atoms u e. no-fault-completable (netIn sheet) (netIn figure) (ready .sheet-normal) (ready .figure-normal) (stateIn figure atoms to) (unsettled figure flags) (u .partial)
+        (finds atoms (unsettled figure flags) (u .taken-in) (u .partial) .none-found e .0);
+    held = λ atoms u e. let t = finds atoms (unsettled figure flags) (u .taken-in) (u .partial) .some-found e in
+        way-out sheet figure ready taken to flags atoms room u (t .1) (r .links) (t .2);
+  }
+
+  -- links that are torn cannot be mended
+  pub torn-hinders : (y : ℕ) → ((atoms : List ℕ) → Torn (netIn sheet) (netIn figure) (stateIn figure atoms to) (unsettled figure flags) y)
+      → (r : Fault) → r .found ≡ true → Hinders sheet figure taken to flags r
+  torn-hinders y t r f = record {
+    free = λ atoms u e. both-ways f e;
+    held = λ atoms u e c. absurd (torn-refused (netIn sheet) (netIn figure) (ready .sheet-normal) (ready .figure-normal) (stateIn figure atoms to) (unsettled figure flags) (u .partial) y (t atoms) c);
+  }
+
+  -- the links that are unsettled have a flag
+  pub flag-of : (x : ℕ) → suc x ∈ unsettled figure flags → getD flags x 0 ≡ 1
+  flag-of x m = let t = flagged-out (figure .«class_count») flags (suc x) m in
+      let e : t .index ≡ x = (let k : suc x ≡ suc (t .index) = t .number in omega arith) in
+      subst (λ (i : ℕ). getD flags i 0 ≡ 1) e (t .flag)
+
+  module _ (r : Fault) (hinders : Hinders sheet figure taken to flags r) where
     pub found-none : r .found ≡ false → Completes sheet figure taken to flags true
-    found-none e = record {
-      can = λ atoms u g. no-fault-completable (netIn sheet) (netIn figure) (ready .sheet-normal) (ready .figure-normal) (stateIn figure atoms to) (unsettled figure flags) (u .partial)
-          (finds atoms (unsettled figure flags) (u .taken-in) (u .partial) .none-found e .0);
-      cannot = λ atoms u g. both-ways refl g;
-    }
+    found-none e = record { can = λ atoms u g. hinders .free atoms u e; cannot = λ atoms u g. both-ways refl g }
 
     pub found-tried : (x : ℕ) → CompletesAt sheet figure taken to flags (r .links) x true → Completes sheet figure taken to flags true
     found-tried x w = record { can = w .can; cannot = λ atoms u g. both-ways refl g }
 
     pub found-refused : r .found ≡ true → (x : ℕ) → figure .«class_count» ≤ x → TriedTo sheet figure taken to flags (r .links) x → Completes sheet figure taken to flags false
-    found-refused e x k t = record { can = λ atoms u g. both-ways g refl; cannot = λ atoms u g. none atoms u (finds atoms (unsettled figure flags) (u .taken-in) (u .partial) .some-found e) }
-      where
-        none : (atoms : List ℕ) → Working sheet figure taken to flags atoms
-            → (v : List ℕ) × fault.Fault (netIn sheet) (netIn figure) (stateIn figure atoms to) v × ((y : ℕ) → y ∈ v → Flag (r .links) y) → ¬ CompletableIn sheet figure to flags atoms
-        none atoms u (v, f, flagged) = all-refused sheet figure ready taken to flags atoms room u f (λ y m s z h g c.
-            let q : y ≡ suc (y - 1) = omega (arith, s .0) in
-            t atoms u z (omega arith) g (y - 1) (omega (arith, s .0, s .1)) (flagged y m) (subst (λ (n : ℕ). CompletableAt sheet figure to flags z n atoms) q c))
+    found-refused e x k t = record {
+      can = λ atoms u g. both-ways g refl;
+      cannot = λ atoms u g c. let w = hinders .held atoms u e c in t atoms u (w .link) (omega (arith, w .link-in)) (w .flag) (w .at) (w .at-in) (w .at-flag) (w .completes);
+    }

@@ -3,7 +3,7 @@ use Prim.Native.Nat.{ℕ}
 use mathlib.Core.List.{List, _++_}
 use mathlib.Core.Option.{Option, none, some}
 use lib.ListN.{take}
-use Rattle.sheet.specs.Pick.{pick}
+use Rattle.rows.specs.Pick.{pick}
 use Rattle.sheet.specs.declared.normal.Normal as form
 use Rattle.settling.specs.declared.complete.Completed.{Completed}
 

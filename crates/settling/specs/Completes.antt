@@ -11,6 +11,7 @@ use Rattle.network.specs.Ready.{Ready, LinksIn, stateIn, TakenIn, TouchesIn}
 use Rattle.completing.specs.Completion.{Partial, Completable}
 use Rattle.completing.specs.Fault.{completed}
 use Rattle.completing.specs.Leaf.{LeastCompletion, Settling}
+use Rattle.faults.specs.declared.fault.Fault.{Fault}
 use Rattle.settling.specs.Flags.{flagged}
 use Rattle.settling.specs.Kinds.{KindsIn}
 use Rattle.settling.specs.declared.complete.Completed.{Completed}
@@ -38,6 +39,16 @@ CompletableIn sheet figure to flags atoms = Completable (netIn sheet) (netIn fig
 abbrev pub CompletableAt : form.Normal → form.Normal → List ℕ → List ℕ → ℕ → ℕ → List ℕ → Type 0
 CompletableAt sheet figure to flags x y atoms = CompletableIn sheet figure (set to x y) (set flags x 0) atoms
 
+-- a link with a flag can be settled at one of the links that are flagged in `links`, both from 0
+pub record WayOut (sheet figure : form.Normal) (to flags links atoms : List ℕ) : Type 0 where
+  pub link : ℕ
+  pub link-in : link < figure .«class_count»
+  pub flag : getD flags link 0 ≡ 1
+  pub at : ℕ
+  pub at-in : at < sheet .«class_count»
+  pub at-flag : getD links at 0 ≡ 1
+  pub completes : CompletableAt sheet figure to flags link (suc at) atoms
+
 module _ (sheet figure : form.Normal) (taken to flags : List ℕ) where
   pub record Completes (r : Bool) : Type 0 where
     pub can : (atoms : List ℕ) → Working sheet figure taken to flags atoms → r ≡ true → CompletableIn sheet figure to flags atoms
@@ -54,6 +65,11 @@ module _ (sheet figure : form.Normal) (taken to flags : List ℕ) where
     pub within : Range (suc (sheet .«class_count»)) r
     pub refused : (atoms : List ℕ) → Working sheet figure taken to flags atoms → (y : ℕ) → suc y < r → ¬ CompletableAt sheet figure to flags x (suc y) atoms
     pub found : (atoms : List ℕ) → Working sheet figure taken to flags atoms → r ≤ sheet .«class_count» → CompletableAt sheet figure to flags x r atoms
+
+  -- r says that nothing stands in the way, or which links can mend it
+  pub record Hinders (r : Fault) : Type 0 where
+    pub free : (atoms : List ℕ) → Working sheet figure taken to flags atoms → r .found ≡ false → CompletableIn sheet figure to flags atoms
+    pub held : (atoms : List ℕ) → Working sheet figure taken to flags atoms → r .found ≡ true → CompletableIn sheet figure to flags atoms → WayOut sheet figure to flags (r .links) atoms
 
   -- all links are settled
   pub record Settles (r : List ℕ) : Type 0 where

@@ -1,12 +1,12 @@
 // Whether the unsettled links, those with a flag, can be placed so that nothing stands in the way.
+use crate::obstacle::obstacle;
 use faults::TOUCHES;
-use faults::fault::find;
-use sheet::Sheet;
+use rows::Sheet;
 use sheet::normal::Normal;
-ghost use Prim.Native.Nat.{_<_};
+ghost use Prim.Native.Nat.{_<_, _≤_};
 ghost use mathlib.Core.Path.{_≡_};
 ghost use lib.ListN.{getD};
-ghost use Rattle.sheet.specs.Limits.{sheetLinks};
+ghost use Rattle.rows.specs.Limits.{sheetLinks};
 ghost use Rattle.settling.specs.Completes.{Tables, Completes, CompletesAt, FirstOfKind};
 
 // Link x is flagged, and no flagged one before it stands on the same contexts.
@@ -29,6 +29,7 @@ fn first_of_kind(flags: [u8; Sheet::LINKS], kinds: [u16; Sheet::LINKS], x: usize
 }
 
 // A fault can be mended only by an unsettled link at one of its links. One link of each kind is enough to try.
+// The last link was settled at sheet link y, 0 where there was none.
 pub(crate) fn completable(
     sheet: Normal,
     figure: Normal,
@@ -37,11 +38,12 @@ pub(crate) fn completable(
     kinds: [u16; Sheet::LINKS],
     to: [u16; Sheet::LINKS],
     flags: [u8; Sheet::LINKS],
+    y: u16,
 ) -> bool
-    requires { ⌜ Tables sheet figure (now touches) kinds to ⌝ }
+    requires { ⌜ Tables sheet figure (now touches) kinds to × (y ≤ sheet .«class_count») ⌝ }
     ensures { λ r. ⌜ Completes sheet figure taken to flags r ⌝ }
 {
-    let fault = find(sheet, figure, touches, taken, to);
+    let fault = obstacle(sheet, figure, touches, taken, to, flags, y);
     if !fault.found {
         return true;
     }
@@ -78,9 +80,10 @@ fn mendable(
     let mut y = 0;
     while y < sheet.class_count {
         if links[y] == 1 {
+            let at = (y + 1) as u16;
             let mut next = to;
-            next[x] = (y + 1) as u16;
-            if completable(sheet, figure, touches, taken, kinds, next, rest) {
+            next[x] = at;
+            if completable(sheet, figure, touches, taken, kinds, next, rest, at) {
                 return true;
             }
         }

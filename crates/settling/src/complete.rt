@@ -7,7 +7,7 @@ use crate::settle::settled;
 use crate::taken::taken_by;
 use faults::fault::find;
 use faults::lookup::touches;
-use sheet::Sheet;
+use rows::Sheet;
 use sheet::normal::Normal;
 ghost use mathlib.Core.Path.{_≡_};
 ghost use mathlib.Core.Bool.{false};
@@ -48,7 +48,7 @@ fn least(
 {
     let table = touches(sheet);
     let kind = kinds(figure);
-    if !completable(sheet, figure, &table, taken, kind, to, flags) {
+    if !completable(sheet, figure, &table, taken, kind, to, flags, 0) {
         return nothing();
     }
     let links_to = settled(sheet, figure, &table, taken, kind, to, flags);

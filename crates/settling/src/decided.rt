@@ -3,7 +3,7 @@ use crate::links::Links;
 use crate::links::put_atoms;
 use crate::marks::marks_back;
 use crate::marks::put_marks;
-use sheet::Sheet;
+use rows::Sheet;
 use sheet::normal::Normal;
 ghost use Rattle.network.specs.Ready.{Ready, AtomsIn};
 ghost use Rattle.settling.specs.Agrees.{AllPut};

@@ -1,10 +1,10 @@
 // Links of one kind stand on the same contexts.
-use sheet::Sheet;
+use rows::Sheet;
 use sheet::normal::Normal;
 ghost use Prim.Native.Nat.{ℕ, _<_, _≤_};
 ghost use mathlib.Core.Path.{_≡_};
 ghost use lib.ListN.{getD};
-ghost use Rattle.sheet.specs.Limits.{sheetLinks};
+ghost use Rattle.rows.specs.Limits.{sheetLinks};
 ghost use Rattle.network.specs.NetIn.{Fit};
 ghost use Rattle.settling.specs.Links.{Places};
 ghost use Rattle.settling.specs.Kinds.{StandingIn, Doubled, KindsIn};

@@ -5,6 +5,7 @@ mod decided;
 mod kinds;
 mod links;
 mod marks;
+mod obstacle;
 mod opening;
 mod settle;
 mod taken;

@@ -1,8 +1,8 @@
 // The figure links that the placed atoms decide.
-use sheet::Sheet;
+use rows::Sheet;
 use sheet::normal::Normal;
 ghost use Prim.Native.Nat.{_<_};
-ghost use Rattle.sheet.specs.Limits.{sheetLinks};
+ghost use Rattle.rows.specs.Limits.{sheetLinks};
 ghost use Rattle.network.specs.Ready.{Ready, AtomsIn};
 ghost use Rattle.settling.specs.Links.{Entered, Told, Places, PlacesPut};
 ghost use Rattle.settling.specs.Agrees.{AtomsPut};

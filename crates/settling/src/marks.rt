@@ -1,11 +1,11 @@
 // The figure links that the marks decide.
 use crate::links::Links;
 use crate::links::enter;
-use sheet::Sheet;
+use rows::Sheet;
 use sheet::normal::Normal;
 ghost use Prim.Native.Nat.{ℕ, _≤_};
 ghost use mathlib.Core.List.{List};
-ghost use Rattle.sheet.specs.Limits.{sheetMarks};
+ghost use Rattle.rows.specs.Limits.{sheetMarks};
 ghost use Rattle.network.specs.Ready.{Ready, AtomsIn};
 ghost use Rattle.settling.specs.Links.{Told};
 ghost use Rattle.settling.specs.Agrees.{PlaceOf, AtomsAgree, MarksBack, Judges, MarksPut};

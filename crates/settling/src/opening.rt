@@ -1,7 +1,7 @@
 // The figure links that neither an atom nor a mark decides.
-use sheet::Sheet;
+use rows::Sheet;
 ghost use Prim.Native.Nat.{_≤_};
-ghost use Rattle.sheet.specs.Limits.{sheetLinks};
+ghost use Rattle.rows.specs.Limits.{sheetLinks};
 ghost use Rattle.settling.specs.Flags.{OpensIn};
 
 // The open links go to none, and are flagged.

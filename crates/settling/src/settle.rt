@@ -1,7 +1,7 @@
 // The open links settled one by one, each at the first sheet link with which the rest can be completed.
 use crate::completable::completable;
 use faults::TOUCHES;
-use sheet::Sheet;
+use rows::Sheet;
 use sheet::normal::Normal;
 ghost use Prim.Native.Nat.{_<_};
 ghost use mathlib.Core.Path.{_≡_};
@@ -26,10 +26,11 @@ fn first_link(
     rest[x] = 0;
     let mut y = 0;
     while y < sheet.class_count {
+        let at = (y + 1) as u16;
         let mut next = to;
-        next[x] = (y + 1) as u16;
-        if completable(sheet, figure, touches, taken, kinds, next, rest) {
-            return (y + 1) as u16;
+        next[x] = at;
+        if completable(sheet, figure, touches, taken, kinds, next, rest, at) {
+            return at;
         }
         y += 1;
     }

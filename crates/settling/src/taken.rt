@@ -1,5 +1,5 @@
 // Which sheet atoms the figure atoms take.
-use sheet::Sheet;
+use rows::Sheet;
 use sheet::normal::Normal;
 ghost use Rattle.network.specs.Ready.{AtomsIn};
 ghost use Rattle.network.specs.NetIn.{Fit};

@@ -7,14 +7,10 @@ use mathlib.Core.Logic.{_↔_}
 use lib.ListN.{length, getD}
 use Rattle.hyperlmntal.specs.Link.{local, free, _∈_}
 use Rattle.hyperlmntal.specs.Hypergraph.{Node, inner, name, Fusion, Connected, nodes}
-use Rattle.sheet.specs.Held.{Wiring, Held, indexOf}
-use Rattle.sheet.specs.Steps.{Wired}
+use Rattle.rows.specs.Held.{Wiring, Held, indexOf, Among}
+use Rattle.rows.specs.Steps.{Wired}
 use Rattle.sheet.specs.Graph.{graphOf}
 use Rattle.sheet.specs.Labels.{labelIn}
-
--- whether a number is in a list
-abbrev pub Among : ℕ → List ℕ → Type 0
-Among x l = indexOf x l < length l
 
 -- a list with each number once: each is found at the place where it stands
 abbrev pub Once : List ℕ → Type 0

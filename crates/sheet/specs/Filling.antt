@@ -4,9 +4,9 @@ use mathlib.Core.List.{List, [], _++_}
 use mathlib.Core.Bool.{Bool, true, false}
 use lib.Dec.{eqb, ltb}
 use lib.ListN.{length, take, drop, getD}
-use Rattle.sheet.specs.Pick.{pick, and}
-use Rattle.sheet.specs.Format.{rowWidth}
-use Rattle.sheet.specs.Row.{rowOf}
+use Rattle.rows.specs.Pick.{pick, and}
+use Rattle.rows.specs.Format.{rowWidth}
+use Rattle.rows.specs.Row.{rowOf}
 use Rattle.sheet.specs.Reading.{outcomeOf, noPorts}
 use Rattle.sheet.specs.declared.answer.Answer.{Answer}
 use Rattle.sheet.specs.declared.answer.Answer.the-variants.{Passed, Refused}

@@ -1,15 +1,15 @@
 -- Document 01, 'Rows': a text as a hypergraph. Every joint is a local link, every mark a free link;
 -- S rows are atoms, B rows graph contexts, F and E rows fusions.
 use Prim.Native.Nat.{ℕ}
-use mathlib.Core.List.{List, _++_, map}
+use mathlib.Core.List.{_++_, map}
 use lib.ListN.{take}
 use Rattle.hyperlmntal.specs.Link.{free}
 use Rattle.hyperlmntal.specs.Template.{Template}
-use Rattle.hyperlmntal.specs.Hypergraph.{Node, inner, name, symbol, hole, Cell, Fusion, Flat}
+use Rattle.hyperlmntal.specs.Hypergraph.{inner, name, symbol, hole, Cell, Fusion, Flat}
 use Rattle.hyperlmntal.specs.TermOf.{termOf}
-use Rattle.sheet.specs.Held.{Held}
-use Rattle.sheet.specs.declared.Atom.{Atom}
-use Rattle.sheet.specs.declared.Context.{Context}
+use Rattle.rows.specs.Held.{Held}
+use Rattle.rows.specs.declared.Atom.{Atom}
+use Rattle.rows.specs.declared.Context.{Context}
 
 abbrev pub atomCell : Atom → Cell ℕ
 atomCell a = record { label = symbol (a .name); ports = map inner (take (a .count) (a .links)) }

@@ -6,7 +6,7 @@ use mathlib.Core.Logic.{_⊎_}
 use lib.ListN.{getD}
 use Rattle.hyperlmntal.specs.Link.{local, free, _∈_}
 use Rattle.hyperlmntal.specs.Hypergraph.{Node, inner, name, portNodes}
-use Rattle.sheet.specs.Held.{Wiring, Held, indexOf}
+use Rattle.rows.specs.Held.{Wiring, Held, indexOf}
 use Rattle.sheet.specs.Graph.{graphOf}
 
 abbrev pub labelIn : Wiring → Node ℕ → ℕ

@@ -4,8 +4,8 @@ use mathlib.Core.List.{List, [], _∷_, _++_, map}
 use lib.Dec.{eqb, ltb}
 use Rattle.hyperlmntal.specs.Link.{local, free}
 use Rattle.hyperlmntal.specs.Hypergraph.{Node, inner, name, Fusion, Flat, portNodes, nodes, mapCell}
-use Rattle.sheet.specs.Pick.{pick}
-use Rattle.sheet.specs.Held.{indexOf, relabelled}
+use Rattle.rows.specs.Pick.{pick}
+use Rattle.rows.specs.Held.{indexOf, relabelled}
 
 -- a number for each node, and no two nodes with one number
 abbrev pub ownClass : Node ℕ → ℕ

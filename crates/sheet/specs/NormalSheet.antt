@@ -3,14 +3,14 @@ use Prim.Native.Nat.{ℕ, _+_}
 use mathlib.Core.List.{List, map}
 use lib.ListN.{length, take}
 use Rattle.hyperlmntal.specs.Hypergraph.{Node, inner}
-use Rattle.sheet.specs.Format.{mostLinks}
-use Rattle.sheet.specs.Limits.{sheetAtoms, figureContexts, sheetMarks}
-use Rattle.sheet.specs.Held.{Held}
-use Rattle.sheet.specs.Packed.{padded, noAtom, noContext}
+use Rattle.rows.specs.Format.{mostLinks}
+use Rattle.rows.specs.Limits.{sheetAtoms, figureContexts, sheetMarks}
+use Rattle.rows.specs.Held.{Held}
+use Rattle.rows.specs.Packed.{padded, noAtom, noContext}
+use Rattle.rows.specs.declared.Atom.{Atom}
+use Rattle.rows.specs.declared.Context.{Context}
 use Rattle.sheet.specs.Graph.{graphOf}
 use Rattle.sheet.specs.Normal.{classOf, classesBy, numberBy, marksOf, markNode}
-use Rattle.sheet.specs.declared.Atom.{Atom}
-use Rattle.sheet.specs.declared.Context.{Context}
 use Rattle.sheet.specs.declared.normal.Normal.{Normal}
 
 -- the number of a node's class

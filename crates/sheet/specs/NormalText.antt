@@ -1,19 +1,17 @@
 -- Document 01, 'Normal text': the bytes of a normal form, and what normalising answers and writes.
 use Prim.Native.Nat.{ℕ}
 use mathlib.Core.List.{List, [], _∷_, _++_, map}
-use mathlib.Core.Bool.{Bool, true, false}
 use lib.Dec.{ltb}
 use lib.ListN.{length, drop}
 use Rattle.hyperlmntal.specs.Link.{local, free}
 use Rattle.hyperlmntal.specs.Hypergraph.{Node, inner, name, Label, symbol, hole, Cell, Fusion, Flat}
-use Rattle.sheet.specs.Pick.{pick}
-use Rattle.sheet.specs.RowText.{rowBytes}
+use Rattle.rows.specs.Pick.{pick}
+use Rattle.rows.specs.RowText.{rowBytes}
 use Rattle.sheet.specs.Answer.{refusalNumber}
 use Rattle.sheet.specs.Graph.{graphOf}
 use Rattle.sheet.specs.Normal.{normalForm}
-use Rattle.sheet.specs.Reading.{Outcome, outcomeOf, noPorts}
+use Rattle.sheet.specs.Reading.{outcomeOf, noPorts}
 use Rattle.sheet.specs.declared.kind.Kind.{Kind}
-use Rattle.sheet.specs.declared.answer.Refusal.{Refusal}
 use Rattle.sheet.specs.declared.answer.Answer.{Answer}
 use Rattle.sheet.specs.declared.answer.Answer.the-variants.{Passed, Refused}
 use Rattle.sheet.specs.declared.normalise.Normalised.{Normalised}

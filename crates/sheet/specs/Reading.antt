@@ -1,17 +1,18 @@
 -- Document 01, 'Numbers': when a text is taken, and the number and row under which it is turned down.
 use Prim.Native.Nat.{ℕ, zero, suc, _+_, _-_}
 use mathlib.Core.List.{List, [], _∷_}
-use mathlib.Core.Bool.{Bool, true, false}
+use mathlib.Core.Bool.{Bool, false}
 use lib.Dec.{eqb, ltb, leb}
 use lib.ListN.{length, take, drop, getD, replicate}
-use Rattle.sheet.specs.Pick.{pick, and, or, not}
-use Rattle.sheet.specs.Format.{rowWidth}
-use Rattle.sheet.specs.Limits.{rowLimit, figureContexts, sheetMarks, isList, atomLimit, linkLimit, allowed}
-use Rattle.sheet.specs.Row.{rowOf}
-use Rattle.sheet.specs.Held.{Held, nothing, withRow}
-use Rattle.sheet.specs.Packed.{packed, portsOf}
-use Rattle.sheet.specs.declared.Context.{Context}
-use Rattle.sheet.specs.declared.row.Row.{Row}
+use Rattle.rows.specs.Pick.{pick, and, or, not}
+use Rattle.rows.specs.Format.{rowWidth}
+use Rattle.rows.specs.Limits.{rowLimit, figureContexts, sheetMarks}
+use Rattle.rows.specs.Row.{rowOf}
+use Rattle.rows.specs.Held.{Held, nothing, withRow}
+use Rattle.rows.specs.Packed.{packed, portsOf}
+use Rattle.rows.specs.declared.Context.{Context}
+use Rattle.rows.specs.declared.row.Row.{Row}
+use Rattle.sheet.specs.Kinds.{isList, atomLimit, linkLimit, allowed}
 use Rattle.sheet.specs.declared.kind.Kind.{Kind}
 use Rattle.sheet.specs.declared.kind.Kind.the-variants.{Plain, Pattern, Figure, Replacement, Fillings}
 use Rattle.sheet.specs.declared.answer.Refusal.{Refusal}

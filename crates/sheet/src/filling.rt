@@ -1,12 +1,11 @@
 // The rows of one filling, as a part of the list of fillings that holds them.
-use crate::Sheet;
 use crate::answer::Answer;
 use crate::read::read_list;
-use crate::row::read_row;
+use rows::Sheet;
+use rows::row::read_row;
 ghost use mathlib.Core.Path.{_≡_};
 ghost use Prim.Native.Nat.{_+_, _-_, _≤_};
 ghost use lib.ListN.{length, take, drop};
-ghost use Rattle.sheet.specs.Format.{rowWidth};
 ghost use Rattle.sheet.specs.Filling.{fromHead, beforeHead, fillingOf};
 
 // Where the row of the head for this number starts, the list's length where there is none.

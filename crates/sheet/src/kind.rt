@@ -1,10 +1,10 @@
 // The kinds of text, with the letters and the limits of each.
-use crate::Sheet;
+use rows::Sheet;
 ghost use mathlib.Core.Path.{_≡_};
 ghost use lib.Dec.{eqb};
-ghost use Rattle.sheet.specs.Pick.{and, or, not};
+ghost use Rattle.rows.specs.Pick.{and, or, not};
 ghost use Rattle.sheet.specs.Reading.{clashOf};
-ghost use Rattle.sheet.specs.Limits.{isFigure, isList, atomLimit, linkLimit, allowed};
+ghost use Rattle.sheet.specs.Kinds.{isFigure, isList, atomLimit, linkLimit, allowed};
 
 // A sheet; a figure as a pattern, as a replacement, or in any other place; a list of fillings.
 pub enum Kind {

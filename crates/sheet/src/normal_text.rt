@@ -1,13 +1,13 @@
 // The text of a normal form: its rows, one after the other.
-use crate::Sheet;
 use crate::normal::Normal;
-use crate::write::put_row;
+use rows::Sheet;
+use rows::write::put_row;
 ghost use mathlib.Core.Path.{_≡_};
 ghost use mathlib.Core.List.{[], _∷_, _++_};
 ghost use Prim.Native.Nat.{_+_, _*_, _≤_};
 ghost use lib.ListN.{length, take, drop};
-ghost use Rattle.sheet.specs.Format.{rowWidth};
-ghost use Rattle.sheet.specs.RowText.{rowBytes};
+ghost use Rattle.rows.specs.Format.{rowWidth};
+ghost use Rattle.rows.specs.RowText.{rowBytes};
 ghost use Rattle.sheet.specs.NormalRows.{rowsTo, linkedRow, atomRow, contextRow, markRow, normalRows, Narrow, Writable};
 
 // The numbers of a row with links: a name or a number, the link count, the links.

@@ -1,17 +1,16 @@
 // The tasks normalise: the normal text of a sheet or a figure, into an output buffer.
-use crate::Sheet;
 use crate::answer::Answer;
 use crate::answer::Refusal;
-use crate::answer::refusal_number;
 use crate::kind::Kind;
 use crate::normal::normal_of;
 use crate::normal_text::write_normal;
 use crate::read::read_text;
+use rows::Sheet;
 ghost use mathlib.Core.Path.{_≡_};
 ghost use mathlib.Core.Bool.{false};
 ghost use lib.ListN.{length};
-ghost use Rattle.sheet.specs.Limits.{isList};
-ghost use Rattle.sheet.specs.NormalText.{normalisedAnswer, normalisedSlip, normalisedNumber, normalisedInput, normalisedRow, normalisedBytes};
+ghost use Rattle.sheet.specs.Kinds.{isList};
+ghost use Rattle.sheet.specs.NormalText.{normalisedAnswer, normalisedSlip};
 
 // The bytes written; the buffer is too short; or the text is refused at a row.
 pub enum Normalised {
@@ -54,37 +53,4 @@ pub fn normalise_figure(text: &[u8], out: &mut [u8]) -> Normalised
     ensures { λ _. ⌜ now (out .exit) ≡ normalisedSlip Kind.Figure (now (text .entry)) (now (out .entry)) ⌝ }
 {
     normalise(Kind::Figure, text, out)
-}
-
-// The table's number of an answer, its input and row, and the bytes written.
-pub struct TaskAnswer {
-    pub number: u16,
-    pub input: u16,
-    pub row: usize,
-    pub bytes: usize,
-}
-
-pub fn answer_of(done: Normalised) -> TaskAnswer
-    ensures { λ r. ⌜ r ≡ record { number = normalisedNumber done; input = normalisedInput done; row = normalisedRow done; bytes = normalisedBytes done } ⌝ }
-{
-    match done {
-        Normalised::Written(bytes) => TaskAnswer {
-            number: 0,
-            input: 0,
-            row: 0,
-            bytes,
-        },
-        Normalised::ShortSlip => TaskAnswer {
-            number: 10,
-            input: 0,
-            row: 0,
-            bytes: 0,
-        },
-        Normalised::Refused(why, row) => TaskAnswer {
-            number: refusal_number(why),
-            input: 1,
-            row,
-            bytes: 0,
-        },
-    }
 }

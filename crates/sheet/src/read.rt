@@ -1,5 +1,4 @@
 // The readers of texts: one walk over rows, for every kind of text.
-use crate::Sheet;
 use crate::answer::Answer;
 use crate::answer::Refusal;
 use crate::kind::Kind;
@@ -7,16 +6,17 @@ use crate::kind::is_strange;
 use crate::kind::most_atoms;
 use crate::kind::most_links;
 use crate::kind::ports_clash;
-use crate::row::Row;
-use crate::row::read_row;
+use rows::Sheet;
+use rows::row::Row;
+use rows::row::read_row;
 ghost use mathlib.Core.Path.{_≡_};
 ghost use mathlib.Core.Bool.{true};
 ghost use Prim.Native.Nat.{_+_, _≤_};
-ghost use Rattle.sheet.specs.Limits.{rowLimit, figureContexts};
-ghost use Rattle.sheet.specs.Held.{Held, withRow};
-ghost use Rattle.sheet.specs.Packed.{packed};
+ghost use Rattle.rows.specs.Limits.{rowLimit, figureContexts};
+ghost use Rattle.rows.specs.Held.{Held, withRow};
+ghost use Rattle.rows.specs.Packed.{packed};
+ghost use Rattle.rows.specs.Steps.{Wired, Room, Ranged};
 ghost use Rattle.sheet.specs.Reading.{lastNumber, clashes, firstOf, rowTests, settled, passed, readingOf, outcomeOf, noPorts};
-ghost use Rattle.sheet.specs.Steps.{Wired, Room, Ranged};
 
 // A reader's answer, and what the rows before the refused one, or all of them, hold.
 pub struct Reading {

@@ -2,11 +2,11 @@
 // tasks run on files.
 pub mod runs;
 
+use answers::TaskAnswer;
+use answers::of_normalised;
+use answers::row::answer_row;
 use libc::STDOUT_FILENO;
-use sheet::answer::answer_row;
 use sheet::normalise::Normalised;
-use sheet::normalise::TaskAnswer;
-use sheet::normalise::answer_of;
 ghost use Rattle.io.specs.Counts.{Counts};
 
 // Opens the file that argument k names or, where there is no such argument, the file of this name,
@@ -48,5 +48,5 @@ pub fn print_answer(answer: TaskAnswer, out: &[u8]) {
 }
 
 pub fn print_normalised(done: Normalised, out: &[u8]) {
-    print_answer(answer_of(done), out);
+    print_answer(of_normalised(done), out);
 }

@@ -2,9 +2,12 @@
 use crate::open_input;
 use crate::print_answer;
 use crate::read_input;
+use answers::of_claimed;
+use answers::of_compared;
+use answers::of_done;
+use answers::row::verdict_row;
 use libc::STDOUT_FILENO;
-use sheet::Sheet;
-use sheet::answer::verdict_row;
+use rows::Sheet;
 
 // Compares the sheets in the files that arguments k and l name, or in those of these names, and prints
 // the answer's row.
@@ -21,10 +24,7 @@ pub fn compare_files(k: usize, name: &[u8], l: usize, other_name: &[u8]) {
     }
     let mut other = [0u8; Sheet::TEXT];
     let m = read_input(second, &mut other);
-    let verdict = matching::compare::verdict_of(matching::compare::compare(
-        &text[..n],
-        &other[..m],
-    ));
+    let verdict = of_compared(matching::compare::compare(&text[..n], &other[..m]));
     let line = verdict_row(verdict.number, verdict.input, verdict.row, verdict.yes);
     io::write_all(STDOUT_FILENO, &line);
 }
@@ -46,7 +46,7 @@ pub fn fill_files(k: usize, name: &[u8], l: usize, list_name: &[u8]) {
     let m = read_input(second, &mut list);
     let mut out = io::buffer();
     let done = filling::fill::fill(&figure[..n], &list[..m], &mut out);
-    print_answer(filling::done::answer_of(done), &out);
+    print_answer(of_done(done), &out);
 }
 
 // Places the pattern in the sheet, and prints the answer's row and the list of fillings.
@@ -65,7 +65,7 @@ pub fn place_files(k: usize, name: &[u8], l: usize, pattern_name: &[u8]) {
     let m = read_input(second, &mut pattern);
     let mut out = io::buffer();
     let done = tasks::place::place(&text[..n], &pattern[..m], &mut out);
-    print_answer(filling::done::answer_of(done), &out);
+    print_answer(of_done(done), &out);
 }
 
 // Checks a claim, that the figure holding the list is the same as the sheet, and prints the answer's row.
@@ -95,11 +95,7 @@ pub fn claim_files(
     }
     let mut list = [0u8; Sheet::TEXT];
     let p = read_input(third, &mut list);
-    let verdict = tasks::claim::verdict_of(tasks::claim::claim(
-        &text[..n],
-        &figure[..m],
-        &list[..p],
-    ));
+    let verdict = of_claimed(tasks::claim::claim(&text[..n], &figure[..m], &list[..p]));
     let line = verdict_row(verdict.number, verdict.input, verdict.row, verdict.yes);
     io::write_all(STDOUT_FILENO, &line);
 }
@@ -133,5 +129,5 @@ pub fn swap_files(
     let p = read_input(third, &mut replacement);
     let mut out = io::buffer();
     let done = tasks::swap::swap(&text[..n], &pattern[..m], &replacement[..p], &mut out);
-    print_answer(filling::done::answer_of(done), &out);
+    print_answer(of_done(done), &out);
 }

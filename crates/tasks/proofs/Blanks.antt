@@ -8,17 +8,18 @@ use borrow.Author.Tests.{eqb-true}
 use lib.Dec.{eqb}
 use lib.ListN.{getD}
 use Rattle.hyperlmntal.specs.Link.{_∈_}
-use Rattle.sheet.specs.Pick.{pick, and, not}
-use Rattle.sheet.specs.Packed.{portsOf, portTable}
+use Rattle.rows.specs.Pick.{pick, and, not}
+use Rattle.rows.specs.Packed.{portsOf, portTable}
+use Rattle.rows.specs.declared.Context.{Context}
+use Rattle.rows.proofs.Bools.{or-false, not-false}
+use Rattle.rows.proofs.Ports.{table-at}
 use Rattle.sheet.specs.Reading.{clashOf}
-use Rattle.sheet.specs.declared.Context.{Context}
 use Rattle.sheet.specs.declared.kind.Kind.the-variants.{Replacement}
-use Rattle.sheet.proofs.Taken.{or-false, not-false}
-use Rattle.sheet.proofs.Ranges.{Every, ContextRange}
-use Rattle.sheet.proofs.HeldLimits.{held-within}
-use Rattle.sheet.proofs.Ports.{table-at}
-use Rattle.sheet.proofs.ReadBack.{portsBy, portsIn, Clear}
-use Rattle.sheet.proofs.NormalFits.{sound-read}
+use Rattle.sheet.proofs.read.Ranges.{Every, ContextRange}
+use Rattle.sheet.proofs.read.HeldLimits.{held-within}
+use Rattle.texts.proofs.ReadBack.{portsBy, portsIn, Clear}
+use Rattle.texts.proofs.NormalFits.{sound-read}
+use Rattle.texts.proofs.BuiltRows.{every-in}
 use Rattle.placing.specs.Net.{NetCell, normalNet}
 use Rattle.placing.specs.Fillings.{Filling, Fits}
 use Rattle.placing.proofs.NormalTexts.{netBlank, textBlank}
@@ -38,10 +39,6 @@ ports-found (c ∷ l) x n e = go (eqb (c .number) x) refl e (ports-found l x n)
     go true q r ih = (c, List·Memᴰ·head refl, eqb-true (c .number) x q, omega arith)
     go false q r ih = let t = ih r in (t .0, List·Memᴰ·tail (t .1), t .2, t .3)
 
-every-of : {A : Type 0} (P : A → Type 0) (l : List A) → ((a : A) → a ∈ l → P a) → Every P l
-every-of P [] h = tt
-every-of P (a ∷ l) h = (h a (List·Memᴰ·head refl), every-of P l (λ b m. h b (List·Memᴰ·tail m)))
-
 module _ (pattern : List ℕ) (θ : List Filling) (fit : Fits (normalNet (patternHeld pattern)) θ) where
   one-covers : (c : Context) → c ∈ patternHeld pattern .contexts → Covering θ c
   one-covers c m =
@@ -51,7 +48,7 @@ module _ (pattern : List ℕ) (θ : List Filling) (fit : Fits (normalNet (patter
       (f .0, f .1, f .2 ∙ ap (λ q. q .0) (t .2), f .3 ∙ ap (λ q. q .1) (t .2))
 
   pub pattern-covered : Every (Covering θ) (patternHeld pattern .contexts)
-  pattern-covered = every-of (Covering θ) (patternHeld pattern .contexts) one-covers
+  pattern-covered = every-in (Covering θ) (patternHeld pattern .contexts) one-covers
 
   -- 'in a replacement, also a number or count that the pattern lacks' is refused
   clear-covers : (before : List (ℕ × ℕ)) (l : List Context) → Every (ContextRange Replacement) l → Clear Replacement (portTable (patternHeld pattern .contexts)) before (map portsIn l) → Every (Covering θ) l

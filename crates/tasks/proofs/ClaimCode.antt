@@ -8,16 +8,16 @@ use native.Mathlib.Omega.{arith}
 use borrow.Author.Tests.{lt-ltb, le-ltb}
 use lib.Dec.{ltb}
 use lib.ListN.{take}
-use Rattle.sheet.specs.Pick.{pick}
-use Rattle.sheet.specs.Limits.{sheetAtoms, sheetLinks, figureContexts}
-use Rattle.sheet.specs.Packed.{packed}
+use Rattle.rows.specs.Pick.{pick}
+use Rattle.rows.specs.Limits.{sheetAtoms, sheetLinks, figureContexts}
+use Rattle.rows.specs.Packed.{packed}
+use Rattle.rows.specs.declared.Sheet.{Sheet}
 use Rattle.sheet.specs.Reading.{outcomeOf, noPorts}
-use Rattle.sheet.specs.declared.Sheet.{Sheet}
 use Rattle.sheet.specs.declared.normal.Normal as form
 use Rattle.sheet.specs.declared.kind.Kind.the-variants.{Plain, Figure, Fillings}
 use Rattle.sheet.specs.declared.answer.Refusal.{Refusal}
 use Rattle.sheet.specs.declared.answer.Answer.the-variants as read
-use Rattle.sheet.proofs.HeldLimits.{held-within}
+use Rattle.sheet.proofs.read.HeldLimits.{held-within}
 use Rattle.placing.specs.Net.{Net, normalNet, Normal}
 use Rattle.placing.specs.Placing.{Placing}
 use Rattle.placing.specs.Smallest.{smallest}

@@ -8,15 +8,14 @@ use mathlib.Core.Option.{Option, none, some}
 use native.Mathlib.Omega.{arith}
 use Rattle.hyperlmntal.specs.Congruence.{_≅_, ≅-sym, ≅-trans}
 use Rattle.hyperlmntal.specs.Hypergraph.{Flat}
-use Rattle.sheet.specs.Pick.{pick}
-use Rattle.sheet.specs.Packed.{portsOf}
+use Rattle.rows.specs.Pick.{pick}
+use Rattle.rows.specs.Packed.{portsOf}
+use Rattle.rows.specs.declared.Context.{Context}
 use Rattle.sheet.specs.Graph.{graphOf, termOfText}
 use Rattle.sheet.specs.Reading.{noPorts}
-use Rattle.sheet.specs.declared.Context.{Context}
-use Rattle.sheet.specs.declared.kind.Kind.{Kind}
 use Rattle.sheet.specs.declared.kind.Kind.the-variants.{Figure, Fillings}
-use Rattle.sheet.proofs.Ranges.{Every, ContextRange}
-use Rattle.sheet.proofs.HeldLimits.{held-within}
+use Rattle.sheet.proofs.read.Ranges.{Every}
+use Rattle.sheet.proofs.read.HeldLimits.{held-within}
 use Rattle.placing.specs.Net.{Net, normalNet, NormalSheet}
 use Rattle.placing.specs.Placing.{Placing, Good}
 use Rattle.placing.specs.Holding.{holdingTerm}
@@ -27,10 +26,12 @@ use Rattle.placing.proofs.TextPlacing.{text-net}
 use Rattle.placing.proofs.FilledText.{AllExactMarks, filled-same}
 use Rattle.placing.proofs.Sheets.{sheets-placing}
 use Rattle.placing.proofs.SmallestLaws.{smallest-good, smallest-none}
+use Rattle.placing.proofs.PlacedText.{text-small}
 use Rattle.filling.specs.Read.{listHeld, fillingRead, fillingsRead}
 use Rattle.filling.specs.Fill.{figureHeld, firstLacking, tooLarge}
-use Rattle.filling.proofs.Exact.{Rowed, all-exact, none-lacking}
+use Rattle.filling.proofs.Exact.{all-exact, none-lacking}
 use Rattle.filling.proofs.ResultNet.{Atoms, result-sheet, result-term}
+use Rattle.filling.proofs.Answers.{rowed}
 use Rattle.tasks.specs.Place.{sheetHeld}
 use Rattle.tasks.specs.Claim.{filledNet, placedClaim, claimedAnswer, claimAnswer}
 use Rattle.tasks.specs.Passed.{ClaimPassed}
@@ -38,13 +39,7 @@ use Rattle.tasks.specs.declared.claim.Claimed.the-variants.{Holds, Diffe
 use Rattle.tasks.proofs.GoodSize.{good-atoms, good-links}
 use Rattle.tasks.proofs.FilledAtoms.{Covering, filled-atoms}
 use Rattle.tasks.proofs.Blanks.{ports-found}
-use Rattle.tasks.proofs.TextSmall.{text-small}
 use Rattle.tasks.proofs.Large.{not-large}
-
--- Rows are counted from 1.
-pub rowed : (kind : Kind) (l : List Context) → Every (ContextRange kind) l → Rowed l
-rowed kind [] r = tt
-rowed kind (c ∷ l) r = (r .0 .row .0, rowed kind l (r .1))
 
 covers : (list : List ℕ) (l : List Context) → Every (λ (c : Context). portsOf (listHeld list .contexts) (c .number) ≡ suc (c .count)) l → Every (Covering (fillingsRead list)) l
 covers list [] p = tt

@@ -11,13 +11,13 @@ use Rattle.hyperlmntal.specs.GraphSubstitution.{sameFunctor, lookup}
 use Rattle.hyperlmntal.specs.Hypergraph.{Node, inner, Label, symbol, Cell, mapCell}
 use Rattle.hyperlmntal.specs.Isomorphism.{functor}
 use Rattle.hyperlmntal.proofs.Lists.{all-map}
-use Rattle.sheet.specs.Held.{Held}
+use Rattle.rows.specs.Held.{Held}
+use Rattle.rows.specs.declared.Context.{Context}
 use Rattle.sheet.specs.Graph.{atomCell, contextCell, graphOf}
 use Rattle.sheet.specs.Normal.{classOf, numberedBy, normalFormBy, normalForm}
-use Rattle.sheet.specs.declared.Context.{Context}
 use Rattle.sheet.specs.declared.kind.Kind.{Kind}
-use Rattle.sheet.proofs.Ranges.{Every, every-append, ContextRange}
-use Rattle.sheet.proofs.BuiltRows.{every-in}
+use Rattle.sheet.proofs.read.Ranges.{Every, every-append, ContextRange}
+use Rattle.texts.proofs.BuiltRows.{every-in}
 use Rattle.placing.specs.Net.{NetCell, atomVertex}
 use Rattle.placing.specs.Fillings.{Filling, rowsGraph}
 use Rattle.placing.specs.Holding.{marksFrom}

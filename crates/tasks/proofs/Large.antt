@@ -8,10 +8,10 @@ use borrow.Author.Tests.{ltb-true, le-ltb, lt-ltb}
 use lib.Dec.{ltb}
 use lib.ListN.{length}
 use Rattle.hyperlmntal.specs.Hypergraph.{Flat}
-use Rattle.sheet.specs.Pick.{or}
-use Rattle.sheet.specs.Limits.{sheetAtoms, sheetLinks}
+use Rattle.rows.specs.Pick.{or}
+use Rattle.rows.specs.Limits.{sheetAtoms, sheetLinks}
 use Rattle.sheet.specs.Normal.{normalForm}
-use Rattle.sheet.proofs.NormalBounds.{classCount}
+use Rattle.sheet.proofs.normal.NormalBounds.{classCount}
 use Rattle.placing.specs.Net.{Net, netOf}
 use Rattle.filling.specs.Fill.{tooLarge}
 use Rattle.filling.proofs.ResultNet.{Atoms, result-atoms, result-links}

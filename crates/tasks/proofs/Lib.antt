@@ -1,17 +1,13 @@
--- The theorems in one place, and worked sheets.
+-- The theorems in one place.
 pub mod Theorems
-pub mod Worked
 -- Filled figures: their nets, their sizes, their texts.
 pub mod FilledAtoms
 pub mod Large
 pub mod ResultText
 pub mod GoodSize
 -- Texts read in another task.
-pub mod ReadAsFigure
 pub mod Blanks
-pub mod ListRead
 pub mod ListWhole
-pub mod TextSmall
 pub mod Room
 -- The tasks.
 pub mod Claims

@@ -8,16 +8,16 @@ use native.Mathlib.Omega.{arith}
 use borrow.Author.Tests.{lt-ltb, le-ltb}
 use lib.ListN.{length, take, drop, getD}
 use lib.Seq.{getD-take}
-use Rattle.sheet.specs.Pick.{pick}
-use Rattle.sheet.specs.Limits.{sheetLinks}
+use Rattle.rows.specs.Pick.{pick}
+use Rattle.rows.specs.Limits.{sheetLinks}
 use Rattle.sheet.specs.NormalText.{slipLength}
 use Rattle.sheet.specs.Reading.{outcomeOf, noPorts}
 use Rattle.sheet.specs.declared.normal.Normal as form
 use Rattle.sheet.specs.declared.kind.Kind.the-variants.{Plain, Pattern}
 use Rattle.sheet.specs.declared.answer.Refusal.{Refusal}
 use Rattle.sheet.specs.declared.answer.Answer.the-variants.{Passed, Refused}
-use Rattle.sheet.proofs.HeldLimits.{held-within}
-use Rattle.sheet.proofs.NormalWritten.{atom-at, context-at, atom-range, context-range}
+use Rattle.sheet.proofs.read.HeldLimits.{held-within}
+use Rattle.sheet.proofs.normal_text.NormalWritten.{atom-at, context-at, atom-range, context-range}
 use Rattle.placing.specs.Net.{Net, Range, Apart}
 use Rattle.placing.specs.Placing.{Placing, Good}
 use Rattle.placing.specs.Fillings.{Filling, normalFillingsOf}

@@ -8,14 +8,13 @@ use native.Mathlib.Omega.{arith}
 use borrow.Author.Tests.{le-ltb}
 use lib.ListN.{length, take, drop}
 use lib.Seq.{take-at}
-use Rattle.hyperlmntal.specs.Link.{_∈_}
 use Rattle.hyperlmntal.specs.Congruence.{_≅_}
+use Rattle.rows.specs.declared.Context.{Context}
 use Rattle.sheet.specs.Graph.{termOfText}
 use Rattle.sheet.specs.NormalText.{slipLength}
 use Rattle.sheet.specs.Reading.{Outcome, outcomeOf, noPorts}
-use Rattle.sheet.specs.declared.Context.{Context}
 use Rattle.sheet.specs.declared.kind.Kind.the-variants.{Pattern, Figure}
-use Rattle.sheet.proofs.Ranges.{Every}
+use Rattle.sheet.proofs.read.Ranges.{Every}
 use Rattle.placing.specs.Placing.{Placing, Good}
 use Rattle.placing.specs.Fillings.{Filling, byNumber, fillingFor, fillingsOf, normalFilling, normalFillingsOf}
 use Rattle.placing.specs.Holding.{holdingTerm}
@@ -25,21 +24,21 @@ use Rattle.placing.proofs.Theorems.{sheet-net, pattern-net}
 use Rattle.placing.proofs.Chosen.{chosen-none, chosen-fillings}
 use Rattle.placing.proofs.ListBack.{ListFits}
 use Rattle.placing.proofs.SmallestLaws.{smallest-good}
+use Rattle.placing.proofs.PlacedText.{text-fits}
 use Rattle.filling.specs.Done.{doneBytes, slipAfter}
 use Rattle.filling.specs.Read.{listHeld, fillingsRead}
 use Rattle.filling.specs.Fill.{figureHeld, firstLacking}
 use Rattle.filling.specs.declared.done.Done.the-variants as done
+use Rattle.filling.proofs.Back.{placed-back}
+use Rattle.filling.proofs.ReadAsFigure.{pattern-figure}
 use Rattle.tasks.specs.Place.{sheetHeld, patternHeld, fillingsIn, placedFillings, placedAnswer, placedText, placeAnswer, placeSlip}
 use Rattle.tasks.specs.Claim.{claimAnswer}
 use Rattle.tasks.specs.Passed.{PlacePassed, ClaimPassed}
 use Rattle.tasks.specs.Demand.{sheetNet, patternNet, Turning, placeWritten, blankOf, headOf, HandsOut}
 use Rattle.tasks.specs.declared.claim.Claimed.the-variants.{Holds}
-use Rattle.tasks.proofs.ReadAsFigure.{pattern-figure}
 use Rattle.tasks.proofs.FilledAtoms.{Covering}
 use Rattle.tasks.proofs.Blanks.{pattern-covered}
-use Rattle.tasks.proofs.ListRead.{Sorted, list-read, normal-sorted}
 use Rattle.tasks.proofs.ListWhole.{written-lacks, written-exact}
-use Rattle.tasks.proofs.TextSmall.{text-fits}
 use Rattle.tasks.proofs.Room.{list-room}
 use Rattle.tasks.proofs.Claims.{claim-congruent}
 
@@ -81,8 +80,7 @@ module _ (sheet pattern : List ℕ) (ok : PlacePassed sheet pattern) where
 
   pub chosen-read : (p : Placing) → smallest (sheetNet sheet) (patternNet pattern) ≡ some p
       → fillingsRead (listText (normalFillingsOf (sheetNet sheet) p (patternNet pattern))) ≡ normalFillingsOf (sheetNet sheet) p (patternNet pattern)
-  chosen-read p e =
-      list-read (normalFillingsOf (sheetNet sheet) p (patternNet pattern)) (text-fits sheet pattern (ok .sheet-passes) (ok .pattern-passes) p (good p e)) (normal-sorted (sheetNet sheet) (patternNet pattern) p)
+  chosen-read p e = placed-back sheet pattern (ok .sheet-passes) (ok .pattern-passes) p (good p e)
 
   pub chosen-slip : (slip : List ℕ) → slipLength ≤ length slip → (p : Placing) → smallest (sheetNet sheet) (patternNet pattern) ≡ some p
       → HandsOut sheet pattern slip (normalFillingsOf (sheetNet sheet) p (patternNet pattern))
@@ -125,12 +123,9 @@ module _ (sheet pattern : List ℕ) (ok : PlacePassed sheet pattern) where
   pub handed-fits : (slip : List ℕ) (θ : List Filling) → HandsOut sheet pattern slip θ → ListFits θ
   handed-fits slip θ h = subst ListFits (sym (h .chosen-fillings)) (text-fits sheet pattern (ok .sheet-passes) (ok .pattern-passes) (h .placing) (good (h .placing) (h .chosen)))
 
-  handed-sorted : (slip : List ℕ) (θ : List Filling) → HandsOut sheet pattern slip θ → (f : Filling) → f ∈ θ → Sorted f
-  handed-sorted slip θ h f m = normal-sorted (sheetNet sheet) (patternNet pattern) (h .placing) f (subst (λ t. f ∈ t) (h .chosen-fillings) m)
-
   -- No 8 in that list, for blanks that have fillings in it.
   pub handed-lacks : (slip : List ℕ) (θ : List Filling) → HandsOut sheet pattern slip θ → (l : List Context) → Every (Covering θ) l → firstLacking (listHeld (listText θ) .contexts) l ≡ 0
-  handed-lacks slip θ h l c = written-lacks θ (handed-fits slip θ h) (handed-sorted slip θ h) (h .turning .0 .one) (h .turning .0 .exact) l c
+  handed-lacks slip θ h l c = written-lacks θ (handed-fits slip θ h) (h .read-back) (h .turning .0 .one) (h .turning .0 .exact) l c
 
   -- That list passes in a claim.
   pub claim-passed : (slip : List ℕ) (θ : List Filling) → HandsOut sheet pattern slip θ → ClaimPassed sheet pattern (listText θ)
@@ -142,7 +137,7 @@ module _ (sheet pattern : List ℕ) (ok : PlacePassed sheet pattern) where
         figure-passes = ap (λ (o : Outcome). o .answer) figure ∙ ok .pattern-passes;
         list-passes = h .passes;
         none-lacking = ap (λ (o : Outcome). firstLacking (listHeld (listText θ) .contexts) (o .held .contexts)) figure ∙ handed-lacks slip θ h (patternHeld pattern .contexts) (pattern-covered pattern θ fit);
-        none-differing = written-exact θ (handed-fits slip θ h) (handed-sorted slip θ h) (fit .one) (fit .exact);
+        none-differing = written-exact θ (handed-fits slip θ h) (h .read-back) (fit .one) (fit .exact);
       }
 
   -- The claim with what place wrote holds.

@@ -1,60 +1,50 @@
 -- A filled figure within the limits of a sheet: its normal text passes as a sheet, and its hypergraph is what was written.
 use Prim.Native.Nat.{ℕ, _≤_}
 use mathlib.Core.Path.{_≡_, refl, ap, sym, _∙_, subst}
-use mathlib.Core.Logic.{⊎-elim}
-use mathlib.Core.List.{List, [], _∷_, _++_, map, List·Memᴰ·head, List·Memᴰ·tail, List·Memᴰ·cases-cons, List·Memᴰ·not-nil, Memᴰ·cast, Memᴰ·map, Memᴰ·append-left}
+use mathlib.Core.List.{List, [], _∷_, _++_, map, Memᴰ·cast, Memᴰ·map, Memᴰ·append-left}
 use native.Mathlib.Omega.{arith}
 use lib.ListN.{length, take, length-map, length-take}
 use Rattle.hyperlmntal.specs.Link.{free, _∈_}
 use Rattle.hyperlmntal.specs.Hypergraph.{Node, inner, Label, symbol, Cell, Flat, nodes, mapCell}
 use Rattle.hyperlmntal.proofs.Lists.{all-map}
 use Rattle.hyperlmntal.proofs.ExactPorts.{ExactFlat, exact-names}
-use Rattle.sheet.specs.Format.{mostLinks}
-use Rattle.sheet.specs.Limits.{sheetAtoms, sheetLinks, sheetMarks}
-use Rattle.sheet.specs.Held.{Held}
-use Rattle.sheet.specs.Agrees.{Among, Agrees}
+use Rattle.rows.specs.Format.{mostLinks}
+use Rattle.rows.specs.Limits.{sheetAtoms, sheetLinks, sheetMarks}
+use Rattle.rows.specs.Held.{Held}
+use Rattle.rows.specs.declared.Atom.{Atom}
+use Rattle.rows.proofs.RowRange.{Within}
+use Rattle.sheet.specs.Agrees.{Agrees}
 use Rattle.sheet.specs.Graph.{atomCell, edgeOf, graphOf}
 use Rattle.sheet.specs.Normal.{classOf, marksOf, numberedBy, markedBy, normalFormBy, normalForm}
 use Rattle.sheet.specs.NormalText.{textOf}
 use Rattle.sheet.specs.Reading.{outcomeOf, noPorts}
-use Rattle.sheet.specs.declared.Atom.{Atom}
 use Rattle.sheet.specs.declared.kind.Kind.{Kind}
 use Rattle.sheet.specs.declared.kind.Kind.the-variants.{Plain}
 use Rattle.sheet.specs.declared.answer.Answer.the-variants.{Passed}
-use Rattle.sheet.proofs.RowRange.{Within}
-use Rattle.sheet.proofs.Ranges.{Every, AtomRange, MarkRange, WithinLimits}
-use Rattle.sheet.proofs.Distinct.{once-length}
-use Rattle.sheet.proofs.Marks.{marks-of}
-use Rattle.sheet.proofs.Merging.{at-indexOf}
-use Rattle.sheet.proofs.Connected.{edge-links}
-use Rattle.sheet.proofs.TextGraph.{graph-name}
-use Rattle.sheet.proofs.NormalBounds.{normal-marks}
-use Rattle.sheet.proofs.NormalFits.{upTo, upTo-length, upTo-in, upTo-of}
-use Rattle.sheet.proofs.BuiltRows.{Fitting, every-in}
-use Rattle.sheet.proofs.ReadBack.{builtGraph, Known, Readable, read-back, graph-back}
+use Rattle.sheet.proofs.read.Ranges.{Every, AtomRange, MarkRange, WithinLimits}
+use Rattle.sheet.proofs.normal.Distinct.{once-length}
+use Rattle.sheet.proofs.normal.Marks.{marks-of}
+use Rattle.sheet.proofs.normal.Connected.{edge-links}
+use Rattle.sheet.proofs.normal.TextGraph.{graph-name}
+use Rattle.sheet.proofs.normal.NormalBounds.{normal-marks}
+use Rattle.sheet.proofs.normal.Merging.{among-in}
+use Rattle.texts.proofs.NormalFits.{every-member, upTo, upTo-length, upTo-in, upTo-of}
+use Rattle.texts.proofs.BuiltRows.{Fitting, every-in}
+use Rattle.texts.proofs.ReadBack.{builtGraph, Known, Readable, read-back, graph-back}
 use Rattle.placing.specs.Net.{NetCell, Net, edgeNumbers, netOf, atomVertex, contextVertex}
-use Rattle.placing.specs.Fillings.{Row, symbolRow, pointRow, edgeRow, Filling}
+use Rattle.placing.specs.Fillings.{symbolRow, Filling}
 use Rattle.placing.specs.Filled.{flatEntry, filledGraph, filledNormal}
-use Rattle.placing.proofs.Lists.{getD-member, every-member}
 use Rattle.placing.proofs.Names.{symbolsIn, exact-flat}
 use Rattle.placing.proofs.Standing.{atom-link, mark-link}
 use Rattle.placing.proofs.FilledText.{AllExactMarks, filled-numbered}
 use Rattle.placing.proofs.ListBack.{ListFits}
+use Rattle.placing.proofs.NormalRowsFit.{symbol-row}
 use Rattle.filling.proofs.ResultNet.{Atoms, result-sheet, result-graph}
 use Rattle.tasks.proofs.FilledAtoms.{Covering, Each, filled-each, filled-atoms}
 
 -- An atom of a sheet: its name and link count in range.
 abbrev Sized : Label → ℕ → Type 0
 Sized t n = (p : ℕ) × (t ≡ symbol p) × Within 1 p 999 × (n ≤ mostLinks)
-
-symbol-row : (r : List Row) (c : NetCell) → c ∈ symbolsIn r → symbolRow (c .0) (c .1) ∈ r
-symbol-row [] c i = absurd (List·Memᴰ·not-nil i)
-symbol-row (symbolRow a l ∷ r) c i = ⊎-elim (λ e. List·Memᴰ·head (ap (λ (z : NetCell). symbolRow (z .0) (z .1)) e)) (λ j. List·Memᴰ·tail (symbol-row r c j)) (List·Memᴰ·cases-cons i)
-symbol-row (pointRow x y ∷ r) c i = List·Memᴰ·tail (symbol-row r c i)
-symbol-row (edgeRow x m ∷ r) c i = List·Memᴰ·tail (symbol-row r c i)
-
-among-in : (x : ℕ) (l : List ℕ) → Among x l → x ∈ l
-among-in x l h = subst (λ y. y ∈ l) (at-indexOf x l h) (getD-member l _ 0 h)
 
 module _ (kind : Kind) (h : Held) (w : WithinLimits kind h) (A : Agrees h) (θ : List Filling) (fits : ListFits θ) (exact : AllExactMarks θ) (covered : Every (Covering θ) (h .contexts)) where
   abbrev G : Flat ℕ

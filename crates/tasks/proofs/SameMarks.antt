@@ -1,24 +1,15 @@
 -- The loop that compares the marks of two normal forms.
-use Prim.Native.Nat.{ℕ, suc, _+_, _<_, _≤_}
-use mathlib.Core.Path.{_≡_, refl, ap, ap₂, sym, _∙_}
+use Prim.Native.Nat.{ℕ, _+_, _<_, _≤_}
+use mathlib.Core.Path.{_≡_, ap, ap₂, sym, _∙_}
 use mathlib.Core.Bool.{Bool, true, false}
-use mathlib.Core.List.{List, [], _∷_}
+use mathlib.Core.List.{List, []}
 use lib.Dec.{eqb}
 use lib.ListN.{length, take, drop, getD}
 use lib.Seq.{length-take-le}
-use Rattle.sheet.specs.Pick.{and}
-use Rattle.sheet.proofs.Numbered.{part-cons, part-end}
+use Rattle.rows.specs.Pick.{and}
+use Rattle.sheet.proofs.normal.Numbered.{part-cons, part-end}
 use Rattle.placing.specs.Smallest.{sameList}
-
-list-sizes : (l m : List ℕ) → (length l ≡ length m → ⊥) → sameList l m ≡ false
-list-sizes [] [] h = absurd (h refl)
-list-sizes [] (y ∷ m) h = refl
-list-sizes (x ∷ l) [] h = refl
-list-sizes (x ∷ l) (y ∷ m) h = go (eqb x y) (list-sizes l m (λ e. h (ap suc e)))
-  where
-    go : (b : Bool) → sameList l m ≡ false → and b (sameList l m) ≡ false
-    go true e = e
-    go false e = refl
+use Rattle.filling.proofs.Loops.{list-sizes}
 
 module _ (a b : List ℕ) where
   -- As many marks in one as in the other, or they differ.

@@ -7,10 +7,17 @@ use native.Mathlib.Omega.{arith}
 use borrow.Author.Tests.{ltb-false}
 use lib.Dec.{ltb}
 use lib.ListN.{length, drop, length-append, length-drop}
+use Rattle.rows.specs.Pick.{pick}
 use Rattle.sheet.specs.Graph.{graphOf}
-use Rattle.sheet.specs.NormalText.{textOf, slipLength}
+use Rattle.sheet.specs.NormalText.{textOf, slipLength, normalText, answered, writtenOver, normalisedAnswer, normalisedSlip, normalisedNumber}
+use Rattle.sheet.specs.Reading.{outcomeOf, noPorts}
+use Rattle.sheet.specs.declared.kind.Kind.{Kind}
+use Rattle.sheet.specs.declared.answer.Answer.{Answer}
+use Rattle.sheet.specs.declared.answer.Answer.the-variants.{Passed, Refused}
+use Rattle.sheet.specs.declared.normalise.Normalised.the-variants as normal
 use Rattle.placing.specs.ListText.{listText}
 use Rattle.filling.specs.Done.{doneNumber, doneInput, slipAfter}
+use Rattle.filling.specs.Fill.{filledText, fillAnswer, fillSlip}
 use Rattle.filling.specs.declared.done.Done.{Done}
 use Rattle.filling.specs.declared.done.Done.the-variants as done
 use Rattle.tasks.specs.Place.{placedFillings, placedText, placeAnswer, placeSlip}
@@ -28,6 +35,21 @@ refusal-keeps (done.BlankClash input row) text slip n = refl
 refusal-keeps (done.EdgeDiffers input row) text slip n = refl
 refusal-keeps done.NoPlacing text slip n = refl
 refusal-keeps done.TooLarge text slip n = refl
+
+-- The same where a buffer is short or a reader refuses.
+reader-keeps : (short : Bool) (a : Answer) (text slip : List ℕ)
+    → ¬ (normalisedNumber (pick short normal.ShortSlip (answered a (length text))) ≡ 0) → pick short slip (writtenOver a text slip) ≡ slip
+reader-keeps true a text slip n = refl
+reader-keeps false Passed text slip n = absurd (n refl)
+reader-keeps false (Refused why row) text slip n = refl
+
+pub normalise-kept : (kind : Kind) (text slip : List ℕ) → ¬ (normalisedNumber (normalisedAnswer kind text (length slip)) ≡ 0) → normalisedSlip kind text slip ≡ slip
+unfolding normalisedAnswer normalisedSlip
+normalise-kept kind text slip n = reader-keeps (ltb (length slip) slipLength) (outcomeOf kind noPorts text .answer) (normalText kind text) slip n
+
+pub fill-kept : (figure list slip : List ℕ) → ¬ (doneNumber (fillAnswer figure list (length slip)) ≡ 0) → fillSlip figure list slip ≡ slip
+unfolding fillSlip
+fill-kept figure list slip n = refusal-keeps (fillAnswer figure list (length slip)) (filledText figure list) slip n
 
 pub place-kept : (sheet pattern slip : List ℕ) → ¬ (doneNumber (placeAnswer sheet pattern (length slip)) ≡ 0) → placeSlip sheet pattern slip ≡ slip
 unfolding placeSlip

@@ -7,11 +7,13 @@ use native.Mathlib.Omega.{arith}
 use borrow.Author.Tests.{lt-ltb, le-ltb}
 use lib.ListN.{length, take, drop, length-append}
 use lib.Seq.{take-at, length-take-le}
-use Rattle.sheet.specs.Pick.{pick}
-use Rattle.sheet.specs.Format.{rowWidth}
-use Rattle.sheet.specs.Limits.{sheetAtoms, sheetLinks, sheetMarks}
-use Rattle.sheet.specs.Held.{Held}
-use Rattle.sheet.specs.Packed.{portTable, packed}
+use Rattle.rows.specs.Pick.{pick}
+use Rattle.rows.specs.Format.{rowWidth}
+use Rattle.rows.specs.Limits.{sheetAtoms, sheetLinks, sheetMarks}
+use Rattle.rows.specs.Held.{Held}
+use Rattle.rows.specs.Packed.{portTable, packed}
+use Rattle.rows.specs.declared.Sheet.{Sheet}
+use Rattle.rows.proofs.Padding.{take-padded}
 use Rattle.sheet.specs.Agrees.{Agrees}
 use Rattle.sheet.specs.Numbering.{Numberable}
 use Rattle.sheet.specs.Graph.{graphOf}
@@ -19,16 +21,14 @@ use Rattle.sheet.specs.NormalSheet.{normalMarks, packedNormal}
 use Rattle.sheet.specs.NormalText.{textOf, slipLength}
 use Rattle.sheet.specs.NormalRows.{normalRows, Writable}
 use Rattle.sheet.specs.Reading.{Outcome, outcomeOf, readingOf, noPorts}
-use Rattle.sheet.specs.declared.Sheet.{Sheet}
 use Rattle.sheet.specs.declared.normal.Normal as form
 use Rattle.sheet.specs.declared.kind.Kind.the-variants.{Plain, Pattern, Figure, Replacement}
 use Rattle.sheet.specs.declared.answer.Refusal.{Refusal}
 use Rattle.sheet.specs.declared.read.Reading.{Reading}
 use Rattle.sheet.specs.declared.answer.Answer.{Answer}
 use Rattle.sheet.specs.declared.answer.Answer.the-variants.{Passed, Refused}
-use Rattle.sheet.proofs.Padding.{take-padded}
-use Rattle.sheet.proofs.Connected.{agrees-read}
-use Rattle.sheet.proofs.NormalReady.{numberable-read}
+use Rattle.sheet.proofs.normal.Connected.{agrees-read}
+use Rattle.sheet.proofs.normal.NormalReady.{numberable-read}
 use Rattle.placing.specs.Fillings.{Filling}
 use Rattle.placing.specs.Filled.{filledGraph, filledNormal}
 use Rattle.placing.specs.ListText.{listText}
@@ -44,11 +44,11 @@ use Rattle.filling.specs.Fill.{figureHeld, firstLacking, firstDiffering, filled
 use Rattle.filling.specs.declared.done.Done.{Done}
 use Rattle.filling.specs.declared.done.Done.the-variants as done
 use Rattle.filling.specs.Filled.{FilledIs}
+use Rattle.filling.proofs.ReadAsFigure.{replacement-figure}
 use Rattle.tasks.specs.Place.{sheetHeld, patternHeld, placedFillings}
 use Rattle.tasks.specs.Swap.{replacementRead, replacementHeld, sameMarks, swappedAnswer, swappedText, swapAnswer, swapSlip}
 use Rattle.tasks.specs.Demand.{HandsOut}
 use Rattle.tasks.specs.Inputs.{FilledInputs, filledDone, SwapInputs, swapRead, swapText}
-use Rattle.tasks.proofs.ReadAsFigure.{replacement-figure}
 use Rattle.tasks.proofs.Blanks.{replacement-covered}
 use Rattle.tasks.proofs.Places.{chosen-slip, handed-lacks, claim-passed}
 use Rattle.tasks.proofs.PlaceCode.{none-found, chosen, foundPlacing, foundFillings, some-found, found-text}

@@ -11,16 +11,16 @@ use lib.ListN.{length, drop}
 use Rattle.hyperlmntal.specs.Congruence.{_≅_}
 use Rattle.hyperlmntal.specs.Hypergraph.{Flat}
 use Rattle.hyperlmntal.specs.TermOf.{termOf}
-use Rattle.sheet.specs.Pick.{pick}
-use Rattle.sheet.specs.Limits.{sheetAtoms, sheetLinks}
-use Rattle.sheet.specs.Held.{Held}
-use Rattle.sheet.specs.Packed.{portTable}
+use Rattle.rows.specs.Pick.{pick}
+use Rattle.rows.specs.Limits.{sheetAtoms, sheetLinks}
+use Rattle.rows.specs.Held.{Held}
+use Rattle.rows.specs.Packed.{portTable}
 use Rattle.sheet.specs.Graph.{graphOf, termOfText}
 use Rattle.sheet.specs.NormalText.{textOf, slipLength}
 use Rattle.sheet.specs.Reading.{Outcome, outcomeOf, noPorts}
 use Rattle.sheet.specs.declared.kind.Kind.the-variants.{Figure, Replacement}
-use Rattle.sheet.proofs.HeldLimits.{held-within}
-use Rattle.sheet.proofs.Connected.{agrees-read}
+use Rattle.sheet.proofs.read.HeldLimits.{held-within}
+use Rattle.sheet.proofs.normal.Connected.{agrees-read}
 use Rattle.placing.specs.Net.{netOf}
 use Rattle.placing.specs.Fillings.{Filling}
 use Rattle.placing.specs.Holding.{holdingTerm}
@@ -32,11 +32,11 @@ use Rattle.filling.specs.Read.{listHeld}
 use Rattle.filling.specs.Fill.{tooLarge, figureHeld, firstLacking, filledText, filledAnswer, fillAnswer, fillSlip}
 use Rattle.filling.specs.declared.done.Done.the-variants as done
 use Rattle.filling.proofs.ResultNet.{Atoms, result-atoms}
+use Rattle.filling.proofs.ReadAsFigure.{replacement-figure}
 use Rattle.tasks.specs.Place.{patternHeld, placedFillings, placedAnswer, placeAnswer}
 use Rattle.tasks.specs.Swap.{replacementHeld, swappedAnswer, swappedText, swapAnswer, swapSlip}
 use Rattle.tasks.specs.Passed.{SwapPassed}
 use Rattle.tasks.specs.Demand.{placeWritten, HandsOut, OverLimits, swapped, Swaps}
-use Rattle.tasks.proofs.ReadAsFigure.{replacement-figure}
 use Rattle.tasks.proofs.FilledAtoms.{filled-atoms}
 use Rattle.tasks.proofs.Blanks.{replacement-covered}
 use Rattle.tasks.proofs.Large.{too-large}

@@ -6,7 +6,8 @@ use mathlib.Core.List.{List}
 use lib.ListN.{length}
 use Rattle.hyperlmntal.specs.Congruence.{_≅_}
 use Rattle.sheet.specs.Graph.{termOfText}
-use Rattle.sheet.specs.NormalText.{slipLength}
+use Rattle.sheet.specs.NormalText.{slipLength, normalisedAnswer, normalisedSlip, normalisedNumber}
+use Rattle.sheet.specs.declared.kind.Kind.{Kind}
 use Rattle.placing.specs.Fillings.{Filling}
 use Rattle.placing.specs.Holding.{holdingTerm}
 use Rattle.filling.specs.Read.{fillingsRead}
@@ -77,7 +78,13 @@ claim-congruent sheet figure list ok = Claims.claim-congruent sheet figure list 
 pub claim-ends : (sheet figure list : List ℕ) → ClaimPassed sheet figure list → (claimAnswer sheet figure list ≡ Holds) ⊎ (claimAnswer sheet figure list ≡ Differs)
 claim-ends sheet figure list ok = Claims.claim-ends sheet figure list ok
 
--- 'A refusal writes none and the slip stays'; no answer changes its length. For all bytes and slips.
+-- Demand 1: 'Turned down, it leaves the output slip with its old bytes.' No answer changes its length. For all bytes and slips.
+pub normalise-kept : (kind : Kind) (text slip : List ℕ) → ¬ (normalisedNumber (normalisedAnswer kind text (length slip)) ≡ 0) → normalisedSlip kind text slip ≡ slip
+normalise-kept kind text slip refused = SlipLaws.normalise-kept kind text slip refused
+
+pub fill-kept : (figure list slip : List ℕ) → ¬ (doneNumber (fillAnswer figure list (length slip)) ≡ 0) → fillSlip figure list slip ≡ slip
+fill-kept figure list slip refused = SlipLaws.fill-kept figure list slip refused
+
 pub place-kept : (sheet pattern slip : List ℕ) → ¬ (doneNumber (placeAnswer sheet pattern (length slip)) ≡ 0) → placeSlip sheet pattern slip ≡ slip
 place-kept sheet pattern slip refused = SlipLaws.place-kept sheet pattern slip refused
 

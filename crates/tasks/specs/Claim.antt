@@ -5,7 +5,7 @@ use mathlib.Core.List.{List}
 use mathlib.Core.Bool.{Bool, true, false}
 use mathlib.Core.Option.{Option, none, some}
 use lib.Dec.{ltb}
-use Rattle.sheet.specs.Pick.{pick}
+use Rattle.rows.specs.Pick.{pick}
 use Rattle.sheet.specs.Graph.{graphOf}
 use Rattle.sheet.specs.Answer.{refusalNumber}
 use Rattle.sheet.specs.Reading.{outcomeOf, noPorts}

@@ -7,7 +7,7 @@ use mathlib.Core.Option.{some}
 use lib.ListN.{length, take, drop}
 use Rattle.hyperlmntal.specs.Congruence.{_≅_}
 use Rattle.hyperlmntal.specs.Hypergraph.{Flat}
-use Rattle.sheet.specs.Limits.{sheetAtoms, sheetLinks}
+use Rattle.rows.specs.Limits.{sheetAtoms, sheetLinks}
 use Rattle.sheet.specs.Graph.{graphOf, termOfText}
 use Rattle.sheet.specs.NormalText.{textOf, slipLength}
 use Rattle.sheet.specs.Reading.{outcomeOf, noPorts}

@@ -3,11 +3,11 @@ use Prim.Native.Nat.{ℕ}
 use mathlib.Core.Path.{_≡_}
 use mathlib.Core.List.{List}
 use lib.ListN.{length}
-use Rattle.sheet.specs.Pick.{pick}
+use Rattle.rows.specs.Pick.{pick}
+use Rattle.rows.specs.Packed.{packed}
+use Rattle.rows.specs.declared.Sheet.{Sheet}
 use Rattle.sheet.specs.Graph.{graphOf}
-use Rattle.sheet.specs.Packed.{packed}
 use Rattle.sheet.specs.NormalSheet.{packedNormal}
-use Rattle.sheet.specs.declared.Sheet.{Sheet}
 use Rattle.sheet.specs.declared.normal.Normal as form
 use Rattle.sheet.specs.declared.answer.Answer.the-variants.{Passed}
 use Rattle.filling.specs.Read.{listHeld}

@@ -5,8 +5,8 @@ use mathlib.Core.List.{List, []}
 use mathlib.Core.Option.{Option, none, some}
 use lib.Dec.{ltb}
 use lib.ListN.{length}
-use Rattle.sheet.specs.Pick.{pick}
-use Rattle.sheet.specs.Held.{Held}
+use Rattle.rows.specs.Pick.{pick}
+use Rattle.rows.specs.Held.{Held}
 use Rattle.sheet.specs.NormalText.{slipLength}
 use Rattle.sheet.specs.Reading.{outcomeOf, noPorts}
 use Rattle.sheet.specs.declared.kind.Kind.the-variants.{Plain, Pattern}

@@ -6,9 +6,9 @@ use mathlib.Core.Option.{Option, none, some}
 use lib.Dec.{ltb}
 use lib.ListN.{length}
 use Rattle.hyperlmntal.specs.Hypergraph.{Flat}
-use Rattle.sheet.specs.Pick.{pick}
-use Rattle.sheet.specs.Held.{Held}
-use Rattle.sheet.specs.Packed.{portTable}
+use Rattle.rows.specs.Pick.{pick}
+use Rattle.rows.specs.Held.{Held}
+use Rattle.rows.specs.Packed.{portTable}
 use Rattle.sheet.specs.Graph.{graphOf}
 use Rattle.sheet.specs.Normal.{marksOf}
 use Rattle.sheet.specs.NormalText.{textOf, slipLength}

@@ -1,27 +1,25 @@
 // The task claim: whether a figure, filled from a list, is the same as a sheet.
-use filling::filled::filled_normal;
+use filling::filled::normal_filled;
 use filling::part::first_differing;
 use filling::part::first_lacking;
 use matching::search::smallest_placing;
-use sheet::Sheet;
+use rows::Sheet;
 use sheet::answer::Answer;
 use sheet::answer::Refusal;
-use sheet::answer::refusal_number;
 use sheet::normal::Normal;
 use sheet::normal::normal_of;
 use sheet::read::read_figure;
 use sheet::read::read_list;
 use sheet::read::read_sheet;
 ghost use mathlib.Core.Path.{_≡_};
-ghost use mathlib.Core.Bool.{false};
 ghost use mathlib.Core.List.{List};
 ghost use Prim.Native.Nat.{ℕ};
-ghost use Rattle.sheet.specs.Packed.{packed};
+ghost use Rattle.rows.specs.Packed.{packed};
 ghost use Rattle.placing.specs.Smallest.{smallest};
 ghost use Rattle.network.specs.NetIn.{netIn};
 ghost use Rattle.network.specs.Ready.{Ready};
 ghost use Rattle.filling.specs.Read.{listHeld};
-ghost use Rattle.tasks.specs.Claim.{placedClaim, claimedAnswer, claimAnswer, claimedNumber, claimedInput, claimedRow, claimedYes};
+ghost use Rattle.tasks.specs.Claim.{placedClaim, claimedAnswer, claimAnswer};
 ghost use Rattle.tasks.specs.Inputs.{ClaimInputs};
 
 // The filled figure is the same as the sheet, or not; an input is refused at a row; over whole texts, an
@@ -59,7 +57,7 @@ fn claim_read(sheet: Normal, figure: Sheet, heads: Sheet, list: &[u8]) -> Claime
     if other != 0 {
         return Claimed::EdgeDiffers(3, other);
     }
-    let filled = filled_normal(figure, list);
+    let filled = normal_filled(figure, list);
     if Sheet::ATOMS < filled.atom_count {
         return Claimed::Differs;
     }
@@ -93,43 +91,5 @@ pub fn claim(sheet: &[u8], figure: &[u8], list: &[u8]) -> Claimed
                 }
             },
         },
-    }
-}
-
-// The table's number of an answer, its input and row, and its yes or no.
-pub struct Verdict {
-    pub number: u16,
-    pub input: u16,
-    pub row: usize,
-    pub yes: bool,
-}
-
-// An answer whose verdict is no.
-fn denied(number: u16, input: u16, row: usize) -> Verdict
-    ensures { λ r. ⌜ r ≡ record { number = number; input = input; row = row; yes = false } ⌝ }
-{
-    Verdict {
-        number,
-        input,
-        row,
-        yes: false,
-    }
-}
-
-// Yes is for a claim that holds alone.
-pub fn verdict_of(claimed: Claimed) -> Verdict
-    ensures { λ r. ⌜ r ≡ record { number = claimedNumber claimed; input = claimedInput claimed; row = claimedRow claimed; yes = claimedYes claimed } ⌝ }
-{
-    match claimed {
-        Claimed::Holds => Verdict {
-            number: 0,
-            input: 0,
-            row: 0,
-            yes: true,
-        },
-        Claimed::Differs => denied(0, 0, 0),
-        Claimed::Refused(input, why, row) => denied(refusal_number(why), input, row),
-        Claimed::BlankClash(input, row) => denied(8, input, row),
-        Claimed::EdgeDiffers(input, row) => denied(9, input, row),
     }
 }

@@ -2,7 +2,7 @@
 use filling::done::Done;
 use listing::write_fillings;
 use matching::search::smallest_placing;
-use sheet::Sheet;
+use rows::Sheet;
 use sheet::answer::Answer;
 use sheet::normal::Normal;
 use sheet::normal::normal_of;

@@ -1,9 +1,9 @@
 // The task swap: the replacement with the fillings of the placed pattern, as normal text, into an output buffer.
 use filling::done::Done;
-use filling::filled::filled_normal;
+use filling::filled::normal_filled;
 use listing::write_fillings;
 use matching::search::smallest_placing;
-use sheet::Sheet;
+use rows::Sheet;
 use sheet::answer::Answer;
 use sheet::normal::Normal;
 use sheet::normal::normal_of;
@@ -15,7 +15,7 @@ ghost use mathlib.Core.Path.{_≡_};
 ghost use mathlib.Core.List.{List};
 ghost use Prim.Native.Nat.{ℕ, _≤_};
 ghost use lib.ListN.{length, take};
-ghost use Rattle.sheet.specs.Limits.{sheetMarks};
+ghost use Rattle.rows.specs.Limits.{sheetMarks};
 ghost use Rattle.sheet.specs.NormalText.{slipLength};
 ghost use Rattle.placing.specs.Smallest.{sameList};
 ghost use Rattle.filling.specs.Done.{slipAfter};
@@ -49,7 +49,7 @@ fn write_filled(figure: Sheet, list: &[u8], out: &mut [u8]) -> Done
     ensures { λ r. ⌜ ((text : List ℕ) → FilledInputs figure (now (list .entry)) text → r ≡ filledDone text (now (list .entry))) ⌝ }
     ensures { λ r. ⌜ ((text : List ℕ) → FilledInputs figure (now (list .entry)) text → now (out .exit) ≡ slipAfter r (filledText text (now (list .entry))) (now (out .entry))) ⌝ }
 {
-    let normal = filled_normal(figure, list);
+    let normal = normal_filled(figure, list);
     if Sheet::ATOMS < normal.atom_count {
         return Done::TooLarge;
     }

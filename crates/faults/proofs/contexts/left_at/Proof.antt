@@ -5,7 +5,7 @@ use mathlib.Core.Path.{_≡_, _∙_}
 use mathlib.Core.Logic.{_↔_, inl, inr, ⊎-elim}
 use native.Mathlib.Omega.{arith}
 use lib.ListN.{length, getD}
-use Rattle.sheet.specs.Limits.{sheetLinks, figureContexts}
+use Rattle.rows.specs.Limits.{sheetLinks, figureContexts}
 use Rattle.faults.proofs.Tables.{left-step}
 use Rattle.faults.proofs.contexts.left_at.Statement.{statement}
 use Rattle.faults.proofs.contexts.left_at.Tie as tie

@@ -5,7 +5,7 @@ use mathlib.Core.Path.{_≡_, sym, subst}
 use mathlib.Core.Logic.{⊎-elim}
 use native.Mathlib.Omega.{arith}
 use lib.ListN.{length, getD}
-use Rattle.sheet.specs.Limits.{sheetLinks}
+use Rattle.rows.specs.Limits.{sheetLinks}
 use Rattle.faults.specs.Flags.{portOf, atPort}
 use Rattle.faults.proofs.Tables.{Marked, marked-start, marked-more, marked-skip, flag-as}
 use Rattle.network.specs.NetIn.{contextAt}

@@ -4,7 +4,7 @@ use Prim.Native.Nat.{_*_, _-_, _≤_}
 use mathlib.Core.Path.{_≡_, refl, subst}
 use native.Mathlib.Omega.{arith}
 use lib.ListN.{length, replicate}
-use Rattle.sheet.specs.Limits.{sheetLinks}
+use Rattle.rows.specs.Limits.{sheetLinks}
 use Rattle.faults.specs.Flags.{portOfNumber}
 use Rattle.faults.proofs.Tables.{Marked, marked-start, marked-more, zeros-not}
 use Rattle.faults.proofs.Reading.{marked-only}

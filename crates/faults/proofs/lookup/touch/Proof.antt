@@ -4,7 +4,7 @@ use Prim.Native.Nat.{_+_, _*_, _-_, _≤_}
 use mathlib.Core.Path.{_≡_, subst}
 use native.Mathlib.Omega.{arith}
 use lib.ListN.{length, getD, set, length-set}
-use Rattle.sheet.specs.Limits.{sheetAtoms, sheetLinks}
+use Rattle.rows.specs.Limits.{sheetAtoms, sheetLinks}
 use Rattle.faults.specs.Flags.{atTouch}
 use Rattle.faults.proofs.Tables.{Marked, marked-start, marked-more, store-flag}
 use Rattle.faults.proofs.lookup.touch.Statement.{statement}

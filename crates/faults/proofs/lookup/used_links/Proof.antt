@@ -5,7 +5,7 @@ use mathlib.Core.Path.{_≡_, refl, sym, subst}
 use mathlib.Core.Logic.{⊎-elim}
 use native.Mathlib.Omega.{arith}
 use lib.ListN.{length, getD, set, length-set, replicate}
-use Rattle.sheet.specs.Limits.{sheetLinks}
+use Rattle.rows.specs.Limits.{sheetLinks}
 use Rattle.faults.specs.Flags.{goesTo}
 use Rattle.faults.proofs.Tables.{Marked, marked-start, marked-more, marked-skip, store-flag, zeros-not, flag-as}
 use Rattle.faults.proofs.Reading.{marked-only}

@@ -5,7 +5,7 @@ use mathlib.Core.Path.{sym, subst}
 use mathlib.Core.Logic.{⊎-elim}
 use native.Mathlib.Omega.{arith}
 use lib.ListN.{getD}
-use Rattle.sheet.specs.Limits.{sheetLinks}
+use Rattle.rows.specs.Limits.{sheetLinks}
 use Rattle.faults.specs.Grows.{Sized, Longer}
 use Rattle.faults.specs.Parts.{WithEnds}
 use Rattle.faults.specs.declared.growth.Growth.{Growth}

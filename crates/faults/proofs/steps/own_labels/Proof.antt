@@ -4,7 +4,7 @@ use Prim.Native.Nat.{ℕ, _+_, _-_, _≤_, _<_}
 use mathlib.Core.Path.{_≡_, refl}
 use native.Mathlib.Omega.{arith}
 use lib.ListN.{length, getD}
-use Rattle.sheet.specs.Limits.{sheetLinks}
+use Rattle.rows.specs.Limits.{sheetLinks}
 use Rattle.faults.proofs.Tables.{below-set}
 use Rattle.faults.proofs.steps.own_labels.Statement.{statement}
 use Rattle.faults.proofs.steps.own_labels.Tie as tie

@@ -3,8 +3,8 @@ use borrow.Author.Needs.{needs}
 use native.Mathlib.Omega.{arith}
 use Prim.Native.Nat.{_≤_}
 use mathlib.Core.Path.{refl, sym, _∙_, subst}
-use Rattle.sheet.specs.Limits.{figureContexts}
-use Rattle.sheet.specs.declared.Sheet.{Sheet}
+use Rattle.rows.specs.Limits.{figureContexts}
+use Rattle.rows.specs.declared.Sheet.{Sheet}
 use Rattle.sheet.specs.declared.kind.Kind.the-variants.{Figure}
 use Rattle.filling.specs.Fill.{figureHeld}
 use Rattle.filling.specs.Parts.{Counted}
@@ -33,22 +33,22 @@ returns-2 c = let d = c .before in
     let s = f .before .before .before in
     (λ T q. says-differing (s .args .figure) (s .args .heads) (s .args .list .now) (s .pre .0 .1) (f .first-lacking .result) (f .first-lacking .ensures) T q (d .before .if1 .left) (d .first-differing .result) (d .first-differing .ensures) (c .if2 .taken), λ T q. refl)
 
-filled-normal-requires : tie.Need-filled-normal-requires
-filled-normal-requires c κs = c .before .before .before .before .before .before .pre .0 .0
+normal-filled-requires : tie.Need-normal-filled-requires
+normal-filled-requires c κs = c .before .before .before .before .before .before .pre .0 .0
 
 returns-3 : tie.Need-returns-3
 returns-3 c = let b = c .before .before in
     let d = b .before .before in
     let f = d .before .before in
     let s = f .before .before .before in
-    (λ T q. says-many (s .args .figure) (s .args .heads) (s .args .list .now) (s .pre .0 .1) (f .first-lacking .result) (f .first-lacking .ensures) T q (d .before .if1 .left) (d .first-differing .result) (d .first-differing .ensures) (b .before .if2 .left) (b .filled-normal .result) (b .filled-normal .ensures) (c .if3 .taken), λ T q. refl)
+    (λ T q. says-many (s .args .figure) (s .args .heads) (s .args .list .now) (s .pre .0 .1) (f .first-lacking .result) (f .first-lacking .ensures) T q (d .before .if1 .left) (d .first-differing .result) (d .first-differing .ensures) (b .before .if2 .left) (b .normal-filled .result) (b .normal-filled .ensures) (c .if3 .taken), λ T q. refl)
 
 returns-4 : tie.Need-returns-4
 returns-4 c = let b = c .before .before .before .before in
     let d = b .before .before in
     let f = d .before .before in
     let s = f .before .before .before in
-    (λ T q. says-wide (s .args .figure) (s .args .heads) (s .args .list .now) (s .pre .0 .1) (f .first-lacking .result) (f .first-lacking .ensures) T q (d .before .if1 .left) (d .first-differing .result) (d .first-differing .ensures) (b .before .if2 .left) (b .filled-normal .result) (b .filled-normal .ensures) (c .if4 .taken), λ T q. refl)
+    (λ T q. says-wide (s .args .figure) (s .args .heads) (s .args .list .now) (s .pre .0 .1) (f .first-lacking .result) (f .first-lacking .ensures) T q (d .before .if1 .left) (d .first-differing .result) (d .first-differing .ensures) (b .before .if2 .left) (b .normal-filled .result) (b .normal-filled .ensures) (c .if4 .taken), λ T q. refl)
 
 write-normal-requires : tie.Need-write-normal-requires
 write-normal-requires c κs = let b = c .before .before .before .before .before in
@@ -57,7 +57,7 @@ write-normal-requires c κs = let b = c .before .before .before .before .before 
     let s = f .before .before .before in
     let T = s .pre .0 .0 .0 in
     let q = s .pre .0 .0 .1 in
-    let w = says-writable (s .args .figure) (s .args .heads) (s .args .list .now) (s .pre .0 .1) (f .first-lacking .result) (f .first-lacking .ensures) T q (d .before .if1 .left) (d .first-differing .result) (d .first-differing .ensures) (b .before .if2 .left) (b .filled-normal .result) (b .filled-normal .ensures) (c .before .before .before .if3 .left) (c .before .if4 .left) in
+    let w = says-writable (s .args .figure) (s .args .heads) (s .args .list .now) (s .pre .0 .1) (f .first-lacking .result) (f .first-lacking .ensures) T q (d .before .if1 .left) (d .first-differing .result) (d .first-differing .ensures) (b .before .if2 .left) (b .normal-filled .result) (b .normal-filled .ensures) (c .before .before .before .if3 .left) (c .before .if4 .left) in
     (w .0, omega (arith, w .1, s .pre .1))
 
 same-length : tie.Need-same-length
@@ -70,8 +70,8 @@ returns-5 c = let w = c .before .before in
     let d = b .before .before in
     let f = d .before .before in
     let s = f .before .before .before in (
-      λ T q. says-written (s .args .figure) (s .args .heads) (s .args .list .now) (s .pre .0 .1) (f .first-lacking .result) (f .first-lacking .ensures) T q (d .before .if1 .left) (d .first-differing .result) (d .first-differing .ensures) (b .before .if2 .left) (b .filled-normal .result) (b .filled-normal .ensures) (e .before .before .if3 .left) (e .if4 .left) (w .write-normal .result) (w .write-normal .ensures .0),
-      λ T q. w .write-normal .ensures .1 ∙ says-slip (s .args .figure) (s .args .heads) (s .args .list .now) (s .pre .0 .1) (f .first-lacking .result) (f .first-lacking .ensures) T q (d .before .if1 .left) (d .first-differing .result) (d .first-differing .ensures) (b .before .if2 .left) (b .filled-normal .result) (b .filled-normal .ensures) (e .before .before .if3 .left) (e .if4 .left) (w .write-normal .result) (w .write-normal .ensures .0) (s .args .out .now),
+      λ T q. says-written (s .args .figure) (s .args .heads) (s .args .list .now) (s .pre .0 .1) (f .first-lacking .result) (f .first-lacking .ensures) T q (d .before .if1 .left) (d .first-differing .result) (d .first-differing .ensures) (b .before .if2 .left) (b .normal-filled .result) (b .normal-filled .ensures) (e .before .before .if3 .left) (e .if4 .left) (w .write-normal .result) (w .write-normal .ensures .0),
+      λ T q. w .write-normal .ensures .1 ∙ says-slip (s .args .figure) (s .args .heads) (s .args .list .now) (s .pre .0 .1) (f .first-lacking .result) (f .first-lacking .ensures) T q (d .before .if1 .left) (d .first-differing .result) (d .first-differing .ensures) (b .before .if2 .left) (b .normal-filled .result) (b .normal-filled .ensures) (e .before .before .if3 .left) (e .if4 .left) (w .write-normal .result) (w .write-normal .ensures .0) (s .args .out .now),
     )
 
 pub fill-read-spec : {M : Type 1} → statement M
@@ -82,7 +82,7 @@ fill-read-spec =
     returns
     first-differing-requires
     returns-2
-    filled-normal-requires
+    normal-filled-requires
     returns-3
     returns-4
     write-normal-requires

@@ -4,9 +4,9 @@ use Prim.Native.Nat.{_≤_}
 use mathlib.Core.Path.{sym, subst}
 use mathlib.Core.List.{List}
 use lib.ListN.{getD}
-use Rattle.sheet.specs.Format.{mostLinks}
+use Rattle.rows.specs.Format.{mostLinks}
+use Rattle.rows.specs.declared.Atom.{Atom}
 use Rattle.sheet.specs.NormalRows.{pastAtoms}
-use Rattle.sheet.specs.declared.Atom.{Atom}
 use Rattle.filling.proofs.Making.{shown-linked, made}
 use Rattle.filling.proofs.filled.filled.Statement.{statement}
 use Rattle.filling.proofs.filled.filled.Tie as tie

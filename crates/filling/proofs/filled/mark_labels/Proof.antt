@@ -5,12 +5,12 @@ use Prim.Native.Nat.{_≤_, _+_, _-_}
 use mathlib.Core.Path.{_≡_, refl, _∙_, ap}
 use mathlib.Core.List.{map}
 use lib.ListN.{length, getD, take, length-set}
-use Rattle.sheet.specs.Limits.{sheetMarks}
-use Rattle.sheet.specs.Packed.{padded}
-use Rattle.sheet.proofs.Padding.{stored-next}
+use Rattle.rows.specs.Limits.{sheetMarks}
+use Rattle.rows.specs.Packed.{padded}
+use Rattle.rows.proofs.Padding.{stored-next}
 use lib.ListN.{length-map}
 use lib.Seq.{length-take-le}
-use Rattle.sheet.proofs.NormalWritten.{taken-padded}
+use Rattle.sheet.proofs.normal_text.NormalWritten.{taken-padded}
 use Rattle.filling.specs.Parts.{places}
 use Rattle.filling.specs.Classes.{markLabels}
 use Rattle.filling.proofs.filled.mark_labels.Statement.{statement}

@@ -6,10 +6,10 @@ use mathlib.Core.Path.{_≡_, refl, sym, _∙_, ap}
 use lib.ListN.{length, getD, take, drop}
 use mathlib.Core.Path.{subst}
 use mathlib.Core.List.{List}
-use Rattle.sheet.specs.Limits.{figureContexts}
+use Rattle.rows.specs.Limits.{figureContexts}
 use Rattle.sheet.specs.NormalRows.{pastContexts}
 use Rattle.sheet.specs.declared.normal.Normal.{Normal}
-use Rattle.sheet.proofs.Numbered.{unmapped}
+use Rattle.sheet.proofs.normal.Numbered.{unmapped}
 use Rattle.filling.specs.Parts.{partRoom}
 use Rattle.filling.specs.Glued.{joinedAll, portPairs, allPairs}
 use Rattle.filling.proofs.Parts.{part-low}

@@ -5,8 +5,8 @@ use Prim.Native.Nat.{_≤_, _<_, _-_}
 use mathlib.Core.Path.{_≡_, _∙_}
 use lib.ListN.{length, getD, length-set}
 use mathlib.Core.Logic.{⊎-elim}
-use Rattle.sheet.specs.Held.{relabelled}
-use Rattle.sheet.proofs.Lists.{mapped, relabel-hit, relabel-miss}
+use Rattle.rows.specs.Held.{relabelled}
+use Rattle.rows.proofs.Lists.{mapped, relabel-hit, relabel-miss}
 use Rattle.filling.specs.Parts.{places}
 use Rattle.filling.proofs.Loops.{mapped-whole}
 use Rattle.filling.proofs.glue.merged.Statement.{statement}

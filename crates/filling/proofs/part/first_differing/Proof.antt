@@ -6,10 +6,10 @@ use mathlib.Core.Path.{_≡_, refl, sym, _∙_, ap}
 use lib.ListN.{length, getD, take, drop}
 use mathlib.Core.Path.{subst}
 use mathlib.Core.Bool.{true, false}
-use Rattle.sheet.specs.Limits.{figureContexts, sheetMarks}
+use Rattle.rows.specs.Limits.{figureContexts, sheetMarks}
 use Rattle.sheet.specs.NormalRows.{pastContexts}
 use Rattle.sheet.specs.declared.normal.Normal.{Normal}
-use Rattle.sheet.proofs.Numbered.{unmapped}
+use Rattle.sheet.proofs.normal.Numbered.{unmapped}
 use Rattle.placing.specs.Smallest.{sameList, numbersTo}
 use Rattle.filling.specs.Read.{fillingRead}
 use Rattle.filling.specs.Fill.{firstDiffering, isExact}

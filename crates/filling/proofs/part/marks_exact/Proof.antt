@@ -6,7 +6,7 @@ use mathlib.Core.Path.{_≡_, sym, _∙_, ap}
 use lib.ListN.{length, getD, take, drop}
 use mathlib.Core.Bool.{true, false}
 use borrow.Author.Tests.{eq-eqb, ne-eqb}
-use Rattle.sheet.specs.Limits.{sheetMarks}
+use Rattle.rows.specs.Limits.{sheetMarks}
 use Rattle.placing.specs.Smallest.{sameList, numbersFrom, numbersTo}
 use Rattle.filling.proofs.Loops.{marks-next, marks-end, marks-other}
 use Rattle.filling.proofs.part.marks_exact.Statement.{statement}

@@ -3,7 +3,7 @@ use borrow.Author.Needs.{needs}
 use Prim.Native.Nat.{ℕ}
 use mathlib.Core.Path.{_≡_, ap, _∙_}
 use mathlib.Core.List.{List}
-use Rattle.sheet.specs.Packed.{packed}
+use Rattle.rows.specs.Packed.{packed}
 use Rattle.sheet.specs.Reading.{outcomeOf, readingOf, noPorts}
 use Rattle.sheet.specs.declared.read.Reading.{Reading}
 use Rattle.sheet.specs.declared.kind.Kind.the-variants.{Fillings}

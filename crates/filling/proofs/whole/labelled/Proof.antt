@@ -5,9 +5,9 @@ use Prim.Native.Nat.{_≤_, _-_}
 use mathlib.Core.Path.{_≡_, refl}
 use mathlib.Core.List.{map}
 use lib.ListN.{length, getD, take, length-set}
-use Rattle.sheet.specs.Format.{mostLinks}
-use Rattle.sheet.specs.Packed.{padded}
-use Rattle.sheet.proofs.Padding.{stored-next}
+use Rattle.rows.specs.Format.{mostLinks}
+use Rattle.rows.specs.Packed.{padded}
+use Rattle.rows.proofs.Padding.{stored-next}
 use Rattle.filling.specs.Parts.{places}
 use Rattle.filling.specs.Glued.{placeOf}
 use Rattle.filling.proofs.whole.labelled.Statement.{statement}

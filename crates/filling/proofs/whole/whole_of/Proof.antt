@@ -7,11 +7,11 @@ use lib.ListN.{length, getD, take, drop}
 use mathlib.Core.Path.{subst}
 use mathlib.Core.List.{List, _++_, append-nil, append-assoc}
 use lib.ListN.{length-take}
-use Rattle.sheet.specs.Limits.{sheetAtoms, figureContexts}
+use Rattle.rows.specs.Limits.{sheetAtoms, figureContexts}
+use Rattle.rows.specs.declared.Atom.{Atom}
 use Rattle.sheet.specs.NormalRows.{pastContexts}
-use Rattle.sheet.specs.declared.Atom.{Atom}
 use Rattle.sheet.specs.declared.normal.Normal.{Normal}
-use Rattle.sheet.proofs.Numbered.{unmapped}
+use Rattle.sheet.proofs.normal.Numbered.{unmapped}
 use Rattle.filling.specs.Parts.{partNormal, Low}
 use Rattle.filling.specs.Whole.{partAtoms, contextAtoms, roomFor, wholeAtoms}
 use Rattle.filling.proofs.Parts.{part-low}

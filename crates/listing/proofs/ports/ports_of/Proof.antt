@@ -5,9 +5,9 @@ use mathlib.Core.Path.{_≡_, refl}
 use mathlib.Core.List.{map}
 use native.Mathlib.Omega.{arith}
 use lib.ListN.{length, take}
-use Rattle.sheet.specs.Format.{mostLinks}
-use Rattle.sheet.specs.Packed.{padded}
-use Rattle.sheet.proofs.Padding.{stored-next}
+use Rattle.rows.specs.Format.{mostLinks}
+use Rattle.rows.specs.Packed.{padded}
+use Rattle.rows.proofs.Padding.{stored-next}
 use Rattle.listing.specs.Writing.{standsAt}
 use Rattle.listing.proofs.ports.ports_of.Statement.{statement}
 use Rattle.listing.proofs.ports.ports_of.Tie as tie

@@ -4,7 +4,7 @@ use mathlib.Core.Path.{refl, ap, sym, _∙_}
 use Rattle.sheet.specs.Reading.{noPorts}
 use Rattle.sheet.specs.declared.kind.Kind.the-variants.{Plain}
 use Rattle.sheet.specs.declared.read.Reading.{Reading}
-use Rattle.sheet.proofs.NormalReady.{numberable-read, normal-read}
+use Rattle.sheet.proofs.normal.NormalReady.{numberable-read, normal-read}
 use Rattle.matching.proofs.Comparing.{first-refused, second-refused, ready-read, both-passed}
 use Rattle.matching.proofs.compare.compare.Statement.{statement}
 use Rattle.matching.proofs.compare.compare.Tie as tie

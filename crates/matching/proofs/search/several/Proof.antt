@@ -2,7 +2,7 @@
 use borrow.Author.Needs.{needs}
 use Prim.Native.Nat.{ℕ, _≤_, _-_}
 use native.Mathlib.Omega.{arith}
-use Rattle.sheet.specs.Limits.{sheetAtoms}
+use Rattle.rows.specs.Limits.{sheetAtoms}
 use Rattle.matching.proofs.search.several.Statement.{statement}
 use Rattle.matching.proofs.search.several.Tie as tie
 

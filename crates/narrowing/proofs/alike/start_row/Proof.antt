@@ -5,7 +5,7 @@ use Prim.Native.Nat.{_≤_, _-_, _<_}
 use mathlib.Core.Path.{_≡_, refl}
 use mathlib.Core.Logic.{⊎-elim}
 use borrow.Author.Tests.{not-true}
-use Rattle.sheet.specs.Limits.{sheetAtoms}
+use Rattle.rows.specs.Limits.{sheetAtoms}
 use Rattle.placing.proofs.FirstLaws.{both-ways}
 use Rattle.network.specs.NetIn.{atomAt}
 use Rattle.narrowing.specs.Tables.{Stays}

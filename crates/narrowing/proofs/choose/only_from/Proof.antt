@@ -3,7 +3,7 @@ use borrow.Author.Needs.{needs}
 use Prim.Native.Nat.{_≤_, _-_}
 use mathlib.Core.Path.{_≡_, refl}
 use mathlib.Core.Logic.{⊎-elim}
-use Rattle.sheet.specs.Limits.{sheetAtoms}
+use Rattle.rows.specs.Limits.{sheetAtoms}
 use Rattle.narrowing.specs.Tables.{Stays}
 use Rattle.narrowing.proofs.Staying.{stays-clear}
 use Rattle.narrowing.proofs.choose.only_from.Statement.{statement}

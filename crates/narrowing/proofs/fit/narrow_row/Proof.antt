@@ -1,31 +1,25 @@
 -- Invariant: what fits stays marked.
-use native.Mathlib.Omega.{arith}
-use borrow.Author.Needs.{needs}
 use Prim.Native.Nat.{_≤_, _-_, _<_}
-use mathlib.Core.Path.{_≡_, refl}
-use mathlib.Core.Logic.{⊎-elim}
-use borrow.Author.Tests.{not-true}
-use Rattle.sheet.specs.Limits.{sheetAtoms}
-use Rattle.placing.proofs.FirstLaws.{both-ways}
-use Rattle.network.specs.NetIn.{atomAt}
-use Rattle.narrowing.specs.Tables.{Stays}
-use Rattle.narrowing.specs.Steps.{Fitting}
-use Rattle.narrowing.proofs.Staying.{stays-clear}
 use Rattle.narrowing.proofs.NetRows.{row-wider}
+use Rattle.narrowing.proofs.Staying.{stays-clear}
+use Rattle.narrowing.specs.Steps.{Fitting}
+use Rattle.narrowing.specs.Tables.{Stays}
+use Rattle.network.specs.NetIn.{atomAt}
+use Rattle.placing.proofs.FirstLaws.{both-ways}
+use Rattle.rows.specs.Limits.{sheetAtoms}
+use borrow.Author.Needs.{needs}
+use borrow.Author.Tests.{not-true}
+use mathlib.Core.Logic.{⊎-elim}
+use mathlib.Core.Path.{_≡_, refl}
+use native.Mathlib.Omega.{arith}
 use Rattle.narrowing.proofs.fit.narrow_row.Statement.{statement}
 use Rattle.narrowing.proofs.fit.narrow_row.Tie as tie
 
 abbrev Inv-loop : tie.InvT-loop
-Inv-loop i atoms₀ links sheet here changed₀ t₀ atoms changed t = (t ≤ sheet .«atom_count») × Stays sheetAtoms atoms₀ atoms (λ j u. j ≡ i → u < sheet .«atom_count» → Fitting here (atomAt sheet u) links)
+Inv-loop here i forced atoms₀ links sheet changed₀ t₀ atoms changed t = (t ≤ sheet .«atom_count») × Stays sheetAtoms atoms₀ atoms (λ j u. j ≡ i → u < sheet .«atom_count» → Fitting here (atomAt sheet u) links)
 
 abbrev μ-loop : tie.MeasureT-loop
-μ-loop i atoms₀ links sheet here changed₀ t₀ atoms changed t = sheet .«atom_count» - t
-
-mul-here : tie.Need-mul-here Inv-loop μ-loop
-mul-here c = search needs
-
-element-copy-out-here : tie.Need-element-copy-out-here Inv-loop μ-loop
-element-copy-out-here c = search needs
+μ-loop here i forced atoms₀ links sheet changed₀ t₀ atoms changed t = sheet .«atom_count» - t
 
 loop-holds : tie.Need-loop-holds Inv-loop μ-loop
 loop-holds c = (search needs, λ j u h m p. m)
@@ -47,8 +41,8 @@ element-copy-out-there c = search needs
 
 fits-requires : tie.Need-fits-requires Inv-loop μ-loop
 fits-requires c κs = let l = c .before .before .before .before in
-    let s = l .before .before in
-    (row-wider (s .pre .1 .atoms (s .args .i) (s .pre .2)) (s .pre .1 .class-count), row-wider (s .pre .0 .atoms (l .loop .t) (c .before .before .before .loop-test .taken)) (s .pre .0 .class-count))
+    let s = l .before in
+    (s .pre .1, row-wider (s .pre .0 .atoms (l .loop .t) (c .before .before .before .loop-test .taken)) (s .pre .0 .class-count))
 
 element-write-atoms : tie.Need-element-write-atoms Inv-loop μ-loop
 element-write-atoms c = search needs
@@ -61,10 +55,10 @@ loop-less c = search needs
 
 loop-again : tie.Need-loop-again Inv-loop μ-loop
 loop-again c = let l = c .before .before .before in
-    let s = l .before .before in
+    let s = l .before in
     let h = c .before .before .loop-test .taken in
     ⊎-elim
-    (λ w. (search needs, rw (w .4) (stays-clear sheetAtoms (s .args .atoms .now) (l .loop .atoms) (λ j u. j ≡ s .args .i → u < s .args .t1 .«atom_count» → Fitting (atomAt (s .args .t2) (s .args .i)) (atomAt (s .args .t1) u) (s .args .links .now)) (l .loop .inv .1) (s .args .i) (l .loop .t) (omega (arith, h, s .pre .0 .atom-count)) (λ f. both-ways (w .2 .ensures (f refl h)) (not-true _ (w .3 .taken))))))
+    (λ w. (search needs, rw (w .4) (stays-clear sheetAtoms (s .args .atoms .now) (l .loop .atoms) (λ j u. j ≡ s .args .i → u < s .args .t1 .«atom_count» → Fitting (s .args .here) (atomAt (s .args .t1) u) (s .args .links .now)) (l .loop .inv .1) (s .args .i) (l .loop .t) (omega (arith, h, s .pre .0 .atom-count)) (λ f. both-ways (w .2 .ensures (f refl h)) (not-true _ (w .3 .taken))))))
     (λ w. ⊎-elim (λ v. (search needs, rw (v .4) (l .loop .inv .1))) (λ v. (search needs, rw (v .1) (l .loop .inv .1))) w)
     (c .if1 .came)
 
@@ -77,8 +71,6 @@ narrow-row-spec =
     (tie.spec
     Inv-loop
     μ-loop
-    mul-here
-    element-copy-out-here
     loop-holds
     mul-at
     add-at

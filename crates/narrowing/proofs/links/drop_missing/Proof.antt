@@ -1,19 +1,19 @@
 -- Invariant: what is not missing stays marked.
-use borrow.Author.Needs.{needs}
 use Prim.Native.Nat.{_≤_, _-_}
-use mathlib.Core.Path.{_≡_, refl}
-use mathlib.Core.Logic.{⊎-elim}
-use Rattle.sheet.specs.Limits.{sheetLinks}
-use Rattle.narrowing.specs.Tables.{Cleared, Stays}
 use Rattle.narrowing.proofs.Staying.{stays-put}
+use Rattle.narrowing.specs.Tables.{Cleared, Stays}
+use Rattle.rows.specs.Limits.{sheetLinks}
+use borrow.Author.Needs.{needs}
+use mathlib.Core.Logic.{⊎-elim}
+use mathlib.Core.Path.{_≡_, refl}
 use Rattle.narrowing.proofs.links.drop_missing.Statement.{statement}
 use Rattle.narrowing.proofs.links.drop_missing.Tie as tie
 
 abbrev Inv-loop : tie.InvT-loop
-Inv-loop x k missing links₀ y₀ links y = (y ≤ sheetLinks) × Stays sheetLinks links₀ links (λ z v. z ≡ x - 1 → Cleared sheetLinks missing k v)
+Inv-loop x k missing links₀ changed₀ y₀ links changed y = (y ≤ sheetLinks) × Stays sheetLinks links₀ links (λ z v. z ≡ x - 1 → Cleared sheetLinks missing k v)
 
 abbrev μ-loop : tie.MeasureT-loop
-μ-loop x k missing links₀ y₀ links y = sheetLinks - y
+μ-loop x k missing links₀ changed₀ y₀ links changed y = sheetLinks - y
 
 loop-holds : tie.Need-loop-holds Inv-loop μ-loop
 loop-holds c = (search needs, λ z v h m p. m)
@@ -49,11 +49,12 @@ loop-less : tie.Need-loop-less Inv-loop μ-loop
 loop-less c = search needs
 
 loop-again : tie.Need-loop-again Inv-loop μ-loop
-loop-again c = let l = c .before .before .before .before in
-    let s = l .before .args in (
+loop-again c = let l = c .before .before .before .before .before in
+    let s = l .before .args in
+    let d = c .before in (
       search needs,
-      stays-put sheetLinks (s .links .now) (l .loop .links) (λ z v. z ≡ s .x - 1 → Cleared sheetLinks (s .missing .now) (s .k) v) (l .loop .inv .1) (s .x - 1) (l .loop .y) (c .before .before .before .loop-test .taken) (c .if1 .kept)
-          (λ f m. ⊎-elim (λ w. rw (w .1) m) (λ w. absurd (w .0 .left (f refl))) (c .if1 .came)),
+      stays-put sheetLinks (s .links .now) (l .loop .links) (λ z v. z ≡ s .x - 1 → Cleared sheetLinks (s .missing .now) (s .k) v) (l .loop .inv .1) (s .x - 1) (l .loop .y) (c .before .before .before .before .loop-test .taken) (d .if1 .kept)
+          (λ f m. ⊎-elim (λ w. rw (w .1) m) (λ w. absurd (w .0 .left (f refl))) (d .if1 .came)),
     )
 
 returns : tie.Need-returns Inv-loop μ-loop

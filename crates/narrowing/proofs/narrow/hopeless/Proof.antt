@@ -1,5 +1,5 @@
 -- An empty row leaves no good placing.
-use Rattle.narrowing.proofs.Passes.{atom-hopeless, place-hopeless, mark-hopeless}
+use Rattle.narrowing.proofs.Passes.{atom-hopeless, mark-hopeless}
 use borrow.Author.Needs.{needs}
 use Rattle.narrowing.proofs.narrow.hopeless.Statement.{statement}
 use Rattle.narrowing.proofs.narrow.hopeless.Tie as tie
@@ -8,29 +8,18 @@ atom-lost-requires : tie.Need-atom-lost-requires
 atom-lost-requires c κs = search needs
 
 returns : tie.Need-returns
-returns c = let s = c .before .before .before .before in
+returns c = let s = c .before .before in
     let f = s .pre in
     let t = c .before .atom-lost .ensures (c .if1 .taken) in
-    λ e pre h. atom-hopeless (s .args .sheet) (s .args .figure) (f .0) (f .1) (f .2) (f .3) pre (s .args .t3 .atoms) (s .args .t3 .links) h (t .0) (t .1) (t .2)
-
-link-lost-requires : tie.Need-link-lost-requires
-link-lost-requires c κs = search needs
-
-returns-2 : tie.Need-returns-2
-returns-2 c = let s = c .before .before .before .before .before .before .before .before in
-    let f = s .pre in
-    let t = c .before .link-lost .ensures (c .if2 .taken) in
-    λ e pre h. place-hopeless (s .args .sheet) (s .args .figure) (f .0) (f .1) (f .2) (f .3) pre (s .args .t3 .atoms) (s .args .t3 .links) h (t .0) (t .2 .0) (t .1) (t .2 .1) (t .2 .2)
+    λ e pre h. atom-hopeless (s .args .sheet) (s .args .figure) (f .0) (f .1) (f .2) (f .3) pre (s .args .atoms .now) (s .args .links .now) h (t .0) (t .1) (t .2)
 
 mark-lost-requires : tie.Need-mark-lost-requires
 mark-lost-requires c κs = search needs
 
-returns-3 : tie.Need-returns-3
-returns-3 c = let s = c .before .before .before .before .before .before .before .before .before .before .before in
+returns-2 : tie.Need-returns-2
+returns-2 c = let s = c .before .before .before in
     let f = s .pre in
-    λ e pre h. let t = c .mark-lost .ensures e in mark-hopeless (s .args .sheet) (s .args .figure) (f .0) (f .1) (f .2) (f .3) pre (s .args .t3 .atoms) (s .args .t3 .links) h (t .0) (t .1) (t .2)
+    λ e pre h. let t = c .mark-lost .ensures e in mark-hopeless (s .args .sheet) (s .args .figure) (f .0) (f .1) (f .2) (f .3) pre (s .args .atoms .now) (s .args .links .now) h (t .0) (t .1) (t .2)
 
 pub hopeless-spec : {M : Type 1} → statement M
-hopeless-spec =
-    tie.close
-    (tie.spec atom-lost-requires returns link-lost-requires returns-2 mark-lost-requires returns-3)
+hopeless-spec = tie.close (tie.spec atom-lost-requires returns mark-lost-requires returns-2)

@@ -1,61 +1,50 @@
 -- Invariant: a good placing in the first sets is in those left.
-use native.Mathlib.Omega.{arith}
+use Rattle.narrowing.proofs.Obeying.{narrowed-keeps}
+use Rattle.narrowing.specs.Steps.{Narrowed}
 use borrow.Author.Needs.{needs}
-use mathlib.Core.Logic.{⊎-elim}
-use Rattle.narrowing.proofs.Obeying.{Narrowed, narrowed-keeps}
-use Rattle.narrowing.proofs.Passes.{pass-narrowed}
 use Rattle.narrowing.proofs.narrow.narrow.Statement.{statement}
 use Rattle.narrowing.proofs.narrow.narrow.Tie as tie
 
 abbrev Inv-loop : tie.InvT-loop
-Inv-loop sheet figure atoms₀ links₀ left₀ atoms links left = Narrowed sheet figure atoms₀ links₀ atoms links
+Inv-loop sheet figure links atoms₀ rows₀ changes₀ left₀ atoms rows changes left = Narrowed sheet figure atoms₀ links atoms rows
 
 abbrev μ-loop : tie.MeasureT-loop
-μ-loop sheet figure atoms₀ links₀ left₀ atoms links left = left
+μ-loop sheet figure links atoms₀ rows₀ changes₀ left₀ atoms rows changes left = left
 
 loop-holds : tie.Need-loop-holds Inv-loop μ-loop
 loop-holds c = λ p g o. o
 
--- after both halves of a pass
-passed : (c : tie.After-narrow-atoms Inv-loop μ-loop) → let s = c .before .before .before .before .before .before .before .before .before .before .args in Narrowed (s .sheet) (s .figure) (s .sets .atoms) (s .sets .links) (c .narrow-atoms .last .1 .1 .0) (c .before .before .before .narrow-links .last .1 .1 .1 .0)
-passed c =
-    let l = c .before .before .before .before .before .before .before in
-    let s = l .before .before .before in
-    let f = s .pre in
-    pass-narrowed (s .args .sheet) (s .args .figure) (f .0) (f .1) (f .2) (f .3) (s .args .sets .atoms) (s .args .sets .links) (l .loop .atoms) (l .loop .links) (c .narrow-atoms .last .1 .1 .0) (c .before .before .before .narrow-links .last .1 .1 .1 .0) (l .loop .inv) (c .before .before .before .narrow-links .ensures) (c .narrow-atoms .ensures)
-
-narrow-links-requires : tie.Need-narrow-links-requires Inv-loop μ-loop
-narrow-links-requires c κs = let f = c .before .before .before .before .before .before .pre in
-    (f .0, f .1)
-
-narrow-atoms-requires : tie.Need-narrow-atoms-requires Inv-loop μ-loop
-narrow-atoms-requires c κs = let f = c .before .before .before .before .before .before .before .before .before .pre in
-    (f .0, f .1)
-
-atom-lost-requires : tie.Need-atom-lost-requires Inv-loop μ-loop
-atom-lost-requires c κs = let f = c .before .before .before .before .before .before .before .before .before .before .before .pre in
-    (f .0, f .1)
-
 sub-left : tie.Need-sub-left Inv-loop μ-loop
 sub-left c = search needs
 
-loop-less : tie.Need-loop-less Inv-loop μ-loop
-loop-less c = omega (arith, c .before .before .before .before .before .before .before .before .before .before .loop-test .taken)
-
-loop-again : tie.Need-loop-again Inv-loop μ-loop
-loop-again c = passed (c .before .before .before .before)
-
-loop-less-2 : tie.Need-loop-less-2 Inv-loop μ-loop
-loop-less-2 c = let h = c .before .before .before .before .before .before .before .before .before .before .loop-test .taken in
-    ⊎-elim (λ w. omega (arith, w .1, h)) (λ w. omega (arith, w .1, h)) (c .before .if1 .came)
-
-loop-again-2 : tie.Need-loop-again-2 Inv-loop μ-loop
-loop-again-2 c = passed (c .before .before .before .before)
+sweep-requires : tie.Need-sweep-requires Inv-loop μ-loop
+sweep-requires c κs = search needs
 
 returns : tie.Need-returns Inv-loop μ-loop
-returns c = let l = c .before in
-    let s = l .before .before .before .args in
-    narrowed-keeps (s .sheet) (s .figure) (s .sets .atoms) (s .sets .links) (l .loop .atoms) (l .loop .links) (l .loop .inv)
+returns c = let l = c .before .before .before .before .before .before in
+    let s = c .before .before .before .before .before .before .before .before .args in
+    let w = c .before .sweep in
+    narrowed-keeps (s .sheet) (s .figure) (s .atoms .now) (s .links .now) (w .last .1 .1 .1 .1 .0) (w .last .1 .1 .1 .1 .1 .0) (λ p g o. w .ensures p g (l .loop .inv p g o))
+
+changed-requires : tie.Need-changed-requires Inv-loop μ-loop
+changed-requires c κs = search needs
+
+returns-2 : tie.Need-returns-2 Inv-loop μ-loop
+returns-2 c = let l = c .before .before .before .before .before .before .before .before .before in
+    let s = c .before .before .before .before .before .before .before .before .before .before .before .args in
+    let w = c .before .before .before .before .sweep in
+    narrowed-keeps (s .sheet) (s .figure) (s .atoms .now) (s .links .now) (w .last .1 .1 .1 .1 .0) (w .last .1 .1 .1 .1 .1 .0) (λ p g o. w .ensures p g (l .loop .inv p g o))
+
+loop-less : tie.Need-loop-less Inv-loop μ-loop
+loop-less c = search needs
+
+loop-again : tie.Need-loop-again Inv-loop μ-loop
+loop-again c = λ p g o. c .before .before .before .before .sweep .ensures p g (c .before .before .before .before .before .before .before .before .before .loop .inv p g o)
+
+returns-3 : tie.Need-returns-3 Inv-loop μ-loop
+returns-3 c = let l = c .before in
+    let s = c .before .before .before .args in
+    narrowed-keeps (s .sheet) (s .figure) (s .atoms .now) (s .links .now) (l .loop .atoms) (l .loop .rows) (l .loop .inv)
 
 pub narrow-spec : {M : Type 1} → statement M
 narrow-spec =
@@ -64,12 +53,11 @@ narrow-spec =
     Inv-loop
     μ-loop
     loop-holds
-    narrow-links-requires
-    narrow-atoms-requires
-    atom-lost-requires
     sub-left
+    sweep-requires
+    returns
+    changed-requires
+    returns-2
     loop-less
     loop-again
-    loop-less-2
-    loop-again-2
-    returns)
+    returns-3)

@@ -5,7 +5,7 @@ use Prim.Native.Nat.{ℕ, _≤_, _-_, _<_}
 use mathlib.Core.Path.{_≡_}
 use borrow.Author.Count.{below-more}
 use lib.ListN.{getD}
-use Rattle.sheet.specs.Limits.{sheetLinks}
+use Rattle.rows.specs.Limits.{sheetLinks}
 use Rattle.placing.specs.Net.{Range}
 use Rattle.narrowing.specs.Tables.{StaysCleared}
 use Rattle.narrowing.proofs.Staying.{zero-there, zero-stays}

@@ -4,7 +4,7 @@ use borrow.Author.Needs.{needs}
 use Prim.Native.Nat.{ℕ, _≤_, _+_, _-_, _<_}
 use mathlib.Core.Path.{_≡_}
 use lib.ListN.{length, getD, take, length-set}
-use Rattle.sheet.specs.Limits.{sheetLinks}
+use Rattle.rows.specs.Limits.{sheetLinks}
 use Rattle.placing.specs.Net.{Range}
 use Rattle.narrowing.specs.Count.{count as times}
 use Rattle.narrowing.specs.Steps.{AllAtMost}

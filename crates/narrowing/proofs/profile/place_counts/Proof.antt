@@ -5,8 +5,8 @@ use Prim.Native.Nat.{ℕ, _≤_, _+_, _-_, _*_, _<_}
 use mathlib.Core.Path.{_≡_}
 use mathlib.Core.List.{[], map}
 use lib.ListN.{getD, take}
-use Rattle.sheet.specs.Format.{mostLinks}
-use Rattle.sheet.specs.Limits.{sheetLinks}
+use Rattle.rows.specs.Format.{mostLinks}
+use Rattle.rows.specs.Limits.{sheetLinks}
 use Rattle.placing.specs.Net.{cellLinks}
 use Rattle.network.specs.NetIn.{atomIn}
 use Rattle.narrowing.specs.Count.{count}

@@ -5,7 +5,7 @@ use mathlib.Core.Path.{_≡_, refl}
 use mathlib.Core.Logic.{⊎-elim}
 use borrow.Author.Tests.{not-true}
 use lib.ListN.{getD}
-use Rattle.sheet.specs.Limits.{sheetLinks}
+use Rattle.rows.specs.Limits.{sheetLinks}
 use Rattle.placing.proofs.FirstLaws.{both-ways}
 use Rattle.narrowing.specs.Tables.{Stays}
 use Rattle.narrowing.specs.Steps.{Enough}

@@ -5,7 +5,7 @@ use Prim.Native.Nat.{_≤_, _+_, _-_}
 use mathlib.Core.Path.{_≡_, refl}
 use mathlib.Core.Logic.{⊎-elim}
 use lib.ListN.{getD}
-use Rattle.sheet.specs.Limits.{sheetLinks}
+use Rattle.rows.specs.Limits.{sheetLinks}
 use Rattle.narrowing.specs.Tables.{Stays}
 use Rattle.narrowing.proofs.Staying.{stays-clear}
 use Rattle.narrowing.proofs.start.only_closed.Statement.{statement}

@@ -4,7 +4,7 @@ use borrow.Author.Needs.{needs}
 use Prim.Native.Nat.{_≤_, _+_, _-_}
 use mathlib.Core.Path.{_≡_}
 use lib.ListN.{getD}
-use Rattle.sheet.specs.Limits.{sheetLinks}
+use Rattle.rows.specs.Limits.{sheetLinks}
 use Rattle.narrowing.specs.Tables.{Stays}
 use Rattle.narrowing.specs.Steps.{MarksOn}
 use Rattle.narrowing.proofs.Staying.{stays-then}

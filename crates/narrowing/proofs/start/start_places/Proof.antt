@@ -4,7 +4,7 @@ use borrow.Author.Needs.{needs}
 use Prim.Native.Nat.{ℕ, _≤_, _+_, _-_, _<_}
 use mathlib.Core.Path.{_≡_, refl, sym, ap}
 use lib.ListN.{getD}
-use Rattle.sheet.specs.Limits.{sheetLinks}
+use Rattle.rows.specs.Limits.{sheetLinks}
 use Rattle.placing.specs.Net.{Range}
 use Rattle.narrowing.specs.Tables.{Stays}
 use Rattle.narrowing.specs.Steps.{Enough, placesOf}

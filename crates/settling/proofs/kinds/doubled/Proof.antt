@@ -4,7 +4,7 @@ use Prim.Native.Nat.{ℕ, _-_, _≤_, _<_}
 use mathlib.Core.Path.{_≡_}
 use native.Mathlib.Omega.{arith}
 use lib.ListN.{length, getD}
-use Rattle.sheet.specs.Limits.{sheetLinks}
+use Rattle.rows.specs.Limits.{sheetLinks}
 use Rattle.settling.specs.Kinds.{doubledBy}
 use Rattle.settling.proofs.KindLaws.{doubled-next}
 use Rattle.settling.proofs.kinds.doubled.Statement.{statement}

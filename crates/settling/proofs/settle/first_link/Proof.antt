@@ -20,11 +20,11 @@ array-write-rest c = omega (arith, c .pre .1, c .pre .0 .ready .figure-fit .clas
 loop-holds : tie.Need-loop-holds Inv-loop μ-loop
 loop-holds c = (omega arith, λ z h. absurd (omega arith))
 
-add-next : tie.Need-add-next Inv-loop μ-loop
-add-next c = omega (arith, c .if1 .taken, c .before .before .before .pre .0 .ready .sheet-fit .class-count)
+add-at : tie.Need-add-at Inv-loop μ-loop
+add-at c = omega (arith, c .if1 .taken, c .before .before .before .pre .0 .ready .sheet-fit .class-count)
 
-cast-next : tie.Need-cast-next Inv-loop μ-loop
-cast-next c = omega (arith, c .if1 .taken, c .before .before .before .pre .0 .ready .sheet-fit .class-count)
+cast-at : tie.Need-cast-at Inv-loop μ-loop
+cast-at c = omega (arith, c .if1 .taken, c .before .before .before .pre .0 .ready .sheet-fit .class-count)
 
 mul-next : tie.Need-mul-next Inv-loop μ-loop
 mul-next c = omega (arith, c .before .before .before .pre .1, c .before .before .before .pre .0 .ready .figure-fit .class-count)
@@ -34,13 +34,7 @@ array-write-next c = omega (arith, c .before .before .before .pre .1, c .before 
 
 completable-requires : tie.Need-completable-requires Inv-loop μ-loop
 completable-requires c κs = let b = c .before .before .before in
-    tables-put (b .args .sheet) (b .args .figure) (now (b .args .touches)) (b .args .kinds) (b .args .to) (b .pre .0) (b .args .x) (c .before .before .loop .y) (b .pre .1) (c .if1 .taken)
-
-add-result : tie.Need-add-result Inv-loop μ-loop
-add-result c = omega (arith, c .before .before .if1 .taken, c .before .before .before .before .before .pre .0 .ready .sheet-fit .class-count)
-
-cast-result : tie.Need-cast-result Inv-loop μ-loop
-cast-result c = omega (arith, c .before .before .if1 .taken, c .before .before .before .before .before .pre .0 .ready .sheet-fit .class-count)
+    (tables-put (b .args .sheet) (b .args .figure) (now (b .args .touches)) (b .args .kinds) (b .args .to) (b .pre .0) (b .args .x) (c .before .before .loop .y) (b .pre .1) (c .if1 .taken), omega (arith, c .if1 .taken))
 
 returns : tie.Need-returns Inv-loop μ-loop
 returns c = let b = c .before .before .before .before .before in
@@ -57,11 +51,11 @@ loop-again : tie.Need-loop-again Inv-loop μ-loop
 loop-again c = let b = c .before .before .before .before .before in
     (omega (arith, c .before .before .if1 .taken), tried-more (b .args .sheet) (b .args .figure) (b .args .taken) (b .args .to) (b .args .x) _ (c .before .before .before .before .loop .y) (c .before .before .before .before .loop .inv .1) (c .before .completable .result) (c .if2 .left) (c .before .completable .ensures))
 
-add-result-2 : tie.Need-add-result-2 Inv-loop μ-loop
-add-result-2 c = omega (arith, c .before .before .loop .inv .0, c .before .before .before .pre .0 .ready .sheet-fit .class-count)
+add-result : tie.Need-add-result Inv-loop μ-loop
+add-result c = omega (arith, c .before .before .loop .inv .0, c .before .before .before .pre .0 .ready .sheet-fit .class-count)
 
-cast-result-2 : tie.Need-cast-result-2 Inv-loop μ-loop
-cast-result-2 c = omega (arith, c .before .before .loop .inv .0, c .before .before .before .pre .0 .ready .sheet-fit .class-count)
+cast-result : tie.Need-cast-result Inv-loop μ-loop
+cast-result c = omega (arith, c .before .before .loop .inv .0, c .before .before .before .pre .0 .ready .sheet-fit .class-count)
 
 returns-2 : tie.Need-returns-2 Inv-loop μ-loop
 returns-2 c = let b = c .before .before .before in
@@ -77,17 +71,15 @@ first-link-spec =
     μ-loop
     array-write-rest
     loop-holds
-    add-next
-    cast-next
+    add-at
+    cast-at
     mul-next
     array-write-next
     completable-requires
-    add-result
-    cast-result
     returns
     add-y
     loop-less
     loop-again
-    add-result-2
-    cast-result-2
+    add-result
+    cast-result
     returns-2)

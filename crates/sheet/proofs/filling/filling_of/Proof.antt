@@ -1,9 +1,9 @@
 -- Where the list passes, the part from the head to the next one; else nothing.
 use borrow.Author.Needs.{needs}
-use mathlib.Core.Path.{_≡_, sym, _∙_, ap}
+use mathlib.Core.Path.{sym, _∙_, ap}
 use mathlib.Core.Bool.{true, false}
 use Rattle.sheet.specs.Filling.{isPassed}
-use Rattle.sheet.proofs.FillingLaws.{filling-part, filling-none, filling-by}
+use Rattle.sheet.proofs.filling.FillingLaws.{filling-part, filling-none, filling-by}
 use Rattle.sheet.proofs.filling.filling_of.Statement.{statement}
 use Rattle.sheet.proofs.filling.filling_of.Tie as tie
 

@@ -8,9 +8,9 @@ use mathlib.Core.Logic.{⊎-elim}
 use native.Mathlib.Omega.{arith}
 use borrow.Author.Tests.{eq-eqb, ne-eqb}
 use lib.ListN.{length, drop}
-use Rattle.sheet.specs.Format.{rowWidth}
+use Rattle.rows.specs.Format.{rowWidth}
 use Rattle.sheet.specs.Filling.{fromHead}
-use Rattle.sheet.proofs.FillingLaws.{head-none, head-other, head-read}
+use Rattle.sheet.proofs.filling.FillingLaws.{head-none, head-other, head-read}
 use Rattle.sheet.proofs.filling.head_at.Statement.{statement}
 use Rattle.sheet.proofs.filling.head_at.Tie as tie
 

@@ -6,7 +6,7 @@ use mathlib.Core.Bool.{true}
 use native.Mathlib.Omega.{arith}
 use borrow.Author.Tests.{eq-eqb}
 use lib.ListN.{length}
-use Rattle.sheet.proofs.FillingLaws.{before-short, before-row, Parted, parted-start, parted-row, parted-end}
+use Rattle.sheet.proofs.filling.FillingLaws.{before-short, before-row, Parted, parted-start, parted-row, parted-end}
 use Rattle.sheet.proofs.filling.rows_end.Statement.{statement}
 use Rattle.sheet.proofs.filling.rows_end.Tie as tie
 

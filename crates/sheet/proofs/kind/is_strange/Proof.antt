@@ -1,8 +1,8 @@
 -- Each way out is one of the cases of the definition.
 use borrow.Author.Needs.{needs}
-use mathlib.Core.Path.{_≡_, sym, _∙_}
+use mathlib.Core.Path.{sym, _∙_}
 use mathlib.Core.Logic.{⊎-elim, inl, inr}
-use Rattle.sheet.proofs.KindLaws.{strange-head, strange-first, strange-blank, strange-rest, Headed}
+use Rattle.sheet.proofs.kind.KindLaws.{strange-head, strange-first, strange-blank, strange-rest, Headed}
 use Rattle.sheet.proofs.kind.is_strange.Statement.{statement}
 use Rattle.sheet.proofs.kind.is_strange.Tie as tie
 

@@ -1,9 +1,8 @@
 -- Each kind by its own line of the definition.
 use borrow.Author.Needs.{needs}
-use mathlib.Core.Path.{_≡_, sym, _∙_}
 use lib.Dec.{eqb}
+use Rattle.rows.proofs.Bools.{not-not}
 use Rattle.sheet.specs.Reading.{clashOf}
-use Rattle.sheet.proofs.KindLaws.{negate}
 use Rattle.sheet.proofs.kind.ports_clash.Statement.{statement}
 use Rattle.sheet.proofs.kind.ports_clash.Tie as tie
 
@@ -42,7 +41,7 @@ returns-3 c = rw (c .enum-told2 .given .1)
 
 returns-4 : tie.Need-returns-4
 unfolding clashOf
-returns-4 c = rw (c .enum-told3 .given .1) (negate (eqb (c .before .before .args .before) 0))
+returns-4 c = rw (c .enum-told3 .given .1) (not-not (eqb (c .before .before .args .before) 0))
 
 returns-5 : tie.Need-returns-5
 unfolding clashOf
@@ -51,7 +50,7 @@ returns-5 c = rw (c .before .enum-told4 .given .1) (c .ports-differ .ensures)
 returns-6 : tie.Need-returns-6
 unfolding clashOf
 returns-6 c = let a = c .before .before .before .before .args in
-    rw (c .before .before .enum-told5 .given .1) (rw (← c .before .ports-differ2 .ensures) (rw (c .if1 .left) (negate (eqb (a .given) (a .ports)))))
+    rw (c .before .before .enum-told5 .given .1) (rw (← c .before .ports-differ2 .ensures) (rw (c .if1 .left) (not-not (eqb (a .given) (a .ports)))))
 
 pub ports-clash-spec : {M : Type 1} → statement M
 ports-clash-spec =

@@ -1,6 +1,6 @@
 -- The class at the mark's place.
 use native.Mathlib.Omega.{arith}
-use Rattle.sheet.proofs.Lists.{index-below}
+use Rattle.rows.proofs.Lists.{index-below}
 use borrow.Author.Needs.{needs}
 use Rattle.sheet.proofs.normal.mark_label.Statement.{statement}
 use Rattle.sheet.proofs.normal.mark_label.Tie as tie

@@ -2,7 +2,7 @@
 use mathlib.Core.Path.{_≡_}
 use native.Mathlib.Omega.{arith}
 use borrow.Author.Needs.{needs}
-use Rattle.sheet.proofs.NormalMade.{numberingOf, normal-made}
+use Rattle.sheet.proofs.normal.NormalMade.{numberingOf, normal-made}
 use Rattle.sheet.proofs.normal.normal_of.Statement.{statement}
 use Rattle.sheet.proofs.normal.normal_of.Tie as tie
 

@@ -5,11 +5,11 @@ use mathlib.Core.Path.{_≡_, refl, sym, _∙_, ap}
 use mathlib.Core.List.{List, []}
 use native.Mathlib.Omega.{arith}
 use lib.ListN.{length, getD, set}
-use Rattle.sheet.specs.Limits.{figureContexts}
+use Rattle.rows.specs.Limits.{figureContexts}
+use Rattle.rows.specs.declared.Context.{Context}
+use Rattle.rows.proofs.Lists.{mapped, mapped-next}
 use Rattle.sheet.specs.Numbering.{contextBy}
-use Rattle.sheet.specs.declared.Context.{Context}
-use Rattle.sheet.proofs.Lists.{mapped, mapped-next}
-use Rattle.sheet.proofs.Numbered.{unmapped}
+use Rattle.sheet.proofs.normal.Numbered.{unmapped}
 use Rattle.sheet.proofs.normal.numbered_contexts.Statement.{statement}
 use Rattle.sheet.proofs.normal.numbered_contexts.Tie as tie
 

@@ -5,12 +5,12 @@ use mathlib.Core.Path.{_≡_, refl}
 use mathlib.Core.List.{map}
 use native.Mathlib.Omega.{arith}
 use lib.ListN.{length, take, getD, length-set}
-use Rattle.sheet.specs.Format.{mostLinks}
-use Rattle.sheet.specs.Limits.{sheetMarks, fillingLinks}
-use Rattle.sheet.specs.Held.{indexOf}
-use Rattle.sheet.specs.Packed.{padded}
+use Rattle.rows.specs.Format.{mostLinks}
+use Rattle.rows.specs.Limits.{sheetMarks, fillingLinks}
+use Rattle.rows.specs.Held.{indexOf}
+use Rattle.rows.specs.Packed.{padded}
+use Rattle.rows.proofs.Padding.{stored-next}
 use Rattle.sheet.specs.Numbering.{markLabelAt}
-use Rattle.sheet.proofs.Padding.{stored-next}
 use Rattle.sheet.proofs.normal.numbered_marks.Statement.{statement}
 use Rattle.sheet.proofs.normal.numbered_marks.Tie as tie
 

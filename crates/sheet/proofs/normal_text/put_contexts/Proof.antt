@@ -4,10 +4,10 @@ use Prim.Native.Nat.{_≤_, _-_, _*_}
 use mathlib.Core.Path.{_≡_, refl, _∙_}
 use native.Mathlib.Omega.{arith}
 use lib.ListN.{length}
-use Rattle.sheet.specs.Format.{rowWidth}
+use Rattle.rows.specs.Format.{rowWidth}
+use Rattle.rows.proofs.RowBytes.{over, over-none}
 use Rattle.sheet.specs.NormalRows.{rowsTo, contextRow}
-use Rattle.sheet.proofs.RowBytes.{over, over-none}
-use Rattle.sheet.proofs.NormalRows.{rows-put, context-width}
+use Rattle.sheet.proofs.normal_text.NormalRows.{rows-put, context-width}
 use borrow.Author.Needs.{needs}
 use Rattle.sheet.proofs.normal_text.put_contexts.Statement.{statement}
 use Rattle.sheet.proofs.normal_text.put_contexts.Tie as tie

@@ -1,7 +1,7 @@
 -- `normal_text::put_linked` meets its contract: one row with the numbers that `row_numbers` lays out. Assumes nothing.
 use mathlib.Core.Path.{_∙_}
 use native.Mathlib.Omega.{arith}
-use Rattle.sheet.proofs.NormalRows.{linked-taken, linked-narrow}
+use Rattle.sheet.proofs.normal_text.NormalRows.{linked-taken, linked-narrow}
 use borrow.Author.Needs.{needs}
 use Rattle.sheet.proofs.normal_text.put_linked.Statement.{statement}
 use Rattle.sheet.proofs.normal_text.put_linked.Tie as tie

@@ -1,8 +1,8 @@
 -- `normal_text::put_mark` meets its contract: one row with two numbers. Assumes nothing.
 use native.Mathlib.Omega.{arith}
 use lib.ListN.{replicate}
-use Rattle.sheet.specs.Format.{mostLinks}
-use Rattle.sheet.proofs.NormalRows.{two-narrow}
+use Rattle.rows.specs.Format.{mostLinks}
+use Rattle.sheet.proofs.normal_text.NormalRows.{two-narrow}
 use borrow.Author.Needs.{needs}
 use Rattle.sheet.proofs.normal_text.put_mark.Statement.{statement}
 use Rattle.sheet.proofs.normal_text.put_mark.Tie as tie

@@ -4,8 +4,8 @@ use mathlib.Core.Path.{_≡_, refl}
 use mathlib.Core.List.{_∷_}
 use native.Mathlib.Omega.{arith}
 use lib.ListN.{length, take, length-set}
-use Rattle.sheet.specs.Format.{mostLinks, fieldCount}
-use Rattle.sheet.proofs.NormalRows.{numbers-next, numbers-all}
+use Rattle.rows.specs.Format.{mostLinks, fieldCount}
+use Rattle.sheet.proofs.normal_text.NormalRows.{numbers-next, numbers-all}
 use borrow.Author.Needs.{needs}
 use Rattle.sheet.proofs.normal_text.row_numbers.Statement.{statement}
 use Rattle.sheet.proofs.normal_text.row_numbers.Tie as tie

@@ -2,8 +2,8 @@
 use Prim.Native.Nat.{_+_, _*_}
 use mathlib.Core.Path.{_≡_, _∙_}
 use native.Mathlib.Omega.{arith}
-use Rattle.sheet.specs.Format.{rowWidth}
-use Rattle.sheet.proofs.NormalRows.{normal-length, normal-put}
+use Rattle.rows.specs.Format.{rowWidth}
+use Rattle.sheet.proofs.normal_text.NormalRows.{normal-length, normal-put}
 use borrow.Author.Needs.{needs}
 use Rattle.sheet.proofs.normal_text.write_normal.Statement.{statement}
 use Rattle.sheet.proofs.normal_text.write_normal.Tie as tie

@@ -4,8 +4,8 @@ use native.Mathlib.Omega.{arith}
 use Rattle.sheet.specs.Reading.{noPorts}
 use Rattle.sheet.specs.declared.read.Reading.{Reading}
 use Rattle.sheet.specs.declared.normalise.Normalised.the-variants.{Written}
-use Rattle.sheet.proofs.NormalReady.{numberable-read, normal-read}
-use Rattle.sheet.proofs.Normalising.{slip-short, slip-refused, slip-written, read-writable}
+use Rattle.sheet.proofs.normal.NormalReady.{numberable-read, normal-read}
+use Rattle.sheet.proofs.normalise.Normalising.{slip-short, slip-refused, slip-written, read-writable}
 use borrow.Author.Needs.{needs}
 use Rattle.sheet.proofs.normalise.normalise.Statement.{statement}
 use Rattle.sheet.proofs.normalise.normalise.Tie as tie

@@ -1,7 +1,6 @@
 -- The last context of the list is the last before the padding.
 use borrow.Author.Needs.{needs}
-use mathlib.Core.Path.{_≡_, sym, _∙_, ap}
-use Rattle.sheet.proofs.Rows.{last-none, last-at}
+use Rattle.sheet.proofs.read.Clashes.{last-none, last-at}
 use Rattle.sheet.proofs.read.last_number.Statement.{statement}
 use Rattle.sheet.proofs.read.last_number.Tie as tie
 

@@ -1,23 +1,20 @@
 -- Invariant: the rows before `at` hold h, whose arrays the sheet has, and what is left decides the outcome.
 use borrow.Author.Needs.{needs}
-use Prim.Native.Nat.{ℕ, _≤_, _<_, _+_, _-_}
+use Prim.Native.Nat.{ℕ, _≤_, _+_, _-_}
 use mathlib.Core.Path.{_≡_, _∙_, sym, refl, ap}
-use mathlib.Core.List.{List}
 use native.Mathlib.Omega.{arith}
 use native.Mathlib.Nat.{add-sub-cancel-left}
 use lib.ListN.{length, take, drop, length-take, length-drop}
-use Rattle.sheet.specs.Format.{rowWidth}
-use Rattle.sheet.specs.Limits.{rowLimit}
-use Rattle.sheet.specs.Row.{rowOf}
-use Rattle.sheet.specs.Held.{Held, nothing, withRow}
-use Rattle.sheet.specs.Packed.{packed}
-use Rattle.sheet.specs.Reading.{firstOf, rowTests, readingOf, settled, passed, outcomeOf, readFrom, refusedAfter}
+use Rattle.rows.specs.Format.{rowWidth}
+use Rattle.rows.specs.Limits.{rowLimit}
+use Rattle.rows.specs.Row.{rowOf}
+use Rattle.rows.specs.Held.{Held, nothing, withRow}
+use Rattle.rows.specs.Packed.{packed}
+use Rattle.sheet.specs.Reading.{firstOf, rowTests, readingOf, settled, passed, readFrom}
 use Rattle.sheet.specs.Filling.{isPassed}
-use Rattle.sheet.specs.declared.row.Row.{Row}
-use Rattle.sheet.specs.declared.read.Reading.{Reading}
-use Rattle.sheet.proofs.Taken.{rowAt}
-use Rattle.sheet.proofs.Room.{within-room, good-ranged}
-use Rattle.sheet.proofs.Walk.{Read, read-start, read-end, read-long, read-short, read-ragged, read-row, read-next, answer-taken, answer-refused}
+use Rattle.sheet.proofs.read.Taken.{rowAt}
+use Rattle.sheet.proofs.read.Room.{within-room, good-ranged}
+use Rattle.sheet.proofs.read.Walk.{Read, read-start, read-end, read-long, read-short, read-ragged, read-row, read-next, answer-taken, answer-refused}
 use Rattle.sheet.proofs.read.read_text.Statement.{statement}
 use Rattle.sheet.proofs.read.read_text.Tie as tie
 

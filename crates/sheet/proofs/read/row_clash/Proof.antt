@@ -1,7 +1,7 @@
 use borrow.Author.Needs.{needs}
-use mathlib.Core.Path.{_≡_, sym, _∙_, ap}
+use mathlib.Core.Path.{_≡_, _∙_}
 use native.Mathlib.Omega.{arith}
-use Rattle.sheet.proofs.Clashes.{clash-head, clash-blank, clash-none}
+use Rattle.sheet.proofs.read.Clashes.{clash-head, clash-blank, clash-none}
 use Rattle.sheet.proofs.read.row_clash.Statement.{statement}
 use Rattle.sheet.proofs.read.row_clash.Tie as tie
 

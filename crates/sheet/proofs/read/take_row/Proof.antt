@@ -1,15 +1,13 @@
 -- Each way out is the verdict that the tests passed so far give.
 use borrow.Author.Needs.{needs}
-use mathlib.Core.Path.{_≡_, sym, _∙_, ap}
+use mathlib.Core.Path.{_≡_, sym, _∙_}
 use mathlib.Core.Bool.{true, false}
-use native.Mathlib.Omega.{arith}
-use borrow.Author.Tests.{lt-ltb, le-ltb, not-true, not-false}
+use borrow.Author.Tests.{not-true, not-false}
+use Rattle.rows.specs.Held.{Held}
+use Rattle.rows.specs.Packed.{packed}
 use Rattle.sheet.specs.declared.answer.Refusal.the-variants.{StrangeRow, BadColumn, Crowded, Joints, Marks, BlankClash}
-use Rattle.sheet.specs.Held.{Held}
-use Rattle.sheet.specs.Packed.{packed}
-use Rattle.sheet.specs.Reading.{Verdict, taken, refused, firstOf, rowTests, strange}
-use Rattle.sheet.specs.Steps.{Wired}
-use Rattle.sheet.proofs.Judged.{refused-here, taken-here, strange-count, verdict-strange, verdict-column, verdict-atoms, verdict-contexts, verdict-links, verdict-marks, verdict-clash, verdict-taken}
+use Rattle.sheet.specs.Reading.{taken, refused, strange}
+use Rattle.sheet.proofs.read.Judged.{refused-here, taken-here, strange-count, verdict-strange, verdict-column, verdict-atoms, verdict-contexts, verdict-links, verdict-marks, verdict-clash, verdict-taken}
 use Rattle.sheet.proofs.read.take_row.Statement.{statement}
 use Rattle.sheet.proofs.read.take_row.Tie as tie
 

@@ -4,7 +4,7 @@ use mathlib.Core.Path.{refl, ap, sym, _∙_}
 use Rattle.sheet.specs.Reading.{noPorts}
 use Rattle.sheet.specs.declared.kind.Kind.the-variants.{Plain}
 use Rattle.sheet.specs.declared.read.Reading.{Reading}
-use Rattle.sheet.proofs.NormalReady.{numberable-read, normal-read}
+use Rattle.sheet.proofs.normal.NormalReady.{numberable-read, normal-read}
 use Rattle.tasks.proofs.ClaimCode.{claim-first, claim-second, claim-third, claim-all}
 use Rattle.tasks.proofs.claim.claim.Statement.{statement}
 use Rattle.tasks.proofs.claim.claim.Tie as tie

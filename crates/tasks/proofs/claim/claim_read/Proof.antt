@@ -31,8 +31,8 @@ returns-2 c =
     let a = t .args in
     λ s f I. says-differing (a .sheet) (a .figure) (a .heads) (a .list .now) (t .pre .1) s f I (l .first-lacking .result) (l .first-lacking .ensures) (e .if1 .left) (d .first-differing .result) (d .first-differing .ensures) (c .if2 .taken)
 
-filled-normal-requires : tie.Need-filled-normal-requires
-filled-normal-requires c κs =
+normal-filled-requires : tie.Need-normal-filled-requires
+normal-filled-requires c κs =
     let t = c .before .before .before .before .before in
     let i = t .pre .0 in
     (i .1 .0, i .1 .1 .of-figure)
@@ -46,7 +46,7 @@ returns-3 c =
     let t = l .before .before in
     let a = t .args in
     λ s f I. says-many (a .sheet) (a .figure) (a .heads) (a .list .now) (t .pre .1) s f I (l .first-lacking .result) (l .first-lacking .ensures) (e .if1 .left) (d .first-differing .result) (d .first-differing .ensures) (n .before .if2 .left)
-    (n .filled-normal .result) (n .filled-normal .ensures) (c .if3 .taken)
+    (n .normal-filled .result) (n .normal-filled .ensures) (c .if3 .taken)
 
 returns-4 : tie.Need-returns-4
 returns-4 c =
@@ -57,7 +57,7 @@ returns-4 c =
     let t = l .before .before in
     let a = t .args in
     λ s f I. says-wide (a .sheet) (a .figure) (a .heads) (a .list .now) (t .pre .1) s f I (l .first-lacking .result) (l .first-lacking .ensures) (e .if1 .left) (d .first-differing .result) (d .first-differing .ensures) (n .before .if2 .left)
-    (n .filled-normal .result) (n .filled-normal .ensures) (c .if4 .taken)
+    (n .normal-filled .result) (n .normal-filled .ensures) (c .if4 .taken)
 
 claim-filled-requires : tie.Need-claim-filled-requires
 claim-filled-requires c κs =
@@ -70,7 +70,7 @@ claim-filled-requires c κs =
     let a = t .args in
     let i = t .pre .0 in
     filled-ready (a .sheet) (a .figure) (a .heads) (a .list .now) (t .pre .1) (i .0) (i .1 .0) (i .1 .1) (l .first-lacking .result) (l .first-lacking .ensures) (e .if1 .left) (d .first-differing .result) (d .first-differing .ensures) (n .before .if2 .left)
-    (n .filled-normal .result) (n .filled-normal .ensures) (m .if3 .left) (c .if4 .left)
+    (n .normal-filled .result) (n .normal-filled .ensures) (m .if3 .left) (c .if4 .left)
 
 returns-5 : tie.Need-returns-5
 returns-5 c =
@@ -84,7 +84,7 @@ returns-5 c =
     let a = t .args in
     λ s f I. c .claim-filled .ensures
     ∙ says-placed (a .sheet) (a .figure) (a .heads) (a .list .now) (t .pre .1) s f I (l .first-lacking .result) (l .first-lacking .ensures) (e .if1 .left) (d .first-differing .result) (d .first-differing .ensures) (n .before .if2 .left)
-    (n .filled-normal .result) (n .filled-normal .ensures) (m .if3 .left) (b .if4 .left)
+    (n .normal-filled .result) (n .normal-filled .ensures) (m .if3 .left) (b .if4 .left)
 
 pub claim-read-spec : {M : Type 1} → statement M
 claim-read-spec =
@@ -94,7 +94,7 @@ claim-read-spec =
     returns
     first-differing-requires
     returns-2
-    filled-normal-requires
+    normal-filled-requires
     returns-3
     returns-4
     claim-filled-requires

@@ -4,7 +4,7 @@ use mathlib.Core.Path.{refl, ap, sym, _∙_}
 use Rattle.sheet.specs.Reading.{noPorts}
 use Rattle.sheet.specs.declared.kind.Kind.the-variants.{Plain, Pattern}
 use Rattle.sheet.specs.declared.read.Reading.{Reading}
-use Rattle.sheet.proofs.NormalReady.{numberable-read, normal-read}
+use Rattle.sheet.proofs.normal.NormalReady.{numberable-read, normal-read}
 use Rattle.tasks.specs.Inputs.{PlaceInputs}
 use Rattle.tasks.proofs.PlaceCode.{place-short, place-first, place-second, place-both}
 use Rattle.tasks.proofs.place.place.Statement.{statement}

@@ -6,7 +6,7 @@ use Prim.Native.Nat.{_+_, _-_, _≤_}
 use mathlib.Core.Path.{_≡_, refl, ap, sym, _∙_}
 use mathlib.Core.Bool.{true, false}
 use lib.ListN.{length, take, drop, getD}
-use Rattle.sheet.specs.Limits.{sheetMarks}
+use Rattle.rows.specs.Limits.{sheetMarks}
 use Rattle.placing.specs.Smallest.{sameList}
 use Rattle.tasks.proofs.SameMarks.{counts-other, marks-next, marks-end}
 use Rattle.tasks.proofs.swap.same_marks.Statement.{statement}

@@ -6,22 +6,22 @@ use Rattle.tasks.proofs.SwapCode.{done-many, done-wide, done-writable, 
 use Rattle.tasks.proofs.swap.write_filled.Statement.{statement}
 use Rattle.tasks.proofs.swap.write_filled.Tie as tie
 
-filled-normal-requires : tie.Need-filled-normal-requires
-filled-normal-requires c κs = let i = c .before .before .pre .0 in (i .0, i .1 .of-figure)
+normal-filled-requires : tie.Need-normal-filled-requires
+normal-filled-requires c κs = let i = c .before .before .pre .0 in (i .0, i .1 .of-figure)
 
 returns : tie.Need-returns
 returns c =
     let n = c .before .before in
     let t = n .before .before .before in
     let a = t .args in
-    (λ T I. done-many (a .figure) (a .list .now) T I (n .filled-normal .result) (n .filled-normal .ensures) (c .if1 .taken), λ T I. refl)
+    (λ T I. done-many (a .figure) (a .list .now) T I (n .normal-filled .result) (n .normal-filled .ensures) (c .if1 .taken), λ T I. refl)
 
 returns-2 : tie.Need-returns-2
 returns-2 c =
     let n = c .before .before .before .before in
     let t = n .before .before .before in
     let a = t .args in
-    (λ T I. done-wide (a .figure) (a .list .now) T I (n .filled-normal .result) (n .filled-normal .ensures) (c .if2 .taken), λ T I. refl)
+    (λ T I. done-wide (a .figure) (a .list .now) T I (n .normal-filled .result) (n .normal-filled .ensures) (c .if2 .taken), λ T I. refl)
 
 write-normal-requires : tie.Need-write-normal-requires
 write-normal-requires c κs =
@@ -30,7 +30,7 @@ write-normal-requires c κs =
     let t = n .before .before .before in
     let a = t .args in
     let i = t .pre .0 in
-    let w = done-writable (a .figure) (a .list .now) (i .0) (i .1) (n .filled-normal .result) (n .filled-normal .ensures) (e .before .before .if1 .left) (e .if2 .left) in
+    let w = done-writable (a .figure) (a .list .now) (i .0) (i .1) (n .normal-filled .result) (n .normal-filled .ensures) (e .before .before .if1 .left) (e .if2 .left) in
     (w .0, omega (arith, w .1, t .pre .1))
 
 same-length : tie.Need-same-length
@@ -43,10 +43,10 @@ returns-3 c =
     let n = e .before .before .before .before in
     let t = n .before .before .before in
     let a = t .args in (
-      λ T I. done-written (a .figure) (a .list .now) T I (n .filled-normal .result) (n .filled-normal .ensures) (e .before .before .if1 .left) (e .if2 .left) (w .write-normal .result) (w .write-normal .ensures .0),
+      λ T I. done-written (a .figure) (a .list .now) T I (n .normal-filled .result) (n .normal-filled .ensures) (e .before .before .if1 .left) (e .if2 .left) (w .write-normal .result) (w .write-normal .ensures .0),
       λ T I. w .write-normal .ensures .1
-          ∙ done-slip (a .figure) (a .list .now) T I (n .filled-normal .result) (n .filled-normal .ensures) (e .before .before .if1 .left) (e .if2 .left) (w .write-normal .result) (w .write-normal .ensures .0) (a .out .now),
+          ∙ done-slip (a .figure) (a .list .now) T I (n .normal-filled .result) (n .normal-filled .ensures) (e .before .before .if1 .left) (e .if2 .left) (w .write-normal .result) (w .write-normal .ensures .0) (a .out .now),
     )
 
 pub write-filled-spec : {M : Type 1} → statement M
-write-filled-spec = tie.close (tie.spec filled-normal-requires returns returns-2 write-normal-requires same-length returns-3)
+write-filled-spec = tie.close (tie.spec normal-filled-requires returns returns-2 write-normal-requires same-length returns-3)

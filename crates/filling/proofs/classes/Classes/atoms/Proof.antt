@@ -4,16 +4,16 @@ use native.Mathlib.Omega.{arith}
 use Prim.Native.Nat.{ℕ, _≤_, _+_, _-_}
 use mathlib.Core.Path.{_≡_, refl, sym, _∙_, ap}
 use lib.ListN.{length, getD, set}
-use Rattle.sheet.specs.Format.{mostLinks}
-use Rattle.sheet.specs.Limits.{sheetAtoms}
+use Rattle.rows.specs.Format.{mostLinks}
+use Rattle.rows.specs.Limits.{sheetAtoms}
 use Rattle.filling.specs.Classes.{seen, numberedAtom}
 use mathlib.Core.Path.{subst}
 use mathlib.Core.List.{List}
 use lib.Seq.{getD-take, length-take-le}
+use Rattle.rows.specs.declared.Atom.{Atom}
+use Rattle.rows.proofs.Lists.{mapped, mapped-next}
 use Rattle.sheet.specs.NormalRows.{pastAtoms}
-use Rattle.sheet.specs.declared.Atom.{Atom}
-use Rattle.sheet.proofs.Lists.{mapped, mapped-next}
-use Rattle.sheet.proofs.Numbered.{unmapped}
+use Rattle.sheet.proofs.normal.Numbered.{unmapped}
 use Rattle.filling.proofs.classes.Classes.atoms.Statement.{statement}
 use Rattle.filling.proofs.classes.Classes.atoms.Tie as tie
 

@@ -5,10 +5,10 @@ use Prim.Native.Nat.{_≤_, _-_}
 use mathlib.Core.Path.{_≡_, refl}
 use mathlib.Core.List.{map}
 use lib.ListN.{length, take, length-set}
-use Rattle.sheet.specs.Format.{mostLinks}
-use Rattle.sheet.specs.Packed.{padded}
+use Rattle.rows.specs.Format.{mostLinks}
+use Rattle.rows.specs.Packed.{padded}
 use Rattle.filling.specs.Classes.{seen, numberIn}
-use Rattle.sheet.proofs.Padding.{stored-next}
+use Rattle.rows.proofs.Padding.{stored-next}
 use Rattle.filling.proofs.classes.Classes.links.Statement.{statement}
 use Rattle.filling.proofs.classes.Classes.links.Tie as tie
 

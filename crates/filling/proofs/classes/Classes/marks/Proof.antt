@@ -5,11 +5,11 @@ use Prim.Native.Nat.{_≤_, _+_, _-_}
 use mathlib.Core.Path.{_≡_, refl}
 use mathlib.Core.List.{map}
 use lib.ListN.{length, take, length-set}
-use Rattle.sheet.specs.Limits.{sheetMarks, sheetLinks}
-use Rattle.sheet.specs.Packed.{padded}
+use Rattle.rows.specs.Limits.{sheetMarks, sheetLinks}
+use Rattle.rows.specs.Packed.{padded}
 use Rattle.filling.specs.Classes.{seen, numberIn}
 use lib.Seq.{length-take-le}
-use Rattle.sheet.proofs.Padding.{stored-next}
+use Rattle.rows.proofs.Padding.{stored-next}
 use Rattle.filling.proofs.classes.Classes.marks.Statement.{statement}
 use Rattle.filling.proofs.classes.Classes.marks.Tie as tie
 

@@ -1,7 +1,7 @@
 -- The place of a label, from 1.
 use borrow.Author.Needs.{needs}
 use native.Mathlib.Omega.{arith}
-use Rattle.sheet.proofs.Lists.{index-below}
+use Rattle.rows.proofs.Lists.{index-below}
 use Rattle.filling.proofs.classes.Classes.number.Statement.{statement}
 use Rattle.filling.proofs.classes.Classes.number.Tie as tie
 

@@ -4,14 +4,14 @@ use native.Mathlib.Omega.{arith}
 use Prim.Native.Nat.{_≤_, _+_, _-_}
 use mathlib.Core.Path.{_≡_, refl, sym, _∙_, ap}
 use lib.ListN.{length, take, drop}
-use Rattle.sheet.specs.Format.{mostLinks}
-use Rattle.sheet.specs.Limits.{sheetAtoms, sheetLinks}
+use Rattle.rows.specs.Format.{mostLinks}
+use Rattle.rows.specs.Limits.{sheetAtoms, sheetLinks}
 use Rattle.filling.specs.Classes.{seen, withLabels, linksIn}
 use mathlib.Core.Path.{subst}
 use lib.Seq.{getD-take}
+use Rattle.rows.specs.declared.Atom.{Atom}
 use Rattle.sheet.specs.NormalRows.{pastAtoms}
-use Rattle.sheet.specs.declared.Atom.{Atom}
-use Rattle.sheet.proofs.Numbered.{unmapped}
+use Rattle.sheet.proofs.normal.Numbered.{unmapped}
 use Rattle.filling.specs.Whole.{wholeAtoms}
 use Rattle.filling.proofs.Loops.{links-next, links-end}
 use Rattle.filling.proofs.classes.Classes.with_atoms.Statement.{statement}

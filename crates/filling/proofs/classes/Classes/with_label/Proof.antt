@@ -3,7 +3,7 @@ use borrow.Author.Needs.{needs}
 use Prim.Native.Nat.{_+_, _-_}
 use mathlib.Core.Path.{_≡_, sym, _∙_}
 use lib.ListN.{length}
-use Rattle.sheet.specs.Limits.{sheetLinks}
+use Rattle.rows.specs.Limits.{sheetLinks}
 use Rattle.filling.specs.Classes.{seen}
 use Rattle.filling.proofs.Loops.{label-new, label-full, label-old, one-label}
 use Rattle.filling.proofs.classes.Classes.with_label.Statement.{statement}

@@ -4,7 +4,7 @@ use native.Mathlib.Omega.{arith}
 use Prim.Native.Nat.{_≤_, _+_, _-_}
 use mathlib.Core.Path.{_≡_, refl, sym, _∙_, ap}
 use lib.ListN.{length, take, drop}
-use Rattle.sheet.specs.Limits.{sheetMarks, sheetLinks}
+use Rattle.rows.specs.Limits.{sheetMarks, sheetLinks}
 use Rattle.filling.specs.Classes.{seen, withLabels}
 use Rattle.filling.proofs.Loops.{labels-next, labels-end}
 use Rattle.filling.proofs.classes.Classes.with_marks.Statement.{statement}

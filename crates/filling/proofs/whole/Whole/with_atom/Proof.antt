@@ -3,9 +3,9 @@ use borrow.Author.Needs.{needs}
 use Prim.Native.Nat.{_+_, _-_}
 use mathlib.Core.Path.{_≡_}
 use lib.ListN.{length}
-use Rattle.sheet.specs.Limits.{sheetAtoms}
+use Rattle.rows.specs.Limits.{sheetAtoms}
 use Rattle.filling.proofs.Loops.{room-one, room-full}
-use Rattle.sheet.proofs.Numbered.{unmapped}
+use Rattle.sheet.proofs.normal.Numbered.{unmapped}
 use Rattle.filling.proofs.whole.Whole.with_atom.Statement.{statement}
 use Rattle.filling.proofs.whole.Whole.with_atom.Tie as tie
 

@@ -7,10 +7,10 @@ use mathlib.Core.List.{[], _∷_, map}
 use lib.ListN.{length, getD, take}
 use mathlib.Core.Path.{subst}
 use mathlib.Core.List.{List}
-use Rattle.sheet.specs.Limits.{sheetAtoms}
+use Rattle.rows.specs.Limits.{sheetAtoms}
+use Rattle.rows.specs.declared.Atom.{Atom}
 use Rattle.sheet.specs.NormalRows.{pastAtoms}
-use Rattle.sheet.specs.declared.Atom.{Atom}
-use Rattle.sheet.proofs.Numbered.{unmapped}
+use Rattle.sheet.proofs.normal.Numbered.{unmapped}
 use Rattle.filling.specs.Whole.{labelledAtom, Grown}
 use Rattle.filling.proofs.Loops.{grown-none, grown-then, mapped-next}
 use Rattle.filling.proofs.whole.Whole.with_part.Statement.{statement}

@@ -3,7 +3,7 @@ use borrow.Author.Needs.{needs}
 use Prim.Native.Nat.{_≤_, _+_, _*_, _-_}
 use mathlib.Core.Path.{_≡_, refl, _∙_}
 use native.Mathlib.Omega.{arith}
-use Rattle.sheet.specs.Format.{mostLinks}
+use Rattle.rows.specs.Format.{mostLinks}
 use Rattle.placing.specs.Net.{cellLinks}
 use Rattle.listing.specs.Numbers.{withLinks}
 use Rattle.listing.specs.Writing.{givenAt, givenBelow}

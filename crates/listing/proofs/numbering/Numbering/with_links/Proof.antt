@@ -4,7 +4,7 @@ use Prim.Native.Nat.{_≤_, _+_, _-_}
 use mathlib.Core.Path.{_≡_, refl, _∙_}
 use native.Mathlib.Omega.{arith}
 use lib.ListN.{length, take, getD}
-use Rattle.sheet.specs.Format.{mostLinks}
+use Rattle.rows.specs.Format.{mostLinks}
 use Rattle.listing.specs.Numbers.{withLinks}
 use Rattle.listing.proofs.Appearing.{with-link-count}
 use Rattle.listing.proofs.Steps.{links-next}

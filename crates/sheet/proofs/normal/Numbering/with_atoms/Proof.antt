@@ -5,10 +5,10 @@ use mathlib.Core.Path.{_≡_, refl, sym, _∙_}
 use mathlib.Core.List.{[]}
 use native.Mathlib.Omega.{arith}
 use lib.ListN.{length, take, drop, getD}
-use Rattle.sheet.specs.Limits.{sheetAtoms}
-use Rattle.sheet.specs.declared.Atom.{Atom}
+use Rattle.rows.specs.Limits.{sheetAtoms}
+use Rattle.rows.specs.declared.Atom.{Atom}
 use Rattle.sheet.specs.Numbering.{withClasses, atomLabels}
-use Rattle.sheet.proofs.Numbered.{unmapped, with-links-count, atoms-next, atoms-end}
+use Rattle.sheet.proofs.normal.Numbered.{unmapped, with-links-count, atoms-next, atoms-end}
 use Rattle.sheet.proofs.normal.Numbering.with_atoms.Statement.{statement}
 use Rattle.sheet.proofs.normal.Numbering.with_atoms.Tie as tie
 

@@ -1,5 +1,5 @@
 -- A class without a number gets the next, another keeps its own.
-use Rattle.sheet.proofs.Numbered.{with-class-new, with-class-old}
+use Rattle.sheet.proofs.normal.Numbered.{with-class-new, with-class-old}
 use borrow.Author.Needs.{needs}
 use Rattle.sheet.proofs.normal.Numbering.with_class.Statement.{statement}
 use Rattle.sheet.proofs.normal.Numbering.with_class.Tie as tie

@@ -5,10 +5,10 @@ use mathlib.Core.Path.{_≡_, refl, sym, _∙_}
 use mathlib.Core.List.{[]}
 use native.Mathlib.Omega.{arith}
 use lib.ListN.{length, take, drop, getD}
-use Rattle.sheet.specs.Limits.{figureContexts}
-use Rattle.sheet.specs.declared.Context.{Context}
+use Rattle.rows.specs.Limits.{figureContexts}
+use Rattle.rows.specs.declared.Context.{Context}
 use Rattle.sheet.specs.Numbering.{withClasses, contextLabels}
-use Rattle.sheet.proofs.Numbered.{unmapped, with-links-count, contexts-next, contexts-end}
+use Rattle.sheet.proofs.normal.Numbered.{unmapped, with-links-count, contexts-next, contexts-end}
 use Rattle.sheet.proofs.normal.Numbering.with_contexts.Statement.{statement}
 use Rattle.sheet.proofs.normal.Numbering.with_contexts.Tie as tie
 

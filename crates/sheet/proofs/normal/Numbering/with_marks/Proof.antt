@@ -5,10 +5,10 @@ use mathlib.Core.Path.{_≡_, refl, sym, _∙_, ap}
 use mathlib.Core.List.{map}
 use native.Mathlib.Omega.{arith}
 use lib.ListN.{length, take, drop, getD}
-use Rattle.sheet.specs.Limits.{sheetMarks}
-use Rattle.sheet.specs.Held.{indexOf}
+use Rattle.rows.specs.Limits.{sheetMarks}
+use Rattle.rows.specs.Held.{indexOf}
 use Rattle.sheet.specs.Numbering.{markLabelAt, withClass, withClasses}
-use Rattle.sheet.proofs.Numbered.{with-class-count, classes-next, classes-end}
+use Rattle.sheet.proofs.normal.Numbered.{with-class-count, classes-next, classes-end}
 use Rattle.sheet.proofs.normal.Numbering.with_marks.Statement.{statement}
 use Rattle.sheet.proofs.normal.Numbering.with_marks.Tie as tie
 

@@ -1,0 +1,145 @@
+// The numbers of document 01's table for each task's answer, and the row that a program prints of them.
+pub mod row;
+
+use filling::done::Done;
+use matching::compare::Compared;
+use sheet::answer::Refusal;
+use sheet::normalise::Normalised;
+use tasks::claim::Claimed;
+ghost use mathlib.Core.Path.{_≡_};
+ghost use mathlib.Core.Bool.{false};
+ghost use Rattle.sheet.specs.Answer.{refusalNumber};
+ghost use Rattle.sheet.specs.NormalText.{normalisedNumber, normalisedInput, normalisedRow, normalisedBytes};
+ghost use Rattle.filling.specs.Done.{doneNumber, doneInput, doneRow, doneBytes};
+ghost use Rattle.matching.specs.Compare.{comparedNumber, comparedInput, comparedRow, comparedYes};
+ghost use Rattle.tasks.specs.Claim.{claimedNumber, claimedInput, claimedRow, claimedYes};
+
+// The table's number of an answer, its input and row, and the bytes written.
+pub struct TaskAnswer {
+    pub number: u16,
+    pub input: u16,
+    pub row: usize,
+    pub bytes: usize,
+}
+
+// The table's number of an answer, its input and row, and its yes or no.
+pub struct Verdict {
+    pub number: u16,
+    pub input: u16,
+    pub row: usize,
+    pub yes: bool,
+}
+
+// The refusal's number in the table.
+pub fn refusal_number(why: Refusal) -> u16
+    ensures { λ r. ⌜ r ≡ refusalNumber why ⌝ }
+{
+    match why {
+        Refusal::Ragged => 1,
+        Refusal::StrangeRow => 2,
+        Refusal::BadColumn => 3,
+        Refusal::Long => 4,
+        Refusal::Crowded => 5,
+        Refusal::Joints => 6,
+        Refusal::Marks => 7,
+        Refusal::BlankClash => 8,
+    }
+}
+
+// Done, and these bytes are written.
+fn written(bytes: usize) -> TaskAnswer
+    ensures { λ r. ⌜ r ≡ record { number = 0; input = 0; row = 0; bytes = bytes } ⌝ }
+{
+    TaskAnswer {
+        number: 0,
+        input: 0,
+        row: 0,
+        bytes,
+    }
+}
+
+// A refusal writes nothing.
+fn refused(number: u16, input: u16, row: usize) -> TaskAnswer
+    ensures { λ r. ⌜ r ≡ record { number = number; input = input; row = row; bytes = 0 } ⌝ }
+{
+    TaskAnswer {
+        number,
+        input,
+        row,
+        bytes: 0,
+    }
+}
+
+// What normalising answers.
+pub fn of_normalised(done: Normalised) -> TaskAnswer
+    ensures { λ r. ⌜ r ≡ record { number = normalisedNumber done; input = normalisedInput done; row = normalisedRow done; bytes = normalisedBytes done } ⌝ }
+{
+    match done {
+        Normalised::Written(bytes) => written(bytes),
+        Normalised::ShortSlip => refused(10, 0, 0),
+        Normalised::Refused(why, row) => refused(refusal_number(why), 1, row),
+    }
+}
+
+// What fill, place and swap answer.
+pub fn of_done(done: Done) -> TaskAnswer
+    ensures { λ r. ⌜ r ≡ record { number = doneNumber done; input = doneInput done; row = doneRow done; bytes = doneBytes done } ⌝ }
+{
+    match done {
+        Done::Written(bytes) => written(bytes),
+        Done::ShortSlip => refused(10, 0, 0),
+        Done::Refused(input, why, row) => refused(refusal_number(why), input, row),
+        Done::BlankClash(input, row) => refused(8, input, row),
+        Done::EdgeDiffers(input, row) => refused(9, input, row),
+        Done::NoPlacing => refused(11, 0, 0),
+        Done::TooLarge => refused(12, 0, 0),
+    }
+}
+
+// Done, with this yes or no.
+fn decided(yes: bool) -> Verdict
+    ensures { λ r. ⌜ r ≡ record { number = 0; input = 0; row = 0; yes = yes } ⌝ }
+{
+    Verdict {
+        number: 0,
+        input: 0,
+        row: 0,
+        yes,
+    }
+}
+
+// A refusal says no.
+fn denied(number: u16, input: u16, row: usize) -> Verdict
+    ensures { λ r. ⌜ r ≡ record { number = number; input = input; row = row; yes = false } ⌝ }
+{
+    Verdict {
+        number,
+        input,
+        row,
+        yes: false,
+    }
+}
+
+// What compare answers: yes for the same alone.
+pub fn of_compared(done: Compared) -> Verdict
+    ensures { λ r. ⌜ r ≡ record { number = comparedNumber done; input = comparedInput done; row = comparedRow done; yes = comparedYes done } ⌝ }
+{
+    match done {
+        Compared::Same => decided(true),
+        Compared::Differs => decided(false),
+        Compared::Refused(input, why, row) => denied(refusal_number(why), input, row),
+    }
+}
+
+// What claim answers: yes for a claim that holds alone.
+pub fn of_claimed(claimed: Claimed) -> Verdict
+    ensures { λ r. ⌜ r ≡ record { number = claimedNumber claimed; input = claimedInput claimed; row = claimedRow claimed; yes = claimedYes claimed } ⌝ }
+{
+    match claimed {
+        Claimed::Holds => decided(true),
+        Claimed::Differs => decided(false),
+        Claimed::Refused(input, why, row) => denied(refusal_number(why), input, row),
+        Claimed::BlankClash(input, row) => denied(8, input, row),
+        Claimed::EdgeDiffers(input, row) => denied(9, input, row),
+    }
+}

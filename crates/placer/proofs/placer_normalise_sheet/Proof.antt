@@ -1,0 +1,33 @@
+-- The buffer is as `normalise_sheet` leaves it, and the values are those of its answer.
+use borrow.Author.Needs.{needs}
+use Rattle.placer.proofs.Handed.{normalisedValues, handed}
+use Rattle.placer.proofs.placer_normalise_sheet.Statement.{statement}
+use Rattle.placer.proofs.placer_normalise_sheet.Tie as tie
+
+normalise-sheet-requires : tie.Need-normalise-sheet-requires
+normalise-sheet-requires c κs = search needs
+
+of-normalised-requires : tie.Need-of-normalised-requires
+of-normalised-requires c κs = search needs
+
+hand-out-requires : tie.Need-hand-out-requires
+hand-out-requires c κs = search needs
+
+same-length : tie.Need-same-length
+same-length c = search needs
+
+returns : tie.Need-returns
+returns c =
+    let p = c .before .before .before .before in
+    let q = p .before .before .before .normalise-sheet .ensures in
+    (q .1, handed normalisedValues (c .hand-out .ensures) (p .of-normalised .ensures) (q .0))
+
+pub placer-normalise-sheet-spec : {M : Type 1} → statement M
+placer-normalise-sheet-spec =
+    tie.close
+    (tie.spec
+    normalise-sheet-requires
+    of-normalised-requires
+    hand-out-requires
+    same-length
+    returns)

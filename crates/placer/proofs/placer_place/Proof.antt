@@ -1,0 +1,27 @@
+-- The buffer is as `place` leaves it, and the values are those of its answer.
+use borrow.Author.Needs.{needs}
+use Rattle.placer.proofs.Handed.{doneValues, handed}
+use Rattle.placer.proofs.placer_place.Statement.{statement}
+use Rattle.placer.proofs.placer_place.Tie as tie
+
+place-requires : tie.Need-place-requires
+place-requires c κs = search needs
+
+of-done-requires : tie.Need-of-done-requires
+of-done-requires c κs = search needs
+
+hand-out-requires : tie.Need-hand-out-requires
+hand-out-requires c κs = search needs
+
+same-length : tie.Need-same-length
+same-length c = search needs
+
+returns : tie.Need-returns
+returns c =
+    let p = c .before .before .before .before in
+    let q = p .before .before .before .place .ensures in
+    (q .1, handed doneValues (c .hand-out .ensures) (p .of-done .ensures) (q .0))
+
+pub placer-place-spec : {M : Type 1} → statement M
+placer-place-spec =
+    tie.close (tie.spec place-requires of-done-requires hand-out-requires same-length returns)

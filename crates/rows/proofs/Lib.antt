@@ -1,0 +1,11 @@
+pub mod Bools
+pub mod RowLaws
+pub mod RowRange
+pub mod Wired
+pub mod Lists
+pub mod Padding
+pub mod Arrays
+pub mod Ports
+pub mod Rows
+pub mod TakeRow
+pub mod RowBytes

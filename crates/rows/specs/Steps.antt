@@ -1,0 +1,46 @@
+-- What the steps of taking in a row ask of a `Sheet`, and what they make of it.
+use Prim.Native.Nat.{ℕ, _+_, _<_, _≤_}
+use mathlib.Core.Path.{_≡_}
+use mathlib.Core.List.{List, [], _∷_, _++_}
+use lib.ListN.{length, getD}
+use Rattle.rows.specs.Format.{mostLinks}
+use Rattle.rows.specs.Limits.{sheetAtoms, figureContexts, sheetMarks, fillingLinks}
+use Rattle.rows.specs.Held.{Wiring, Held, contextOf}
+use Rattle.rows.specs.Packed.{packed}
+use Rattle.rows.specs.declared.Sheet.{Sheet}
+use Rattle.rows.specs.declared.row.Row.{Row}
+
+-- each link has its class, and each mark its place, which is a link's
+pub record Wired (w : Wiring) : Type 0 where
+  pub classed : length (w .classes) ≡ length (w .links)
+  pub placed : length (w .marked) ≡ length (w .marks)
+  pub within : (p : ℕ) → p < length (w .marks) → getD (w .marked) p 0 < length (w .links)
+
+-- the sheet t holds what f makes of what the sheet s holds
+abbrev pub Makes : Sheet → Sheet → (Held → Held) → Type 0
+Makes s t f = (h : Held) → Wired (h .wiring) → s ≡ packed h → t ≡ packed (f h)
+
+abbrev pub rewired : Held → Wiring → Held
+rewired h w = record { rows = h .rows; atoms = h .atoms; contexts = h .contexts; fusions = h .fusions; edges = h .edges; wiring = w }
+
+abbrev pub Rewires : Sheet → Sheet → (Wiring → Wiring) → Type 0
+Rewires s t f = Makes s t (λ h. rewired h (f (h .wiring)))
+
+-- a sheet that has room for one row more
+pub record Room (s : Sheet) : Type 0 where
+  pub atoms : s .«atom_count» ≤ sheetAtoms
+  pub contexts : s .«context_count» ≤ figureContexts
+  pub links : s .«link_count» ≤ fillingLinks
+  pub marks : s .«mark_count» ≤ sheetMarks
+  pub places : (p : ℕ) → getD (s .marked) p 0 < fillingLinks
+
+-- a row whose count and number are within the table's ranges, where its letter has them
+pub record Ranged (r : Row) : Type 0 where
+  pub few : r .letter < 2 → getD (r .nums) 1 0 ≤ mostLinks
+  pub context : r .letter ≡ 1 → getD (r .nums) 0 0 < 5
+  pub head : 3 < r .letter → (getD (r .nums) 0 0 < 5) × (getD (r .nums) 1 0 ≤ mostLinks)
+
+-- one context more
+abbrev pub withPorts : Held → List ℕ → ℕ → Held
+withPorts h nums row =
+    record { rows = h .rows; atoms = h .atoms; contexts = h .contexts ++ (contextOf nums row ∷ []); fusions = h .fusions; edges = h .edges; wiring = h .wiring }

@@ -1,0 +1,118 @@
+// Rows of 34 bytes: how one is read and written, and what a text holds of its rows.
+pub mod row;
+pub mod take;
+pub mod write;
+
+ghost use mathlib.Core.Path.{_≡_};
+ghost use Rattle.rows.specs.Held.{nothing};
+ghost use Rattle.rows.specs.Packed.{packed};
+
+// A symbol row: an atom with its name and its links, of which `count` are used.
+pub struct Atom {
+    pub name: u16,
+    pub count: u16,
+    pub links: [u16; Sheet::MOST_LINKS],
+}
+
+// A blank row: a graph context with its number and its ports; `row` is its row, from 1.
+// In a list of fillings, a head: the context that is filled, and its port count.
+pub struct Context {
+    pub number: u16,
+    pub count: u16,
+    pub links: [u16; Sheet::MOST_LINKS],
+    pub row: u16,
+}
+
+// What a text holds. Each array has room for one row more than its limit, since a row is taken in
+// before it is judged. In a list of fillings, links and marks are those of the last filling.
+pub struct Sheet {
+    pub atoms: [Atom; Sheet::ATOM_ROOM],
+    pub atom_count: usize,
+    pub contexts: [Context; Sheet::CONTEXT_ROOM],
+    pub context_count: usize,
+    // For each context number its port count and 1; 0 where no row has that number.
+    pub ports: [u16; Sheet::NUMBERS],
+    // The link numbers in the order in which they first appear.
+    pub links: [u16; Sheet::LINK_ROOM],
+    // The class of each of these links: two have the same number exactly when they are one point.
+    pub classes: [u16; Sheet::LINK_ROOM],
+    pub link_count: usize,
+    // The marks in the order in which they first appear, and the place of each one's link.
+    pub marks: [u16; Sheet::MARK_ROOM],
+    pub marked: [u16; Sheet::MARK_ROOM],
+    pub mark_count: usize,
+}
+
+impl Sheet {
+    // The most links of an atom or a context. The row's width follows from it.
+    pub const MOST_LINKS: usize = 6;
+
+    pub const FIELDS: usize = 2 + Sheet::MOST_LINKS;
+
+    pub const ROW: usize = 2 + 4 * Sheet::FIELDS;
+
+    pub const ROWS: usize = 256;
+
+    // One byte more than the longest text that passes: no later byte changes an answer.
+    pub const TEXT: usize = Sheet::ROWS * Sheet::ROW + 1;
+
+    pub const ATOMS: usize = 64;
+
+    pub const LINKS: usize = 96;
+
+    pub const MARKS: usize = 32;
+
+    pub const FIGURE_ATOMS: usize = 16;
+
+    pub const FIGURE_CONTEXTS: usize = 8;
+
+    pub const FIGURE_LINKS: usize = 32;
+
+    pub const FILLING_LINKS: usize = Sheet::LINKS + Sheet::MOST_LINKS;
+
+    // Context numbers are 1 to 4; 0 is none.
+    pub const NUMBERS: usize = 5;
+
+    pub const ATOM_ROOM: usize = Sheet::ATOMS + 1;
+
+    pub const CONTEXT_ROOM: usize = Sheet::FIGURE_CONTEXTS + 1;
+
+    pub const LINK_ROOM: usize = Sheet::FILLING_LINKS + Sheet::MOST_LINKS;
+
+    pub const MARK_ROOM: usize = Sheet::MARKS + 1;
+
+    // The least length of an output slip.
+    pub const SLIP: usize = 4096;
+
+    pub fn empty() -> Self
+        ensures { λ r. ⌜ r ≡ packed nothing ⌝ }
+    {
+        let links = [0u16; Sheet::MOST_LINKS];
+        let atom = Atom {
+            name: 0,
+            count: 0,
+            links,
+        };
+        let context = Context {
+            number: 0,
+            count: 0,
+            links,
+            row: 0,
+        };
+        let atoms = [atom; Sheet::ATOM_ROOM];
+        let contexts = [context; Sheet::CONTEXT_ROOM];
+        Sheet {
+            atoms,
+            atom_count: 0,
+            contexts,
+            context_count: 0,
+            ports: [0; Sheet::NUMBERS],
+            links: [0; Sheet::LINK_ROOM],
+            classes: [0; Sheet::LINK_ROOM],
+            link_count: 0,
+            marks: [0; Sheet::MARK_ROOM],
+            marked: [0; Sheet::MARK_ROOM],
+            mark_count: 0,
+        }
+    }
+}

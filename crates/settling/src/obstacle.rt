@@ -1,0 +1,34 @@
+// What stands in the way of completing once one more link is settled.
+use faults::TOUCHES;
+use faults::fault::Fault;
+use faults::fault::find;
+use faults::torn::torn;
+use rows::Sheet;
+use sheet::normal::Normal;
+ghost use Prim.Native.Nat.{_≤_};
+ghost use Rattle.network.specs.Ready.{Ready, LinksIn, TouchesIn};
+ghost use Rattle.settling.specs.Completes.{Hinders};
+
+// The last link was settled at sheet link y, 0 where there was none. The fault has no links where no unsettled
+// link can mend it.
+pub(crate) fn obstacle(
+    sheet: Normal,
+    figure: Normal,
+    touches: &[u8; TOUCHES],
+    taken: [u8; Sheet::ATOMS],
+    to: [u16; Sheet::LINKS],
+    flags: [u8; Sheet::LINKS],
+    y: u16,
+) -> Fault
+    requires { ⌜ Ready sheet figure × TouchesIn sheet (now touches) × LinksIn sheet figure to × (y ≤ sheet .«class_count») ⌝ }
+    ensures { λ r. ⌜ Hinders sheet figure taken to flags r ⌝ }
+{
+    if torn(figure, to, flags, y) {
+        return Fault {
+            found: true,
+            links: [0; Sheet::LINKS],
+            given: [0; Sheet::ATOMS],
+        };
+    }
+    find(sheet, figure, touches, taken, to)
+}

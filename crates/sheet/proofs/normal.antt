@@ -1,0 +1,16 @@
+pub mod Merging
+pub mod Labelled
+pub mod Agreeing
+pub mod Connected
+pub mod Distinct
+pub mod Classes
+pub mod NormalBy
+pub mod Marks
+pub mod NormalNodes
+pub mod TextGraph
+pub mod NormalBounds
+pub mod Numbered
+pub mod Sorting
+pub mod ClassNumbers
+pub mod NormalMade
+pub mod NormalReady

@@ -1,0 +1,14 @@
+pub mod FieldBack
+pub mod RowBack
+pub mod Texts
+pub mod FieldRanges
+pub mod Reached
+pub mod NormalIso
+pub mod NormalTwice
+pub mod WorkedNormal
+pub mod OneFilling
+pub mod BuiltRows
+pub mod ReadBack
+pub mod NormalFits
+pub mod NormalReads
+pub mod NormalOrder
