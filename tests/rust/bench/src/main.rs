@@ -1,0 +1,107 @@
+//! Times the proved library and the plain one on the same inputs in one process, and prints a table. A time is the
+//! least mean of five rounds of calls, microseconds; a row of the table has the mean over its texts.
+
+use std::hint::black_box;
+use std::time::Instant;
+
+use plain::case::{Calls, Case, Task, PLAIN};
+use plain::row::{write_row, WIDTH};
+use plain::stored::stored;
+use plain::tasks::SLIP;
+use proved::PROVED;
+
+const ROUNDS: usize = 5;
+/// A round goes on for as long as this, nanoseconds.
+const ROUND: u128 = 2_000_000;
+
+struct Timed {
+    task: Task,
+    family: &'static str,
+    name: String,
+    proved: f64,
+    plain: f64,
+}
+
+/// The least mean of a call over some rounds.
+fn time(calls: &Calls, case: &Case) -> f64 {
+    let mut out = vec![0; SLIP];
+    let mut least = f64::INFINITY;
+    for _ in 0..ROUNDS {
+        let (start, mut count) = (Instant::now(), 0u32);
+        while count == 0 || start.elapsed().as_nanos() < ROUND {
+            let _ = black_box(calls.call(case.task, black_box(&case.inputs), &mut out));
+            count += 1;
+        }
+        least = least.min(start.elapsed().as_nanos() as f64 / f64::from(count) / 1000.0);
+    }
+    least
+}
+
+/// The slowest text to read and number: 256 rows, 64 symbols of six joints, 192 F rows over 96 joints.
+fn full_sheet() -> Vec<u8> {
+    let mut rows: Vec<(u8, Vec<u16>)> = Vec::new();
+    for s in 0..64 {
+        let joints = (0..6).map(|k| (s * 6 + k * 17) % 96 + 1);
+        rows.push((b'S', [s + 1, 6].into_iter().chain(joints).collect()));
+    }
+    for f in 0..192 {
+        rows.push((b'F', vec![f % 96 + 1, (f * 5 + 1) % 96 + 1]));
+    }
+    let mut text = Vec::new();
+    for (letter, fields) in rows {
+        let mut row = [0; WIDTH];
+        write_row(&mut row, letter, &fields);
+        text.extend_from_slice(&row);
+    }
+    text
+}
+
+fn all() -> Vec<Timed> {
+    let full = Case { task: Task::NormaliseSheet, inputs: vec![full_sheet()], slip: SLIP };
+    let mut cases = vec![("full", "256 rows".to_string(), full)];
+    for stored in stored() {
+        let family = match stored.family() {
+            "large" => "large",
+            "hard" => "hard",
+            _ => "small",
+        };
+        cases.push((family, stored.name, stored.case));
+    }
+    let timed = |(family, name, case): (&'static str, String, Case)| Timed {
+        task: case.task,
+        family,
+        name,
+        proved: time(&PROVED, &case),
+        plain: time(&PLAIN, &case),
+    };
+    cases.into_iter().map(timed).collect()
+}
+
+fn mean(of: impl Iterator<Item = f64> + Clone) -> f64 {
+    of.clone().sum::<f64>() / of.count() as f64
+}
+
+fn main() {
+    let timed = all();
+    println!("| Task | Texts | Count | Proved | Plain | Ratio | Slowest proved |");
+    println!("|---|---|---|---|---|---|---|");
+    for task in Task::ALL {
+        for family in ["small", "large", "full"] {
+            let some = timed.iter().filter(|t| t.task == task && t.family == family);
+            let Some(slowest) = some.clone().max_by(|a, b| a.proved.total_cmp(&b.proved)) else { continue };
+            let (proved, plain) = (mean(some.clone().map(|t| t.proved)), mean(some.clone().map(|t| t.plain)));
+            println!(
+                "| {} | {family} | {} | {proved:.1} | {plain:.1} | {:.2} | {}, {:.1} |",
+                task.name(),
+                some.count(),
+                proved / plain,
+                slowest.name,
+                slowest.proved
+            );
+        }
+        for t in timed.iter().filter(|t| t.task == task && t.family == "hard") {
+            let Timed { name, proved, plain, .. } = t;
+            println!("| {} | {name} | 1 | {proved:.1} | {plain:.1} | {:.2} | |", task.name(), proved / plain);
+        }
+    }
+}

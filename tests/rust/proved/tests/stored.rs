@@ -1,0 +1,47 @@
+//! The proved library on the stored cases: the numbers that the programs print, the rows, and the time.
+
+use std::time::Instant;
+
+use plain::case::Task;
+use plain::stored::{printed, stored, Stored};
+use proved::PROVED;
+
+/// Microseconds: the most that a hard case may take, and the most for the mean of a task's large ones.
+const HARD: f64 = 50_000.0;
+const LARGE: f64 = 1_000.0;
+
+/// The least time of a call in nine, microseconds.
+fn time(stored: &Stored) -> f64 {
+    let once = |_| {
+        let start = Instant::now();
+        std::hint::black_box(printed(&PROVED, &stored.case));
+        start.elapsed().as_nanos() as f64 / 1000.0
+    };
+    (0..9).map(once).fold(f64::INFINITY, f64::min)
+}
+
+#[test]
+fn every_stored_case() {
+    for stored in stored() {
+        assert_eq!(printed(&PROVED, &stored.case), stored.printed, "{} {}", stored.case.task.name(), stored.name);
+    }
+}
+
+#[test]
+fn hard_cases_answer_at_once() {
+    for stored in stored().iter().filter(|stored| stored.family() == "hard") {
+        let taken = time(stored);
+        assert!(taken < HARD, "{}: {taken} microseconds", stored.name);
+    }
+}
+
+#[test]
+fn large_cases_answer_at_once() {
+    let stored = stored();
+    for task in Task::ALL {
+        let of_task = stored.iter().filter(|stored| stored.case.task == task && stored.family() == "large");
+        let times: Vec<f64> = of_task.map(time).collect();
+        let mean = times.iter().sum::<f64>() / times.len() as f64;
+        assert!(mean < LARGE, "{}: {mean} microseconds in the mean", task.name());
+    }
+}
