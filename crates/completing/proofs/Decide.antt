@@ -7,10 +7,10 @@ use native.Mathlib.Decide.{decLe, ℕ-discrete}
 use native.Mathlib.Omega.{arith}
 use lib.ListN.{length}
 use Rattle.hyperlmntal.specs.Link.{_∈_}
+use Rattle.hyperlmntal.proofs.TellApart.{some-dec}
 use Rattle.placing.specs.Net.{NetCell, Net, Range}
 use Rattle.placing.specs.Placing.{Placing, cellAt, linkTo, Taken, PortAt}
 use Rattle.placing.specs.Smallest.{numbersTo}
-use Rattle.placing.proofs.Lists.{some-member}
 use Rattle.placing.proofs.Tests.{Says, refuted, says-range, says-among, to-range, of-range}
 use Rattle.placing.proofs.GoodTest.{says-taken}
 use Rattle.completing.specs.Fault.{Used, Other, Beside, Joined, Number, Allowed}
@@ -46,7 +46,7 @@ stable (yes a) n = a
 stable (no m) n = absurd (n m)
 
 pub dec-all : {A : Type 0} (Q : A → Type 0) → ((a : A) → Dec (Q a)) → (l : List A) → Dec ((a : A) → a ∈ l → Q a)
-dec-all {A} Q d l = go (some-member (λ a. ¬ Q a) (λ a. dec-not (d a)) l)
+dec-all {A} Q d l = go (some-dec (λ a. ¬ Q a) (λ a. dec-not (d a)) l)
   where
     go : Dec ((a : A) × (a ∈ l) × (¬ Q a)) → Dec ((a : A) → a ∈ l → Q a)
     go (yes t) = no (λ f. t .2 (f (t .0) (t .1)))
@@ -54,7 +54,7 @@ dec-all {A} Q d l = go (some-member (λ a. ¬ Q a) (λ a. dec-not (d a)) l)
 
 module _ (Q : ℕ → Type 0) (d : (i : ℕ) → Dec (Q i)) (n : ℕ) where
   pub dec-some-to : Dec ((i : ℕ) × Range n i × Q i)
-  dec-some-to = dec-map (λ t. (t .0, to-range n (t .0) (t .1), t .2)) (λ t. (t .0, of-range n (t .0) (t .1), t .2)) (some-member Q d (numbersTo n))
+  dec-some-to = dec-map (λ t. (t .0, to-range n (t .0) (t .1), t .2)) (λ t. (t .0, of-range n (t .0) (t .1), t .2)) (some-dec Q d (numbersTo n))
 
   pub dec-all-to : Dec ((i : ℕ) → Range n i → Q i)
   dec-all-to = dec-map (λ f i r. f i (of-range n i r)) (λ f i m. f i (to-range n i m)) (dec-all Q d (numbersTo n))
@@ -77,7 +77,7 @@ module _ (S F : Net) (q : Placing) where
       (λ t. record { first-other = t .0; second-other = t .1 .0; link = t .1 .1 .0; first = t .1 .1 .1; second = t .1 .1 .2 .0; unused = t .1 .1 .2 .1 })
       (λ b. (b .first-other, (b .second-other, (b .link, b .first, (b .second, b .unused)))))
       (dec-and (other-dec j) (dec-and (other-dec j′)
-      (some-member (λ y. (y ∈ (cellAt (S .atoms) j′) .1) × (¬ Used S F q y))
+      (some-dec (λ y. (y ∈ (cellAt (S .atoms) j′) .1) × (¬ Used S F q y))
       (λ y. dec-and (member-dec y ((cellAt (S .atoms) j′) .1)) (dec-not (used-dec y))) ((cellAt (S .atoms) j) .1))))
 
   pub joined-dec : (j j′ : ℕ) → Dec (Joined S F q j j′)
@@ -87,8 +87,8 @@ module _ (S F : Net) (q : Placing) where
   port-dec k y = dec-map
       (λ t. record { row = t .0; of-figure = t .1; number = t .2 .0; link = t .2 .1 .0; port = t .2 .1 .1; there = t .2 .1 .2 })
       (λ t. (t .row, t .of-figure, (t .number, (t .link, t .port, t .there))))
-      (some-member (λ (row : NetCell). (row .0 ≡ k) × ((x : ℕ) × (x ∈ row .1) × (linkTo q x ≡ y)))
-      (λ row. dec-and (ℕ-discrete (row .0) k) (some-member (λ x. linkTo q x ≡ y) (λ x. ℕ-discrete (linkTo q x) y) (row .1))) (F .contexts))
+      (some-dec (λ (row : NetCell). (row .0 ≡ k) × ((x : ℕ) × (x ∈ row .1) × (linkTo q x ≡ y)))
+      (λ row. dec-and (ℕ-discrete (row .0) k) (some-dec (λ x. linkTo q x ≡ y) (λ x. ℕ-discrete (linkTo q x) y) (row .1))) (F .contexts))
 
   pub allowed-dec : (k j : ℕ) → Dec (Allowed S F q k j)
   allowed-dec k j = dec-all-to (λ j′. Joined S F q j j′ → (y : ℕ) → y ∈ (cellAt (S .atoms) j′) .1 → Used S F q y → PortAt S F q k y)
@@ -96,7 +96,7 @@ module _ (S F : Net) (q : Placing) where
       (dec-all (λ y. Used S F q y → PortAt S F q k y) (λ y. dec-if (used-dec y) (port-dec k y)) ((cellAt (S .atoms) j′) .1))) (length (S .atoms))
 
   pub number-dec : (k : ℕ) → Dec (Number S F q k)
-  number-dec k = some-member (λ (row : NetCell). row .0 ≡ k) (λ row. ℕ-discrete (row .0) k) (F .contexts)
+  number-dec k = some-dec (λ (row : NetCell). row .0 ≡ k) (λ row. ℕ-discrete (row .0) k) (F .contexts)
 
 -- The least number with a property, where some number has it.
 module _ (Q : ℕ → Type 0) (d : (i : ℕ) → Dec (Q i)) where

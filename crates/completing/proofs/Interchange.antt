@@ -10,10 +10,10 @@ use Rattle.hyperlmntal.proofs.Lists.{map-agree}
 use Rattle.placing.specs.Net.{NetCell, Net, Range, Normal}
 use Rattle.placing.specs.Placing.{Placing, cellAt, linkTo, givenTo, Taken, At, Linked, PortAt, Inside, Good}
 use Rattle.placing.proofs.Lists.{table, table-length, table-at}
-use Rattle.placing.proofs.Standing.{context-link, mark-link}
+use Rattle.placing.proofs.Standing.{context-link, mark-link, place-link}
 use Rattle.completing.specs.Completion.{Open, Partial, Completion, Completable, put, remove, SameContexts}
-use Rattle.completing.proofs.Lists.{swapped, swapped-cases, swapped-second, swapped-other, swapped-twice}
-use Rattle.completing.proofs.Kept.{atom-of, linked-map, taken-same}
+use Rattle.network.proofs.Swapped.{swapped, swapped-cases, swapped-second, swapped-other, swapped-twice}
+use Rattle.completing.proofs.Kept.{linked-map, taken-same}
 use Rattle.completing.proofs.Put.{completion-put, put-completion, put-there}
 
 module _ (S F : Net) (NF : Normal F) (u v : ℕ) (ou : Open F u) (ov : Open F v) (same : SameContexts F u v) (p : Placing) (g : Good S F p) where
@@ -32,7 +32,7 @@ module _ (S F : Net) (NF : Normal F) (u v : ℕ) (ou : Open F u) (ov : Open F v)
   swap-row row r x m = swapped-cases (λ a b. a ∈ row .1 → b ∈ row .1) u v x ((same row r) .0) ((same row r) .1) (λ h k w. w) m
 
   atom-still : (i : ℕ) → Range (length (F .atoms)) i → (x : ℕ) → x ∈ (cellAt (F .atoms) i) .1 → linkTo exchanged x ≡ linkTo p x
-  atom-still i r x m = exchanged-to x (atom-of F NF i x r m)
+  atom-still i r x m = exchanged-to x (place-link F NF i x r m)
       ∙ ap (linkTo p) (swapped-other u v x (λ e. ou .no-atom i r (Memᴰ·cast (sym e) m)) (λ e. ov .no-atom i r (Memᴰ·cast (sym e) m)))
 
   mark-still : (x m : ℕ) → (x, m) ∈ F .marks → linkTo exchanged x ≡ linkTo p x

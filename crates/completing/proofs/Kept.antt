@@ -1,19 +1,13 @@
 -- What placings with the same atoms share, and links carried from one placing to another.
-use Prim.Native.Nat.{ℕ, _-_}
+use Prim.Native.Nat.{ℕ}
 use mathlib.Core.Path.{_≡_, sym, _∙_, ap, subst}
-use mathlib.Core.List.{List, [], Memᴰ·of-map}
-use native.Mathlib.Omega.{arith}
+use mathlib.Core.List.{List, Memᴰ·of-map}
 use lib.ListN.{length}
 use Rattle.hyperlmntal.specs.Link.{_∈_}
 use Rattle.placing.specs.Net.{NetCell, Net, Range, Normal}
 use Rattle.placing.specs.Placing.{Placing, numberAt, cellAt, atomTo, linkTo, Taken, At, Linked, here, step, Across}
-use Rattle.placing.proofs.Lists.{getD-member}
-use Rattle.placing.proofs.Standing.{atom-link}
+use Rattle.placing.proofs.Standing.{place-link}
 use Rattle.completing.specs.Fault.{Used}
-
--- a link of atom i of a normal net
-pub atom-of : (N : Net) → Normal N → (i x : ℕ) → Range (length (N .atoms)) i → x ∈ (cellAt (N .atoms) i) .1 → Range (N .links) x
-atom-of N normal i x r m = atom-link N normal (cellAt (N .atoms) i) x (getD-member (N .atoms) (i - 1) (0, []) (omega (arith, r .0, r .1))) m
 
 module _ (S F : Net) where
   pub linked-map : (p q : Placing) (y z : ℕ) (f : ℕ → ℕ) → ((row : NetCell) → row ∈ F .contexts → (x : ℕ) → x ∈ row .1 → f x ∈ row .1)
@@ -36,7 +30,7 @@ module _ (S F : Net) where
   module _ (normal : Normal F) (q : Placing) (across : (i : ℕ) → Range (length (F .atoms)) i → Across S F q i) where
     -- figure links go to the links of a sheet atom that is taken
     pub taken-used : (j y : ℕ) → Taken S F q j → y ∈ (cellAt (S .atoms) j) .1 → Used S F q y
-    taken-used j y t m = (w .0, atom-of F normal (t .by) (w .0) (t .of-figure) (w .1), w .2)
+    taken-used j y t m = (w .0, place-link F normal (t .by) (w .0) (t .of-figure) (w .1), w .2)
       where
         places : y ∈ (cellAt (S .atoms) (atomTo q (t .by))) .1
         places = subst (λ (z : ℕ). y ∈ (cellAt (S .atoms) z) .1) (sym (t .there)) m

@@ -1,11 +1,10 @@
 -- All atoms placed: links and contexts of the least good placing with these atoms, or that there is none.
 use Prim.Native.Nat.{ℕ}
-use mathlib.Core.Path.{_≡_, refl, sym, _∙_, ap, subst, subst₂}
-use mathlib.Core.List.{List, [], _∷_, _++_, append-nil}
-use native.Mathlib.Omega.{arith}
+use mathlib.Core.Path.{_≡_, sym, _∙_, ap, subst, subst₂}
+use mathlib.Core.List.{List, _++_}
 use mathlib.Core.Bool.{true, false}
 use mathlib.Core.Option.{none, some}
-use lib.ListN.{length, take, drop, replicate, take-append-drop, length-replicate, length-append}
+use lib.ListN.{length, take, drop, replicate, take-append-drop, length-replicate}
 use lib.Seq.{take-at}
 use Rattle.placing.specs.Net.{Net, Normal}
 use Rattle.placing.specs.Placing.{Placing, Good}
@@ -14,7 +13,6 @@ use Rattle.placing.specs.Smallest.{listOf, boundsOf, placingFrom, goodList}
 use Rattle.placing.proofs.Tests.{turned-down}
 use Rattle.placing.proofs.GoodTest.{says-good}
 use Rattle.placing.proofs.SmallestLaws.{good-within, good-list}
-use Rattle.network.specs.Begun.{Begun}
 use Rattle.completing.specs.Completion.{Completable}
 use Rattle.completing.specs.Leaf.{LeastCompletion, OpenLinks, StateOf, NoneWith, restBounds}
 use Rattle.completing.proofs.Lists.{before-prepend, within-rest}
@@ -36,16 +34,6 @@ module _ (S F : Net) (l : List ℕ) where
 
     refused : (m : List ℕ) → ¬ Good S F (placingFrom S F (l ++ m)) → goodList S F (l ++ m) ≡ false
     refused m n = turned-down (says-good S F (placingFrom S F (l ++ m))) n
-
-    -- No search need go on from here.
-    pub none-begun : NoneWith S F l → ¬ Begun S F l
-    none-begun n (p, g, b) =
-        let e = no-rest (b .0) (ap length (sym (b .1)) ∙ (g .sending .atoms-sent ∙ sym size)) in
-        n p g (b .1 ∙ (ap (λ (k : List ℕ). l ++ k) e ∙ append-nil l))
-      where
-        no-rest : (k : List ℕ) → length (l ++ k) ≡ length l → k ≡ []
-        no-rest [] e = refl
-        no-rest (x ∷ k) e = absurd (omega (arith, length-append l (x ∷ k)))
 
     -- There is none.
     pub leaf-none : NoneWith S F l → Answer (λ m. goodList S F (l ++ m)) (restBounds S F) none

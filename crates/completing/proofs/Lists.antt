@@ -1,15 +1,14 @@
--- Lists: without a number, two numbers swapped, the order, bounds.
+-- Lists: without a number, the order, bounds.
 use Prim.Native.Nat.{ℕ, zero, suc, _≤_, _<_}
 use mathlib.Core.Path.{_≡_, refl, sym, _∙_, ap}
 use mathlib.Core.Logic.{_⊎_, inl, inr, _≢_}
-use mathlib.Core.List.{List, [], _∷_, _++_, map, List·Memᴰ·head, List·Memᴰ·tail, List·Memᴰ·not-nil, List·Memᴰ·cases-cons, head-eq-of-cons-eq, tail-eq-of-cons-eq, nil≢cons, cons≢nil}
+use mathlib.Core.List.{List, [], _∷_, _++_, List·Memᴰ·head, List·Memᴰ·tail, List·Memᴰ·not-nil, List·Memᴰ·cases-cons, head-eq-of-cons-eq, tail-eq-of-cons-eq, nil≢cons, cons≢nil}
 use mathlib.Core.Bool.{Bool, true, false}
-use native.Mathlib.Decide.{ℕ-discrete}
 use native.Mathlib.Omega.{arith}
 use lib.Dec.{eqb}
 use lib.ListN.{length, getD}
 use borrow.Author.Tests.{eqb-true, eq-eqb, ne-eqb}
-use Rattle.hyperlmntal.specs.Link.{_∈_, select}
+use Rattle.hyperlmntal.specs.Link.{_∈_}
 use Rattle.rows.specs.Pick.{pick}
 use Rattle.placing.specs.First.{Within, also, Before, here, later}
 use Rattle.placing.proofs.FirstLaws.{both-ways}
@@ -55,44 +54,6 @@ remove-absent x (y ∷ l) n = rw (ne-eqb y x (λ e. n (List·Memᴰ·head (sym e
 pub remove-head : (x : ℕ) (l : List ℕ) → ¬ (x ∈ l) → remove x (x ∷ l) ≡ l
 unfolding remove
 remove-head x l n = rw (eq-eqb x x refl) (remove-absent x l n)
-
--- Two numbers swapped.
-abbrev pub swapped : ℕ → ℕ → ℕ → ℕ
-swapped a b j = select (ℕ-discrete j a) b (select (ℕ-discrete j b) a j)
-
-pub swapped-cases : (P : ℕ → ℕ → Type 0) (a b j : ℕ) → P a b → P b a → (j ≢ a → j ≢ b → P j j) → P j (swapped a b j)
-swapped-cases P a b j u v w = go (ℕ-discrete j a) (ℕ-discrete j b)
-  where
-    go : (d : Dec (j ≡ a)) (e : Dec (j ≡ b)) → P j (select d b (select e a j))
-    go (yes d) e = rw d u
-    go (no d) (yes e) = rw e v
-    go (no d) (no e) = w d e
-
-pub swapped-first : (a b : ℕ) → swapped a b a ≡ b
-swapped-first a b = go (ℕ-discrete a a) (ℕ-discrete a b)
-  where
-    go : (d : Dec (a ≡ a)) (e : Dec (a ≡ b)) → select d b (select e a a) ≡ b
-    go (yes d) e = refl
-    go (no d) e = absurd (d refl)
-
-pub swapped-second : (a b : ℕ) → swapped a b b ≡ a
-swapped-second a b = go (ℕ-discrete b a) (ℕ-discrete b b)
-  where
-    go : (d : Dec (b ≡ a)) (e : Dec (b ≡ b)) → select d b (select e a b) ≡ a
-    go (yes d) e = d
-    go (no d) (yes e) = refl
-    go (no d) (no e) = absurd (e refl)
-
-pub swapped-other : (a b j : ℕ) → j ≢ a → j ≢ b → swapped a b j ≡ j
-swapped-other a b j u v = go (ℕ-discrete j a) (ℕ-discrete j b)
-  where
-    go : (d : Dec (j ≡ a)) (e : Dec (j ≡ b)) → select d b (select e a j) ≡ j
-    go (yes d) e = absurd (u d)
-    go (no d) (yes e) = absurd (v e)
-    go (no d) (no e) = refl
-
-pub swapped-twice : (a b j : ℕ) → swapped a b (swapped a b j) ≡ j
-swapped-twice a b j = swapped-cases (λ x y. swapped a b y ≡ x) a b j (swapped-second a b) (swapped-first a b) (λ u v. swapped-other a b j u v)
 
 -- The order, by positions.
 pub before-rest : (a b l m : List ℕ) → a ≡ b → Before (a ++ l) (b ++ m) → Before l m

@@ -6,15 +6,15 @@ use mathlib.Core.List.{List, List·Memᴰ·head, List·Memᴰ·eq-of-singleton, 
 use native.Mathlib.Decide.{ℕ-discrete}
 use native.Mathlib.Omega.{arith}
 use Rattle.hyperlmntal.specs.Link.{_∈_}
+use Rattle.hyperlmntal.proofs.TellApart.{some-dec}
 use Rattle.placing.specs.Net.{NetCell, Net, Range, Normal}
 use Rattle.placing.specs.Placing.{Placing, cellAt, linkTo, givenTo, Taken, At, PortAt, Inside}
-use Rattle.placing.proofs.Lists.{some-member}
-use Rattle.placing.proofs.Standing.{context-link}
+use Rattle.placing.proofs.Standing.{context-link, place-link}
 use Rattle.completing.specs.Completion.{Partial, Completion}
 use Rattle.completing.specs.Reach.{Reach, stay, move}
 use Rattle.completing.specs.Fault.{Used, Other, Beside, TwoApart, Torn, Through, CutOff, Fault, apart, cut-off}
 use Rattle.completing.proofs.Decide.{member-dec}
-use Rattle.completing.proofs.Kept.{atom-of, linked-map, taken-same}
+use Rattle.completing.proofs.Kept.{linked-map, taken-same}
 
 through-other : (S F : Net) (q : Placing) (set seen : List ℕ) (i j : ℕ) → Other S F q i → Reach (Through S F q set seen) i j → Other S F q j
 through-other S F q set seen i j h stay = h
@@ -32,7 +32,7 @@ module _ (S F : Net) (NS : Normal S) (NF : Normal F) (q : Placing) (un : List �
   torn-never y f = f .never-linked p (c .settled) (c .good .linked (f .one) (f .two) y (at-kept (f .one) y (f .one-at)) (at-kept (f .two) y (f .two-at)))
 
   pub two-apart-needs : (y : ℕ) → TwoApart S F q y → (x : ℕ) × (x ∈ un) × (linkTo p x ≡ y)
-  two-apart-needs y f = go (some-member (λ x. linkTo p x ≡ y) (λ x. ℕ-discrete (linkTo p x) y) un)
+  two-apart-needs y f = go (some-dec (λ x. linkTo p x ≡ y) (λ x. ℕ-discrete (linkTo p x) y) un)
     where
       go : Dec ((x : ℕ) × (x ∈ un) × (linkTo p x ≡ y)) → (x : ℕ) × (x ∈ un) × (linkTo p x ≡ y)
       go (yes s) = s
@@ -47,7 +47,7 @@ module _ (S F : Net) (NS : Normal S) (NF : Normal F) (q : Placing) (un : List �
           }
 
   pub cut-off-needs : (set seen : List ℕ) → CutOff S F q set seen → (x : ℕ) × (x ∈ un) × (linkTo p x ∈ seen)
-  cut-off-needs set seen f = go (some-member (λ x. linkTo p x ∈ seen) (λ x. member-dec (linkTo p x) seen) un)
+  cut-off-needs set seen f = go (some-dec (λ x. linkTo p x ∈ seen) (λ x. member-dec (linkTo p x) seen) un)
     where
       other : (j : ℕ) → ¬ Taken S F q j → ¬ Taken S F p j
       other j h t = h (taken-same S F p q (c .same-atoms) j t)
@@ -96,7 +96,7 @@ module _ (S F : Net) (NS : Normal S) (NF : Normal F) (q : Placing) (un : List �
                     port = r .port;
                     there = back (r .link) y (context-link F NF (r .row) (r .link) (r .of-figure) (r .port)) (r .there) s;
                   }
-                  port (inr r) = absurd (r .no-figure-link (u .0) (u .1) (kept (u .0) y (u .1) (u .2) ((atom-of S NS j y (st .0) k) .1)))
+                  port (inr r) = absurd (r .no-figure-link (u .0) (u .1) (kept (u .0) y (u .1) (u .2) ((place-link S NS j y (st .0) k) .1)))
 
   -- Some unsettled link goes to a link of the fault's list.
   pub fault-needs : {v : List ℕ} → Fault S F q v → (x : ℕ) × (x ∈ un) × (linkTo p x ∈ v)
@@ -108,4 +108,4 @@ pub fault-links : (S F : Net) → Normal S → (q : Placing) {v : List ℕ} → 
 fault-links S F NS q (apart z f) y m = subst (Range (S .links)) (sym (List·Memᴰ·eq-of-singleton m)) (f .one-at .sheet-link)
 fault-links S F NS q (cut-off set seen f) y m =
     let t = f .touched y m in
-    atom-of S NS (t .0) y (through-other S F q set seen (f .root) (t .0) (f .root-other) (f .connected (t .0) (t .1)) .0) (t .2)
+    place-link S NS (t .0) y (through-other S F q set seen (f .root) (t .0) (f .root-other) (f .connected (t .0) (t .1)) .0) (t .2)

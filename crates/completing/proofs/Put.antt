@@ -11,10 +11,9 @@ use Rattle.hyperlmntal.specs.Link.{_∈_}
 use Rattle.hyperlmntal.proofs.Lists.{map-agree}
 use Rattle.placing.specs.Net.{Net, Range, Normal}
 use Rattle.placing.specs.Placing.{Placing, cellAt, linkTo}
-use Rattle.placing.proofs.Standing.{mark-link}
+use Rattle.placing.proofs.Standing.{mark-link, place-link}
 use Rattle.completing.specs.Completion.{Open, Partial, Completion, Completable, put, remove}
 use Rattle.completing.proofs.Lists.{of-remove, in-remove}
-use Rattle.completing.proofs.Kept.{atom-of}
 
 -- More links unsettled.
 pub completion-wider : (S F : Net) (q : Placing) (un un′ : List ℕ) → ((x : ℕ) → x ∈ un → x ∈ un′) → (p : Placing) → Completion S F q un p → Completion S F q un′ p
@@ -70,7 +69,7 @@ module _ (S F : Net) (NF : Normal F) (q : Placing) (un : List ℕ) (a : Partial 
   }
     where
       on-atom : (i : ℕ) → Range (length (F .atoms)) i → (z : ℕ) → z ∈ (cellAt (F .atoms) i) .1 → linkTo (put q x y) z ≡ linkTo q z
-      on-atom i r z m = put-other z (atom-of F NF i z r m) (λ e. open-x .no-atom i r (Memᴰ·cast (sym e) m))
+      on-atom i r z m = put-other z (place-link F NF i z r m) (λ e. open-x .no-atom i r (Memᴰ·cast (sym e) m))
 
       on-mark : (z m : ℕ) → (z, m) ∈ F .marks → (linkTo (put q x y) z, m) ∈ S .marks
       on-mark z m h =

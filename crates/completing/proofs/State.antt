@@ -6,16 +6,14 @@ use native.Mathlib.Decide.{ℕ-discrete}
 use native.Mathlib.Omega.{arith}
 use lib.ListN.{length, getD}
 use Rattle.hyperlmntal.specs.Link.{_∈_}
-use Rattle.hyperlmntal.proofs.Lists.{map-agree}
+use Rattle.hyperlmntal.proofs.TellApart.{some-dec}
 use Rattle.placing.specs.Net.{Net, Range, Normal}
 use Rattle.placing.specs.Placing.{Placing, numberAt, cellAt, atomTo, linkTo, Across, SameMarks, Good}
-use Rattle.placing.proofs.Lists.{some-member}
-use Rattle.placing.proofs.Standing.{mark-link}
-use Rattle.completing.specs.Completion.{Open, Partial, Completion}
+use Rattle.placing.proofs.Standing.{mark-link, place-link}
+use Rattle.completing.specs.Completion.{Partial, Completion}
 use Rattle.completing.specs.Leaf.{OpenLinks, StateOf}
 use Rattle.rows.proofs.Lists.{getD-mapped}
 use Rattle.completing.proofs.Decide.{member-dec, dec-some-to}
-use Rattle.completing.proofs.Kept.{atom-of}
 
 module _ (S F : Net) (l : List ℕ) (p : Placing) (g : Good S F p) (e : p .atomsTo ≡ l) where
   same-atom : (i : ℕ) → atomTo p i ≡ numberAt l i
@@ -32,38 +30,7 @@ module _ (S F : Net) (l : List ℕ) (p : Placing) (g : Good S F p) (e : p .atoms
   by-mark NS x y m h k = NS .one-link (linkTo p x) y m (g .same-marks .onward x m h) k
 
   module _ (NF : Normal F) (q : Placing) (un : List ℕ) (s : StateOf S F l q) (o : OpenLinks F un) where
-    decided-same : (x : ℕ) → Range (F .links) x → ¬ Open F x → linkTo q x ≡ linkTo p x
-    decided-same x r n = sym (s .decided x r n p g e)
-
-    to-atom : (i : ℕ) → atomTo p i ≡ atomTo q i
-    to-atom i = same-atom i ∙ ap (λ (k : List ℕ). numberAt k i) (sym (s .atoms))
-
-    -- A good placing with these atoms makes the state partial,
-    pub good-partial : Partial S F q un
-    good-partial = record {
-      atoms-sent = ap length (s .atoms ∙ sym e) ∙ g .sending .atoms-sent;
-      to-atoms = λ i r. subst (Range (length (S .atoms))) (to-atom i) (g .sending .to-atoms i r);
-      different = λ i j r r′ f. g .sending .different i j r r′ (to-atom i ∙ (f ∙ sym (to-atom j)));
-      links-sent = s .links-sent;
-      to-links = λ x r. real x r (member-dec x un);
-      across = λ i r. record {
-        name = g .across i r .name ∙ ap (λ (j : ℕ). (cellAt (S .atoms) j) .0) (to-atom i);
-        places = map-agree (linkTo q) (linkTo p) ((cellAt (F .atoms) i) .1) (λ x m. decided-same x (atom-of F NF i x r m) (λ w. w .no-atom i r m))
-            ∙ (g .across i r .places ∙ ap (λ (j : ℕ). (cellAt (S .atoms) j) .1) (to-atom i));
-      };
-      same-marks = record {
-        onward = λ x m h. subst (λ (z : ℕ). (z, m) ∈ S .marks) (sym (decided-same x (mark-link F NF x m h) (λ w. w .no-mark m h))) (g .same-marks .onward x m h);
-        backward = g .same-marks .backward;
-      };
-      are-open = o .are-open;
-      read-none = λ x m. s .open-none x (o .are-open x m);
-    }
-      where
-        real : (x : ℕ) → Range (F .links) x → Dec (x ∈ un) → Range (suc (S .links)) (linkTo q x)
-        real x r (yes m) = subst (Range (suc (S .links))) (sym (s .open-none x (o .are-open x m))) (omega arith, omega arith)
-        real x r (no n) = subst (Range (suc (S .links))) (sym (decided-same x r (λ w. n (o .all-open x w)))) (g .sending .to-links x r)
-
-    -- and completes it.
+    -- A good placing with these atoms completes the state.
     pub good-completion : Completion S F q un p
     good-completion = record { good = g; same-atoms = e ∙ sym (s .atoms); settled = λ x r n. s .decided x r (λ w. n (o .all-open x w)) p g e }
 
@@ -101,7 +68,7 @@ module _ (S F : Net) (NS : Normal S) (NF : Normal F) (l : List ℕ) (q : Placing
       wide y r = (r .0, omega (arith, r .1))
 
       placed : (x : ℕ) → Range (F .links) x → ¬ (x ∈ un) → Dec (OnAtom x) → Dec (OnMark x) → Range (suc (S .links)) (linkTo q x)
-      placed x r n (yes (i, k, m)) d = wide (linkTo q x) (atom-of S NS (atomTo q i) (linkTo q x) (to-atoms i k)
+      placed x r n (yes (i, k, m)) d = wide (linkTo q x) (place-link S NS (atomTo q i) (linkTo q x) (to-atoms i k)
           (subst (λ (z : List ℕ). linkTo q x ∈ z) (across i k .places) (Memᴰ·map (linkTo q) m)))
       placed x r n (no a) (yes (e, m, f)) = subst (λ (z : ℕ). Range (suc (S .links)) (linkTo q z)) f
           (wide (linkTo q (e .0)) (mark-link S NS (linkTo q (e .0)) (e .1) (marks .onward (e .0) (e .1) m)))
@@ -111,4 +78,4 @@ module _ (S F : Net) (NS : Normal S) (NF : Normal F) (l : List ℕ) (q : Placing
       real : (x : ℕ) → Range (F .links) x → Dec (x ∈ un) → Range (suc (S .links)) (linkTo q x)
       real x r (yes m) = subst (Range (suc (S .links))) (sym (s .open-none x (o .are-open x m))) (omega arith, omega arith)
       real x r (no n) = placed x r n (dec-some-to (λ i. x ∈ (cellAt (F .atoms) i) .1) (λ i. member-dec x ((cellAt (F .atoms) i) .1)) (length (F .atoms)))
-          (some-member (λ (e : ℕ × ℕ). e .0 ≡ x) (λ e. ℕ-discrete (e .0) x) (F .marks))
+          (some-dec (λ (e : ℕ × ℕ). e .0 ≡ x) (λ e. ℕ-discrete (e .0) x) (F .marks))

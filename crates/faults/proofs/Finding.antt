@@ -17,13 +17,13 @@ use Rattle.network.proofs.NetIn.{atoms-length}
 use Rattle.completing.specs.Completion.{Partial}
 use Rattle.completing.specs.Fault as faults
 use Rattle.faults.specs.declared.fault.Fault.{Fault}
-use Rattle.faults.specs.Flags.{Within, goesTo, portOfNumber}
-use Rattle.faults.specs.Labels.{Apart}
+use Rattle.stepping.specs.Flags.{Within, goesTo, portOfNumber}
+use Rattle.stepping.specs.Labels.{Apart}
 use Rattle.faults.specs.Grows.{Tables}
 use Rattle.faults.specs.Gives.{GivesAt, TakenFlags}
 use Rattle.faults.specs.Finds.{Finds}
-use Rattle.faults.proofs.Reading.{used-read, port-read}
-use Rattle.faults.proofs.Linking.{all-linked, two-apart}
+use Rattle.stepping.proofs.Reading.{used-read, port-read}
+use Rattle.stepping.proofs.Linking.{all-linked, two-apart}
 
 module _ (sheet figure : form.Normal) (ready : Ready sheet figure) (to : List ℕ) (links : LinksIn sheet figure to) where
   abbrev S : Net

@@ -11,18 +11,20 @@ use Rattle.hyperlmntal.specs.Link.{_∈_}
 use Rattle.rows.specs.Limits.{sheetAtoms, sheetLinks}
 use Rattle.placing.specs.Net.{Net, Range}
 use Rattle.placing.specs.Placing.{Placing, cellAt}
-use Rattle.placing.proofs.Lists.{member-at, getD-member, getD-of}
+use Rattle.placing.proofs.Lists.{member-at, getD-of}
 use Rattle.completing.specs.Fault.{Used}
 use Rattle.completing.specs.Growing.{Part, Serves}
 use Rattle.completing.proofs.Growing.{part-link, part-atom, serves-more, serves-before}
 use Rattle.faults.specs.declared.growth.Growth.{Growth}
 use Rattle.faults.specs.Grows.{Sized, added, atomsOf, Longer, Around, Holds, WithAtoms, WithLink, WithLinks}
-use Rattle.faults.proofs.Tables.{store-flag, ones-set, ones-room, below-next}
+use Rattle.stepping.proofs.Tables.{store-flag, below-next}
+use Rattle.faults.proofs.Ones.{ones-set, ones-room}
+use Rattle.sheet.proofs.normal.Merging.{getD-in}
 
 -- The atoms as listed.
 pub listed-in : (g : Growth) (h : ℕ) → g .count ≤ length (g .order) → h < g .count → suc (getD (g .order) h 0) ∈ atomsOf g
 listed-in g h room l = Memᴰ·map suc (subst (λ (j : ℕ). j ∈ take (g .count) (g .order)) (getD-take (g .count) (g .order) h 0 l)
-    (getD-member (take (g .count) (g .order)) h 0 (let e = length-take-le (g .count) (g .order) room in omega arith)))
+    (getD-in (take (g .count) (g .order)) h 0 (let e = length-take-le (g .count) (g .order) room in omega arith)))
 
 pub listed-of : (g : Growth) (j : ℕ) → j ∈ atomsOf g → (h : ℕ) × (h < g .count) × (suc (getD (g .order) h 0) ≡ j)
 listed-of g j m =
@@ -50,11 +52,8 @@ atoms-longer g r atoms a s j m =
 
 -- One more atom.
 module _ (atoms : ℕ) (g : Growth) (i v from : ℕ) (few : atoms ≤ sheetAtoms) (s : Sized atoms g) (h : i < atoms) (new : getD (g .members) i 0 ≢ 1) where
-  more : g .count < sheetAtoms
-  more = let e = s .counted in let r = s .members-room in let o = ones-room (g .members) i (omega arith) new in omega arith
-
   pub added-room : g .count < sheetAtoms
-  added-room = more
+  added-room = let e = s .counted in let r = s .members-room in let o = ones-room (g .members) i (omega arith) new in omega arith
 
   pub sized-added : Sized atoms (added g i v from)
   sized-added = record {
@@ -62,13 +61,13 @@ module _ (atoms : ℕ) (g : Growth) (i v from : ℕ) (few : atoms ≤ sheetAtoms
     members-room = simp length-set (s .members-room);
     seen-room = s .seen-room;
     counted = (let e = ones-set (g .members) i (let r = s .members-room in omega arith) new in let c = s .counted in omega arith);
-    most = let m = more in omega arith;
+    most = let m = added-room in omega arith;
     listed = λ k l. at k l (ℕ-discrete k (g .count));
   }
     where
       at : (k : ℕ) → k < g .count + 1 → Dec (k ≡ g .count) → getD (set (g .order) (g .count) i) k 0 < atoms
       at k l (yes e) = subst (λ (n : ℕ). getD (set (g .order) (g .count) i) n 0 < atoms) (sym e)
-          (subst (λ (n : ℕ). n < atoms) (sym (getD-set-same (g .order) (g .count) i 0 (let r = s .order-room in let m = more in omega arith))) h)
+          (subst (λ (n : ℕ). n < atoms) (sym (getD-set-same (g .order) (g .count) i 0 (let r = s .order-room in let m = added-room in omega arith))) h)
       at k l (no e) = subst (λ (n : ℕ). n < atoms) (sym (getD-set-other (g .order) (g .count) k i 0 e)) (s .listed k (omega arith))
 
   pub longer-added : Longer g (added g i v from)
@@ -77,7 +76,7 @@ module _ (atoms : ℕ) (g : Growth) (i v from : ℕ) (few : atoms ≤ sheetAtoms
   atoms-added : atomsOf (added g i v from) ≡ atomsOf g ++ (suc i ∷ [])
   atoms-added =
       ap (λ (n : ℕ). map suc (take n (set (g .order) (g .count) i))) (let e : g .count + 1 ≡ suc (g .count) = omega arith in e)
-      ∙ ap (map suc) (take-suc-set (g .order) (g .count) i (let r = s .order-room in let m = more in omega arith))
+      ∙ ap (map suc) (take-suc-set (g .order) (g .count) i (let r = s .order-room in let m = added-room in omega arith))
       ∙ map-append suc (take (g .count) (g .order)) (i ∷ [])
 
   pub atom-added : suc i ∈ atomsOf (added g i v from)

@@ -14,49 +14,21 @@ use Rattle.sheet.specs.declared.normal.Normal as form
 use Rattle.placing.specs.Net.{NetCell, Net, Range}
 use Rattle.placing.specs.Placing.{Placing, numberAt, cellAt, Taken}
 use Rattle.network.specs.NetIn.{netIn, contextIn, contextAt, Fit}
-use Rattle.network.proofs.NetIn.{atoms-length}
+use Rattle.network.proofs.NetIn.{atoms-length, context-of}
 use Rattle.completing.specs.Fault.{Other, LeastContext}
 use Rattle.completing.specs.Growing.{Serves}
 use Rattle.completing.proofs.Growing.{part-other, part-cut-off, grown-least}
 use Rattle.faults.specs.declared.growth.Growth.{Growth}
 use Rattle.faults.specs.declared.fault.Given.{Given}
-use Rattle.faults.specs.Grows.{Sized, atomsOf, WholeAt, Least}
+use Rattle.faults.specs.Grows.{Sized, atomsOf, WholeAt}
 use Rattle.faults.specs.Parts.{CutLinks, Rows}
 use Rattle.faults.specs.Gives.{Gave, GivenAt, GivesAt, TakenFlags}
-use Rattle.faults.proofs.Tables.{below-next, store-flag, zeros, zeros-not}
-use Rattle.faults.proofs.Reading.{context-cell, context-in, context-of}
+use Rattle.stepping.proofs.Tables.{below-next, store-flag, zeros, zeros-not}
+use Rattle.stepping.proofs.Reading.{context-cell, context-in}
 use Rattle.faults.proofs.Growing.{listed-in, listed-of}
 
 pub rows-in : (figure : form.Normal) → Fit figure → Rows (netIn figure) (figure .«context_count»)
 rows-in figure f row m = let c = context-of figure f row m in (c .0, c .1, ap (λ (r : NetCell). r .0) (context-cell figure f (c .0) (c .1) ∙ c .2))
-
--- One context more.
-module _ (figure : form.Normal) (left : List ℕ) (n best : ℕ) (h : n < figure .«context_count») (room : best ≤ figure .«context_count») where
-  abbrev number : ℕ → ℕ
-  number c = contextAt figure c .number
-
-  abbrev Low : ℕ → ℕ → Type 0
-  Low m c = getD left c 0 ≡ 1 → number m ≤ number c
-
-  pub least-step : (m : ℕ) → Least figure left n best
-      → ((getD left n 0 ≡ 1) × (best ≡ figure .«context_count») × (m ≡ n))
-      ⊎ (((getD left n 0 ≡ 1) × (best ≢ figure .«context_count») × (number n < number best) × (m ≡ n))
-      ⊎ (((getD left n 0 ≡ 1) × (best ≢ figure .«context_count») × (number best ≤ number n) × (m ≡ best))
-      ⊎ ((getD left n 0 ≢ 1) × (m ≡ best))))
-      → (m ≤ figure .«context_count») × Least figure left (n + 1) m
-  least-step m (inl l) (inl w) = let a : best < n = l .0 in let b : best ≡ figure .«context_count» = w .1 in absurd (omega arith)
-  least-step m (inr l) (inl w) = subst (λ (k : ℕ). (k ≤ figure .«context_count») × Least figure left (n + 1) k) (sym (w .2))
-      (omega arith, inl (omega arith, w .0, below-next (Low n) n (λ c k e. absurd (l .1 c k e)) (λ e. omega arith)))
-  least-step m (inl l) (inr (inl w)) = subst (λ (k : ℕ). (k ≤ figure .«context_count») × Least figure left (n + 1) k) (sym (w .3))
-      (omega arith, inl (omega arith, w .0, below-next (Low n) n (λ c k e. let a = l .2 c k e in let b : number n < number best = w .2 in omega arith) (λ e. omega arith)))
-  least-step m (inr l) (inr (inl w)) = absurd (w .1 (l .0))
-  least-step m (inl l) (inr (inr (inl w))) = subst (λ (k : ℕ). (k ≤ figure .«context_count») × Least figure left (n + 1) k) (sym (w .3))
-      (room, inl ((let a : best < n = l .0 in omega arith), l .1, below-next (Low best) n (l .2) (λ e. w .2)))
-  least-step m (inr l) (inr (inr (inl w))) = absurd (w .1 (l .0))
-  least-step m (inl l) (inr (inr (inr w))) = subst (λ (k : ℕ). (k ≤ figure .«context_count») × Least figure left (n + 1) k) (sym (w .1))
-      (room, inl ((let a : best < n = l .0 in omega arith), l .1, below-next (Low best) n (l .2) (λ e. absurd (w .0 e))))
-  least-step m (inr l) (inr (inr (inr w))) = subst (λ (k : ℕ). (k ≤ figure .«context_count») × Least figure left (n + 1) k) (sym (w .1))
-      (room, inr (l .0, below-next (λ c. getD left c 0 ≢ 1) n (l .1) (w .0)))
 
 -- One atom more has the context.
 pub gave-start : (given : Given) (g : Growth) (number : ℕ) → length (given .contexts) ≡ sheetAtoms → length (given .done) ≡ sheetAtoms → Gave given g number 0 given

@@ -15,8 +15,9 @@ use Rattle.completing.specs.Fault.{Other}
 use Rattle.completing.proofs.Growing.{part-start, serves-start}
 use Rattle.faults.specs.declared.growth.Growth.{Growth}
 use Rattle.faults.specs.Grows.{ones, Sized, started, atomsOf, Longer, Tables, Grows, WithLinks, WholeAt}
-use Rattle.faults.proofs.Tables.{store-flag, zeros-not, ones-set, below-next}
-use Rattle.faults.proofs.Reading.{atom-on, atom-place}
+use Rattle.stepping.proofs.Tables.{store-flag, zeros-not, below-next}
+use Rattle.faults.proofs.Ones.{ones-set}
+use Rattle.stepping.proofs.Reading.{atom-on, atom-place}
 use Rattle.faults.proofs.Growing.{listed-in, listed-of}
 
 -- The start: one atom, no link.

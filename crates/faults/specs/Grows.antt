@@ -1,7 +1,7 @@
 -- A component as it is grown, over the tables.
 use Prim.Native.Nat.{ℕ, suc, _+_, _*_, _-_, _≤_, _<_}
 use mathlib.Core.Path.{_≡_}
-use mathlib.Core.Logic.{_↔_, _⊎_, _≢_}
+use mathlib.Core.Logic.{_↔_}
 use mathlib.Core.List.{List, [], _∷_, map}
 use lib.Dec.{eqb}
 use lib.ListN.{length, take, getD, set, replicate}
@@ -11,7 +11,7 @@ use Rattle.rows.specs.Limits.{sheetAtoms, sheetLinks}
 use Rattle.sheet.specs.declared.normal.Normal as form
 use Rattle.placing.specs.Net.{Net, Range, Normal}
 use Rattle.placing.specs.Placing.{Placing, numberAt, cellAt, Across, PortAt}
-use Rattle.network.specs.NetIn.{netIn, contextAt}
+use Rattle.network.specs.NetIn.{netIn}
 use Rattle.completing.specs.Fault.{Used, Other}
 use Rattle.completing.specs.Growing.{Part, Serves, Grown}
 use Rattle.faults.specs.declared.growth.Growth.{Growth}
@@ -121,9 +121,3 @@ abbrev pub Whole : form.Normal → List ℕ → List ℕ → List ℕ → ℕ �
 Whole sheet touches used ports root contexts g =
     (F : Net) (q : Placing) → Tables (netIn sheet) F q touches used ports (sheet .«atom_count») contexts → Other (netIn sheet) F q (suc root)
     → WholeAt (netIn sheet) F q (suc root) contexts g
-
--- Among the first n contexts: the best is left and has the least number of those left, or none is left.
-abbrev pub Least : form.Normal → List ℕ → ℕ → ℕ → Type 0
-Least figure left n best =
-    ((best < n) × (getD left best 0 ≡ 1) × ((c : ℕ) → c < n → getD left c 0 ≡ 1 → contextAt figure best .number ≤ contextAt figure c .number))
-    ⊎ ((best ≡ figure .«context_count») × ((c : ℕ) → c < n → getD left c 0 ≢ 1))

@@ -1,5 +1,3 @@
-pub mod Labels
-pub mod Flags
 pub mod Grows
 pub mod Gives
 pub mod Parts

@@ -1,15 +1,15 @@
 // What stands in the way of completing: sheet links to one of which an open figure link must go.
-use crate::PORTS;
-use crate::TOUCHES;
-use crate::contexts::least;
 use crate::growth::Growth;
 use crate::growth::grown;
-use crate::lookup::port_table;
-use crate::lookup::used_links;
 use crate::part::part;
-use crate::steps::apart;
 use rows::Sheet;
 use sheet::normal::Normal;
+use stepping::PORTS;
+use stepping::TOUCHES;
+use stepping::contexts::least;
+use stepping::lookup::port_table;
+use stepping::lookup::used_links;
+use stepping::steps::apart;
 ghost use mathlib.Core.Path.{_≡_};
 ghost use mathlib.Core.List.{List};
 ghost use Prim.Native.Nat.{ℕ, suc, _+_, _<_, _≤_};

@@ -1,10 +1,10 @@
 // A component of the sheet atoms that no figure atom takes: atoms that meet at a sheet link to which no
 // figure link goes.
-use crate::PORTS;
-use crate::TOUCHES;
-use crate::contexts::left_at;
 use rows::Sheet;
 use sheet::normal::Normal;
+use stepping::PORTS;
+use stepping::TOUCHES;
+use stepping::contexts::left_at;
 ghost use mathlib.Core.Path.{_≡_};
 ghost use mathlib.Core.Logic.{_≢_};
 ghost use Prim.Native.Nat.{ℕ, suc, _+_, _*_, _-_, _<_, _≤_};
@@ -15,7 +15,7 @@ ghost use Rattle.rows.specs.Limits.{sheetAtoms, sheetLinks, figureContexts};
 ghost use Rattle.placing.specs.Net.{Net, Range};
 ghost use Rattle.placing.specs.Placing.{Placing, cellAt};
 ghost use Rattle.network.specs.NetIn.{netIn, Fit};
-ghost use Rattle.faults.specs.Flags.{Within};
+ghost use Rattle.stepping.specs.Flags.{Within};
 ghost use Rattle.faults.specs.Grows.{Sized, started, added, Longer, WithAtoms, WithLink, WithLinks, Whole};
 
 pub(crate) struct Growth {

@@ -1,7 +1,5 @@
 // A small connected part of a component that no context may hold: ways from its first atom to links that
 // together leave no context. The ways are guessed; what is made of them is checked.
-use crate::PORTS;
-use crate::TOUCHES;
 use crate::growth::Growth;
 use crate::growth::start;
 use crate::growth::with_atom;
@@ -10,13 +8,15 @@ use crate::ways::mark_all;
 use crate::ways::wide;
 use rows::Sheet;
 use sheet::normal::Normal;
+use stepping::PORTS;
+use stepping::TOUCHES;
 ghost use mathlib.Core.Path.{_≡_};
 ghost use mathlib.Core.Bool.{true};
 ghost use Prim.Native.Nat.{ℕ, _<_, _≤_};
 ghost use Rattle.rows.specs.Format.{mostLinks};
 ghost use Rattle.rows.specs.Limits.{sheetAtoms, sheetLinks, figureContexts};
 ghost use Rattle.network.specs.NetIn.{Fit};
-ghost use Rattle.faults.specs.Flags.{Within};
+ghost use Rattle.stepping.specs.Flags.{Within};
 ghost use Rattle.faults.specs.Grows.{Sized};
 ghost use Rattle.faults.specs.Parts.{WithStep, WithEnds, WithMarked, HoldsPart, Cut, Cuts};
 

@@ -1,15 +1,15 @@
 // Ways from the first atom of a component to links that together leave no context. They are a guess: the
 // contracts promise nothing of them.
-use crate::PORTS;
-use crate::contexts::left_at;
 use crate::growth::Growth;
 use rows::Sheet;
 use sheet::normal::Normal;
+use stepping::PORTS;
+use stepping::contexts::left_at;
 ghost use Prim.Native.Nat.{_<_, _≤_};
 ghost use Rattle.rows.specs.Format.{mostLinks};
 ghost use Rattle.rows.specs.Limits.{sheetAtoms, sheetLinks, figureContexts};
 ghost use Rattle.network.specs.NetIn.{Fit};
-ghost use Rattle.faults.specs.Flags.{Within};
+ghost use Rattle.stepping.specs.Flags.{Within};
 ghost use Rattle.faults.specs.Grows.{Sized};
 
 pub(crate) struct Marks {

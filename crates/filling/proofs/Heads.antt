@@ -20,8 +20,8 @@ use Rattle.sheet.specs.declared.kind.Kind.the-variants.{Fillings}
 use Rattle.sheet.proofs.read.ReadingLaws.{read-none, row-by}
 use Rattle.sheet.proofs.read.Taken.{rowAt, Taken, tests-none}
 use Rattle.texts.proofs.OneFilling.{headless-row}
-use Rattle.placing.proofs.ListParts.{before-none}
 use Rattle.filling.specs.Read.{partHeld}
+use Rattle.sheet.proofs.filling.FillingLaws.{before-nil}
 
 other-letter : (b : ℕ) → eqb b 72 ≡ false → letterOf b ≡ 4 → ⊥
 unfolding letterOf
@@ -97,7 +97,7 @@ after-first n text = go (decLe rowWidth (length text))
     go (no k) =
         let b : length text ≤ rowWidth = omega arith in
         let d : drop rowWidth text ≡ [] = drop-of-length-le text b in
-        rw (d, before-none n, append-nil (take rowWidth text), row-gone text)
+        rw (d, before-nil n, append-nil (take rowWidth text), row-gone text)
 
 pub part-heads : (list : List ℕ) (number : ℕ) → length (partHeld list number .contexts) ≤ 1
 unfolding fillingOf outcomeOf

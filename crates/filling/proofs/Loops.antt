@@ -16,7 +16,7 @@ use Rattle.rows.specs.Held.{indexOf, isIn}
 use Rattle.rows.specs.declared.Atom.{Atom}
 use Rattle.rows.specs.declared.Context.{Context}
 use Rattle.rows.proofs.Lists.{mapped, index-below}
-use Rattle.sheet.proofs.normal.Numbered.{part-cons, part-end}
+use Rattle.numbering.proofs.Turns.{part-cons, part-end}
 use Rattle.placing.specs.Smallest.{numbersFrom, numbersTo, sameList}
 use Rattle.placing.proofs.Joined.{numbers-length}
 use Rattle.filling.specs.Read.{fillingRead}
@@ -118,6 +118,13 @@ room-full l n a e h k =
 
 pub grown-none : (w : Whole) → w .count ≤ sheetAtoms + 1 → Grown w w []
 grown-none w h = record { atoms = sym (ap roomFor (append-nil (wholeAtoms w)) ∙ room-all (wholeAtoms w) (omega (arith, length-take (w .count) (w .atoms)))); few = h }
+
+-- One atom more, and one for which there is no room.
+pub grown-one : (w r : Whole) (a : Atom) → length (w .atoms) ≡ sheetAtoms + 1 → w .count < sheetAtoms + 1 → r ≡ record { atoms = set (w .atoms) (w .count) a; count = w .count + 1 } → Grown w r (a ∷ [])
+grown-one w r a e h q = subst (λ (t : Whole). Grown w t (a ∷ [])) (sym q) (record { atoms = room-one (w .atoms) (w .count) a e h; few = omega arith })
+
+pub grown-full : (w r : Whole) (a : Atom) → length (w .atoms) ≡ sheetAtoms + 1 → w .count ≤ sheetAtoms + 1 → sheetAtoms + 1 ≤ w .count → r ≡ w → Grown w r (a ∷ [])
+grown-full w r a e h k q = subst (λ (t : Whole). Grown w t (a ∷ [])) (sym q) (record { atoms = room-full (w .atoms) (w .count) a e h k; few = h })
 
 pub grown-then : (w r s : Whole) (a b : List Atom) → Grown w r a → Grown r s b → Grown w s (a ++ b)
 grown-then w r s a b g h =

@@ -13,7 +13,7 @@ use Rattle.rows.specs.Packed.{padded, noAtom, noContext, packed}
 use Rattle.sheet.specs.Graph.{atomCell, contextCell, graphOf}
 use Rattle.sheet.specs.Agrees.{Agrees}
 use Rattle.sheet.specs.Normal.{classOf, markNode, marksOf, shown}
-use Rattle.sheet.specs.Numbering.{Numberable}
+use Rattle.numbering.specs.Numbering.{Numberable}
 use Rattle.sheet.specs.NormalSheet.{numberIn, normalAtom, normalContext, normalMarks, packedNormal}
 use Rattle.sheet.specs.NormalRows.{pastAtoms, pastContexts}
 use Rattle.sheet.specs.Reading.{noPorts}

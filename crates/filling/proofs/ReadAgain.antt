@@ -143,10 +143,10 @@ module _ (figure list : List ℕ) (right : Right figure list) where
         let a = length-map atoms vertex in
         let b = length-map marks edge in
         record {
+          single = refl;
           joints = upTo (length D);
           marks = marks;
           stock = record {
-            single = refl;
             joint-range = λ x i. let t = upTo-of (length D) x i in let u : x ≤ length D = t .1 in (t .0, omega arith);
             mark-range = mark-range;
             few-joints = omega arith;

@@ -24,9 +24,9 @@ ghost use Rattle.filling.specs.Whole.{wholeAtoms};
 ghost use Rattle.filling.specs.Classes.{markLabels, Numbered, Made};
 
 // The labels of the classes that have the figure's marks.
-fn mark_labels(labels: [u16; PLACES], figure: Normal) -> [u16; Sheet::MARK_ROOM]
+fn mark_labels(labels: &[u16; PLACES], figure: Normal) -> [u16; Sheet::MARK_ROOM]
     requires { ⌜ Low figure ⌝ }
-    ensures { λ r. ⌜ take (figure .«mark_count») r ≡ markLabels labels figure ⌝ }
+    ensures { λ r. ⌜ take (figure .«mark_count») r ≡ markLabels (now (labels .entry)) figure ⌝ }
 {
     let mut marked = [0u16; Sheet::MARK_ROOM];
     let mut k = 0;
@@ -69,8 +69,8 @@ pub(crate) fn filled(figure: Normal, list: &[u8]) -> Normal
     ensures { λ r. ⌜ ((labels : List ℕ) × (Glues (now (list .entry)) figure labels × Made (now (list .entry)) labels figure r)) ⌝ }
 {
     let labels = glued(figure, list);
-    let whole = whole_of(figure, list, labels);
-    let labelled = mark_labels(labels, figure);
+    let whole = whole_of(figure, list, &labels);
+    let labelled = mark_labels(&labels, figure);
     numbered(figure, whole, labelled)
 }
 

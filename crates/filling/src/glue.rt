@@ -30,44 +30,45 @@ fn own_labels() -> [u16; PLACES]
     labels
 }
 
-// The labels with those of the two places made one.
-fn merged(labels: [u16; PLACES], a: usize, b: usize) -> [u16; PLACES]
-    requires { ⌜ (a < places) × (b < places) ⌝ }
-    ensures { λ r. ⌜ r ≡ joinedAt labels (a, b) ⌝ }
+// Makes the labels of two places one.
+fn merged(labels: &mut [u16; PLACES], a: usize, b: usize)
+    requires { ⌜ (a < places) × (b < places) × (length (now labels) ≡ places) ⌝ }
+    ensures { λ _. ⌜ now (labels .exit) ≡ joinedAt (now (labels .entry)) (a, b) ⌝ }
 {
     let from = labels[b];
     let to = labels[a];
-    let mut more = labels;
     let mut k = 0;
     while k < PLACES {
-        if more[k] == from {
-            more[k] = to;
+        let mut label = labels[k];
+        if label == from {
+            label = to;
         }
+        labels[k] = label;
         k += 1;
     }
-    more
 }
 
 // Mark i of the filling that is part p is link i of its context.
 fn with_ports(
-    labels: [u16; PLACES],
+    labels: &mut [u16; PLACES],
     p: usize,
     links: [u16; Sheet::MOST_LINKS],
     count: usize,
     marked: [u16; Sheet::MARK_ROOM],
-) -> [u16; PLACES]
-    requires { ⌜ (p ≤ figureContexts) × (count ≤ mostLinks) ⌝ }
+)
+    requires { ⌜ (p ≤ figureContexts) × (count ≤ mostLinks) × (length (now labels) ≡ places) ⌝ }
     requires { ⌜ ((k : ℕ) → (getD links k 0 < partRoom) × (getD marked k 0 < partRoom)) ⌝ }
-    ensures { λ r. ⌜ r ≡ joinedAll labels (portPairs p (take count links) (take count marked)) ⌝ }
+    ensures { λ _. ⌜ now (labels .exit) ≡ joinedAll (now (labels .entry)) (portPairs p (take count links) (take count marked)) ⌝ }
 {
-    let mut more = labels;
     let mut k = 0;
     while k < count {
-        let next = merged(more, links[k] as usize, p * PART + marked[k] as usize);
-        more = next;
+        merged(
+            &mut *labels,
+            links[k] as usize,
+            p * PART + marked[k] as usize,
+        );
         k += 1;
     }
-    more
 }
 
 // The labels when every context has its filling.
@@ -82,8 +83,7 @@ pub(crate) fn glued(figure: Normal, list: &[u8]) -> [u16; PLACES]
         let links = context.links;
         let part = part_of(list, context.number);
         let marked = part.marked;
-        let next = with_ports(labels, i + 1, links, context.count as usize, marked);
-        labels = next;
+        with_ports(&mut labels, i + 1, links, context.count as usize, marked);
         i += 1;
     }
     labels

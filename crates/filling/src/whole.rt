@@ -6,7 +6,7 @@ use rows::Atom;
 use rows::Sheet;
 use sheet::normal::Normal;
 ghost use mathlib.Core.Path.{_≡_};
-ghost use mathlib.Core.List.{[], _∷_};
+ghost use mathlib.Core.List.{[]};
 ghost use Prim.Native.Nat.{ℕ, _+_, _≤_, _<_};
 ghost use lib.ListN.{getD};
 ghost use Rattle.rows.specs.Format.{mostLinks};
@@ -22,13 +22,13 @@ pub(crate) struct Whole {
 
 // The labels of the first `count` links of an atom of part p.
 fn labelled(
-    labels: [u16; PLACES],
+    labels: &[u16; PLACES],
     p: usize,
     links: [u16; Sheet::MOST_LINKS],
     count: usize,
 ) -> [u16; Sheet::MOST_LINKS]
     requires { ⌜ (p ≤ figureContexts) × (count ≤ mostLinks) × ((k : ℕ) → getD links k 0 < partRoom) ⌝ }
-    ensures { λ r. ⌜ r ≡ labelledLinks labels p count links ⌝ }
+    ensures { λ r. ⌜ r ≡ labelledLinks (now (labels .entry)) p count links ⌝ }
 {
     let mut more = [0u16; Sheet::MOST_LINKS];
     let mut k = 0;
@@ -48,23 +48,10 @@ impl Whole {
         Whole { atoms, count: 0 }
     }
 
-    // One atom more, where there is room.
-    fn with_atom(mut self, name: u16, count: u16, links: [u16; Sheet::MOST_LINKS]) -> Self
-        requires { ⌜ self .count ≤ sheetAtoms + 1 ⌝ }
-        ensures { λ r. ⌜ Grown self r (record { name = name; count = count; links = links } ∷ []) ⌝ }
-    {
-        let n = self.count;
-        if n < Sheet::ATOM_ROOM {
-            self.atoms[n] = Atom { name, count, links };
-            self.count = n + 1;
-        }
-        self
-    }
-
-    // The atoms of part p.
-    fn with_part(self, labels: [u16; PLACES], p: usize, part: Normal) -> Self
+    // The atoms of part p, as many as there is room for.
+    fn with_part(self, labels: &[u16; PLACES], p: usize, part: Normal) -> Self
         requires { ⌜ (self .count ≤ sheetAtoms + 1) × (p ≤ figureContexts) × Low part ⌝ }
-        ensures { λ r. ⌜ Grown self r (partAtoms labels p part) ⌝ }
+        ensures { λ r. ⌜ Grown self r (partAtoms (now (labels .entry)) p part) ⌝ }
     {
         let mut whole = self;
         let mut i = 0;
@@ -72,7 +59,15 @@ impl Whole {
             let atom = part.atoms[i];
             let before = atom.links;
             let links = labelled(labels, p, before, atom.count as usize);
-            whole = whole.with_atom(atom.name, atom.count, links);
+            let n = whole.count;
+            if n < Sheet::ATOM_ROOM {
+                whole.atoms[n] = Atom {
+                    name: atom.name,
+                    count: atom.count,
+                    links,
+                };
+                whole.count = n + 1;
+            }
             i += 1;
         }
         whole
@@ -80,9 +75,9 @@ impl Whole {
 }
 
 // The figure's atoms, then for each context in order its filling's.
-pub(crate) fn whole_of(figure: Normal, list: &[u8], labels: [u16; PLACES]) -> Whole
+pub(crate) fn whole_of(figure: Normal, list: &[u8], labels: &[u16; PLACES]) -> Whole
     requires { ⌜ Low figure ⌝ }
-    ensures { λ r. ⌜ (wholeAtoms r ≡ roomFor (allAtoms (now (list .entry)) labels figure)) × (r .count ≤ sheetAtoms + 1) ⌝ }
+    ensures { λ r. ⌜ (wholeAtoms r ≡ roomFor (allAtoms (now (list .entry)) (now (labels .entry)) figure)) × (r .count ≤ sheetAtoms + 1) ⌝ }
 {
     let mut whole = Whole::none().with_part(labels, 0, figure);
     let mut i = 0;

@@ -11,7 +11,7 @@ use Rattle.hyperlmntal.specs.Hypergraph.{Node, name, Cell, Flat, nodes}
 use Rattle.hyperlmntal.specs.Isomorphism.{Point, port, link, portAt, nodeAt, partner, Isomorphic}
 use Rattle.hyperlmntal.proofs.Lists.{Each, done, more, Perm, perm-sym}
 use Rattle.hyperlmntal.proofs.Positions.{some-injective, moved, moved-at, moved-back, back-moved, moved-below, each-of-bijection}
-use Rattle.hyperlmntal.proofs.Relational.{Alike, Keeps, Turned, Iso, iso-refl, iso-sym, iso-trans}
+use Rattle.hyperlmntal.proofs.Relational.{Alike, Keeps, Turned, Iso, iso-sym, iso-trans}
 
 pub each-length : {A B : Type 0} {S : A → B → Type 0} {l : List A} {k : List B} → Each S l k → length l ≡ length k
 each-length done = refl
@@ -72,10 +72,7 @@ module _ {P Q : Type 0} (F : Flat P) (K : Flat Q) (i : Isomorphic F K) where
   pub iso-of-isomorphic : Iso F K
   iso-of-isomorphic = record { R = AtPartners; links = λ X. (link X, refl, refl); cells = each-of-bijection (Alike AtPartners) (K .atoms) (F .atoms) (i .vertices) partners-alike; onward = partners-onward; backward = partners-backward }
 
--- Isomorphism is an equivalence.
-pub isomorphic-refl : {P : Type 0} (F : Flat P) → Isomorphic F F
-isomorphic-refl F = isomorphic-of-iso F F (iso-refl F) (λ X. (λ m. m, λ m. m))
-
+-- Isomorphism is symmetric and transitive.
 pub isomorphic-sym : {P Q : Type 0} {F : Flat P} {K : Flat Q} → Isomorphic F K → Isomorphic K F
 isomorphic-sym {F = F} {K = K} i = isomorphic-of-iso K F (iso-sym (iso-of-isomorphic F K i)) (λ X. ((i .names X) .1, (i .names X) .0))
 

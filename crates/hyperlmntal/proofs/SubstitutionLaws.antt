@@ -93,11 +93,3 @@ substituteBy-graph θ e (context x Xs) g σ = absurd g
 
 pub substitute-graph : (θ : Substitution) → loose θ ≡ [] → (T : Template) → Graph T → substitute θ T ≡ T
 substitute-graph θ e T g = substituteBy-graph θ e T g same ∙ rename-idle same T (λ Z m. refl)
-
-pub graph-rename : (σ : Link → Link) (G : Template) → Graph G → Graph (rename σ G)
-graph-rename σ null g = tt
-graph-rename σ (atom p Xs) g = tt
-graph-rename σ (fusion X Y) g = tt
-graph-rename σ (molecule G H) g = (graph-rename σ G (g .0), graph-rename σ H (g .1))
-graph-rename σ (ν X G) g = graph-rename (update σ X (avoid X (map σ (fn (ν X G))))) G g
-graph-rename σ (context x Xs) g = absurd g

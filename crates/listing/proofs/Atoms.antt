@@ -15,11 +15,11 @@ use Rattle.rows.specs.Format.{mostLinks, fieldCount}
 use Rattle.rows.specs.Packed.{padded}
 use Rattle.rows.specs.RowText.{rowBytes}
 use Rattle.rows.proofs.Padding.{take-padded, getD-padding}
+use Rattle.numbering.specs.Numbering.{linkRoom}
 use Rattle.sheet.specs.declared.normal.Normal as form
 use Rattle.placing.specs.Net.{NetCell, cellLinks}
 use Rattle.network.specs.NetIn.{atomIn, atomAt, Fit}
 use Rattle.network.proofs.NetIn.{used-range}
-use Rattle.listing.specs.Numbers.{linkRoom}
 use Rattle.listing.specs.Writing.{givenAt, givenBelow, symbolsBytes}
 
 pub cell-links-append : (a b : List NetCell) → cellLinks (a ++ b) ≡ cellLinks a ++ cellLinks b

@@ -13,16 +13,17 @@ use Rattle.rows.specs.RowText.{rowBytes}
 use Rattle.rows.specs.declared.Context.{Context}
 use Rattle.rows.proofs.Lists.{getD-mapped}
 use Rattle.rows.proofs.RowBytes.{row-width, over, over-more}
+use Rattle.numbering.specs.Numbering.{linkRoom, noNumbers, withClasses}
+use Rattle.numbering.specs.declared.classes.Numbering.{Numbering}
+use Rattle.numbering.proofs.Turns.{with-classes-append}
 use Rattle.sheet.specs.declared.normal.Normal as form
 use Rattle.sheet.proofs.normal_text.NormalWritten.{mapped-at, taken-padded}
+use Rattle.sheet.proofs.normal.ClassNumbers.{classes-number, number-low}
 use Rattle.placing.specs.Net.{NetCell, cellLinks}
 use Rattle.placing.proofs.Lists.{member-at, getD-of}
 use Rattle.network.specs.NetIn.{contextIn, Used, Fit}
 use Rattle.network.proofs.NetIn.{used-length, used-at}
-use Rattle.listing.specs.Numbers.{linkRoom, noNumbers, withLinks, numberIn}
-use Rattle.listing.specs.Writing.{givenCells, standsAt, portLinks, appearing, numberAmong, symbolsBytes, portsBytes, fillingBytes}
-use Rattle.listing.specs.declared.numbering.Numbering.{Numbering}
-use Rattle.listing.proofs.Appearing.{with-links-append, link-number, number-low}
+use Rattle.listing.specs.Writing.{numberIn, givenCells, standsAt, portLinks, appearing, numberAmong, symbolsBytes, portsBytes, fillingBytes}
 use Rattle.listing.proofs.Atoms.{below-few, below-low}
 use Rattle.listing.proofs.Texts.{symbols-length, symbols-agree, ports-agree, filling-length}
 
@@ -36,8 +37,8 @@ three-put l one two new at a b c j k p q room e f g =
     (rw (z, first) at g) ∙ over-more l at (a ++ b) (rowWidth + j) m room c k ∙ rw (append-assoc a b c)
 
 -- One numbering after the other.
-pub chained : (zero first n : Numbering) (l k : List ℕ) → zero ≡ noNumbers → first ≡ withLinks zero l → n ≡ withLinks first k → n ≡ withLinks (withLinks noNumbers l) k
-chained zero first n l k p q r = r ∙ ap (λ m. withLinks m k) (q ∙ ap (λ m. withLinks m l) p)
+pub chained : (zero first n : Numbering) (l k : List ℕ) → zero ≡ noNumbers → first ≡ withClasses zero l → n ≡ withClasses first k → n ≡ withClasses (withClasses noNumbers l) k
+chained zero first n l k p q r = r ∙ ap (λ m. withClasses m k) (q ∙ ap (λ m. withClasses m l) p)
 
 module _ (sheet : form.Normal) (fit : Fit sheet) (linksTo given : List ℕ) (c : Context) (u : Used sheetLinks (c .count) (c .links)) where
   abbrev cells : List NetCell
@@ -84,16 +85,16 @@ module _ (sheet : form.Normal) (fit : Fit sheet) (linksTo given : List ℕ) (c :
         at (inl i) = below-low sheet fit given (c .number) (sheet .«atom_count») (omega arith) x i
         at (inr i) = in-ports x i
 
-    module _ (n : Numbering) (numbered : n ≡ withLinks (withLinks noNumbers (cellLinks cells)) (take (c .count) p)) where
-      table : n ≡ withLinks noNumbers (appearing cells ports)
-      table = numbered ∙ ap (withLinks (withLinks noNumbers (cellLinks cells))) ports-taken ∙ sym (with-links-append noNumbers (cellLinks cells) ports)
+    module _ (n : Numbering) (numbered : n ≡ withClasses (withClasses noNumbers (cellLinks cells)) (take (c .count) p)) where
+      table : n ≡ withClasses noNumbers (appearing cells ports)
+      table = numbered ∙ ap (withClasses (withClasses noNumbers (cellLinks cells))) ports-taken ∙ sym (with-classes-append noNumbers (cellLinks cells) ports)
 
       pub numbers-low : (x : ℕ) → getD (n .numbers) x 0 ≤ 9999
       numbers-low x =
           rw table (omega (arith, number-low (appearing cells ports) all-low x, length-append (cellLinks cells) ports, few-cells, fit .atom-count, ports-count, u .few))
 
       agrees : (x : ℕ) → x ∈ appearing cells ports → numberIn (n .numbers) x ≡ numberAmong (appearing cells ports) x
-      agrees x m = rw table (link-number (appearing cells ports) all-low x m)
+      agrees x m = rw table (classes-number (appearing cells ports) all-low x m)
 
       pub filling-rows : rowBytes 72 (c .number ∷ c .count ∷ []) ++ (symbolsBytes (numberIn (n .numbers)) cells ++ portsBytes (numberIn (n .numbers)) 1 (take (c .count) p)) ≡ fillingBytes sheet linksTo given (contextIn c)
       unfolding fillingBytes

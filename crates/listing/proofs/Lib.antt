@@ -1,5 +1,3 @@
--- Links numbered by first appearance.
-pub mod Appearing
 -- The rows of a filling.
 pub mod FillingRows
 pub mod Given

@@ -14,6 +14,7 @@ use Rattle.rows.specs.Pick.{pick}
 use Rattle.rows.specs.Format.{mostLinks}
 use Rattle.rows.specs.Limits.{sheetAtoms, sheetLinks}
 use Rattle.rows.proofs.RowBytes.{over, over-more}
+use Rattle.numbering.specs.Numbering.{linkRoom}
 use Rattle.sheet.specs.NormalText.{slipLength}
 use Rattle.sheet.specs.declared.normal.Normal as form
 use Rattle.placing.specs.Net.{NetCell, Apart, Range}
@@ -24,7 +25,6 @@ use Rattle.placing.proofs.Standing.{context-link}
 use Rattle.network.specs.NetIn.{netIn, contextIn, contextAt, Used}
 use Rattle.network.specs.Ready.{Ready, LinksIn}
 use Rattle.network.proofs.NetIn.{contexts-length, used-length}
-use Rattle.listing.specs.Numbers.{linkRoom}
 use Rattle.listing.specs.Writing.{fillingsText, standsAt, fillingBytes, listBytes}
 use Rattle.listing.proofs.Given.{list-bytes}
 use Rattle.listing.proofs.Texts.{list-append}

@@ -13,12 +13,12 @@ use Rattle.rows.specs.Format.{rowWidth}
 use Rattle.rows.specs.Packed.{padded}
 use Rattle.rows.proofs.Padding.{set-padded}
 use Rattle.rows.proofs.RowBytes.{over, over-more}
+use Rattle.numbering.specs.Numbering.{withClass, withClasses}
+use Rattle.numbering.specs.declared.classes.Numbering.{Numbering}
+use Rattle.numbering.proofs.Turns.{with-classes-append, with-classes-snoc}
 use Rattle.sheet.specs.declared.normal.Normal as form
 use Rattle.placing.specs.Net.{NetCell, cellLinks}
-use Rattle.listing.specs.Numbers.{withLink, withLinks}
 use Rattle.listing.specs.Writing.{givenAt, givenBelow, symbolsBytes, portBytes, portsBytes, fillingBytes, listBytes, below}
-use Rattle.listing.specs.declared.numbering.Numbering.{Numbering}
-use Rattle.listing.proofs.Appearing.{with-links-append, with-links-snoc}
 use Rattle.listing.proofs.Atoms.{cell-links-append}
 use Rattle.listing.proofs.Texts.{symbols-append, symbols-length, ports-snoc, ports-length, list-snoc}
 use Rattle.listing.proofs.Ranks.{below-snoc}
@@ -27,8 +27,8 @@ take-next : {A : Type 0} (l : List A) (k : ℕ) (d : A) → k < length l → tak
 take-next l k d h = rw (add-one k) (take-suc l k d h)
 
 -- One link numbered more.
-pub links-next : (from n : Numbering) (l : List ℕ) (k : ℕ) → k < length l → n ≡ withLinks from (take k l) → withLink n (getD l k 0) ≡ withLinks from (take (k + 1) l)
-links-next from n l k h e = ap (λ m. withLink m (getD l k 0)) e ∙ sym (with-links-snoc from (take k l) (getD l k 0)) ∙ ap (withLinks from) (sym (take-next l k 0 h))
+pub links-next : (from n : Numbering) (l : List ℕ) (k : ℕ) → k < length l → n ≡ withClasses from (take k l) → withClass n (getD l k 0) ≡ withClasses from (take (k + 1) l)
+links-next from n l k h e = ap (λ m. withClass m (getD l k 0)) e ∙ sym (with-classes-snoc from (take k l) (getD l k 0)) ∙ ap (withClasses from) (sym (take-next l k 0 h))
 
 -- One sheet atom more.
 module _ (sheet : form.Normal) (given : List ℕ) (k i : ℕ) where
@@ -36,12 +36,12 @@ module _ (sheet : form.Normal) (given : List ℕ) (k i : ℕ) where
   unfolding givenBelow
   below-next = rw (add-one i)
 
-  pub atoms-next : (from n : Numbering) → n ≡ withLinks from (cellLinks (givenBelow sheet given k i))
-      → withLinks n (cellLinks (givenAt sheet given k i)) ≡ withLinks from (cellLinks (givenBelow sheet given k (i + 1)))
+  pub atoms-next : (from n : Numbering) → n ≡ withClasses from (cellLinks (givenBelow sheet given k i))
+      → withClasses n (cellLinks (givenAt sheet given k i)) ≡ withClasses from (cellLinks (givenBelow sheet given k (i + 1)))
   atoms-next from n e =
-      ap (λ m. withLinks m (cellLinks (givenAt sheet given k i))) e
-      ∙ sym (with-links-append from (cellLinks (givenBelow sheet given k i)) (cellLinks (givenAt sheet given k i)))
-      ∙ ap (withLinks from) (sym (cell-links-append (givenBelow sheet given k i) (givenAt sheet given k i)) ∙ ap cellLinks (sym below-next))
+      ap (λ m. withClasses m (cellLinks (givenAt sheet given k i))) e
+      ∙ sym (with-classes-append from (cellLinks (givenBelow sheet given k i)) (cellLinks (givenAt sheet given k i)))
+      ∙ ap (withClasses from) (sym (cell-links-append (givenBelow sheet given k i) (givenAt sheet given k i)) ∙ ap cellLinks (sym below-next))
 
   pub below-length : length (givenBelow sheet given k (i + 1)) ≡ length (givenBelow sheet given k i) + length (givenAt sheet given k i)
   below-length = ap length below-next ∙ length-append (givenBelow sheet given k i) (givenAt sheet given k i)

@@ -27,6 +27,10 @@ placingIn sheet figure atoms links given = record { atomsTo = atoms; linksTo = t
 abbrev pub fillingsText : form.Normal → form.Normal → List ℕ → List ℕ → List ℕ → List ℕ
 fillingsText sheet figure atoms links given = listText (normalFillingsOf (netIn sheet) (placingIn sheet figure atoms links given) (netIn figure))
 
+-- the number of a link in a table
+abbrev pub numberIn : List ℕ → ℕ → ℕ
+numberIn numbers x = getD numbers x 0
+
 -- S rows of atoms, whose links are numbered by f
 abbrev pub symbolBytes : (ℕ → ℕ) → NetCell → List ℕ
 symbolBytes f c = rowBytes 83 (c .0 ∷ length (c .1) ∷ map f (c .1))

@@ -1,15 +1,17 @@
 // The list of the fillings of a placing, written as text.
-mod numbering;
+mod links;
 mod order;
 mod ports;
 mod put_rows;
 
-use crate::numbering::Numbering;
+use crate::links::with_given;
+use crate::links::with_links;
 use crate::order::context_ranked;
 use crate::ports::ports_of;
 use crate::put_rows::put_pair;
 use crate::put_rows::put_ports;
 use crate::put_rows::put_symbols;
+use numbering::classes::Numbering;
 use rows::Context;
 use rows::Sheet;
 use sheet::normal::Normal;
@@ -18,11 +20,11 @@ ghost use mathlib.Core.List.{List, _++_};
 ghost use Prim.Native.Nat.{ℕ, _+_, _<_, _≤_};
 ghost use lib.ListN.{length, take, drop, getD};
 ghost use Rattle.rows.specs.Limits.{sheetAtoms, sheetLinks};
+ghost use Rattle.numbering.specs.Numbering.{linkRoom};
 ghost use Rattle.sheet.specs.NormalText.{slipLength};
 ghost use Rattle.placing.specs.Net.{Apart};
 ghost use Rattle.network.specs.NetIn.{netIn, contextIn, atomAt, Used, Fit};
 ghost use Rattle.network.specs.Ready.{Ready, LinksIn};
-ghost use Rattle.listing.specs.Numbers.{linkRoom};
 ghost use Rattle.listing.specs.Writing.{Columns, fillingsText, standsAt, fillingBytes};
 
 // The filling of a context, from byte `at` on; the byte after it.
@@ -44,9 +46,8 @@ fn put_filling(
     let links = context.links;
     let count = context.count as usize;
     let ports = ports_of(sheet.class_count, links_to, links, count);
-    let numbering = Numbering::none()
-        .with_given(sheet, given, number)
-        .with_links(ports, count);
+    let atoms_numbered = with_given(Numbering::none(), sheet, given, number);
+    let numbering = with_links(atoms_numbered, ports, count);
     let numbers = numbering.numbers;
     put_pair(out, at, b'H', number, context.count);
     let end = put_symbols(numbers, sheet, given, number, out, at + Sheet::ROW);

@@ -1,5 +1,5 @@
 // The rows of a filling, one after the other.
-use crate::numbering::Numbering;
+use numbering::classes::Numbering;
 use rows::Sheet;
 use rows::write::put_row;
 use sheet::normal::Normal;
@@ -11,9 +11,9 @@ ghost use Rattle.rows.specs.Format.{mostLinks, fieldCount, rowWidth};
 ghost use Rattle.rows.specs.Limits.{sheetAtoms};
 ghost use Rattle.rows.specs.Packed.{padded};
 ghost use Rattle.rows.specs.RowText.{rowBytes};
+ghost use Rattle.numbering.specs.Numbering.{linkRoom};
 ghost use Rattle.network.specs.NetIn.{Fit, atomAt};
-ghost use Rattle.listing.specs.Numbers.{linkRoom, numberIn};
-ghost use Rattle.listing.specs.Writing.{givenAt, givenCells, symbolsBytes, portsBytes};
+ghost use Rattle.listing.specs.Writing.{numberIn, givenAt, givenCells, symbolsBytes, portsBytes};
 
 // An H row or an E row: two numbers.
 pub(crate) fn put_pair(out: &mut [u8], at: usize, letter: u8, first: u16, second: u16)

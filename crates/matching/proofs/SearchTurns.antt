@@ -1,6 +1,6 @@
 -- One turn of the search's loop, on the arrays that the code holds.
-use Prim.Native.Nat.{ℕ, zero, suc, _+_, _-_, _*_, _≤_, _<_}
-use mathlib.Core.Path.{_≡_, refl, ap, ap₂, sym, _∙_, subst, subst₂}
+use Prim.Native.Nat.{ℕ, suc, _+_, _-_, _*_, _≤_, _<_}
+use mathlib.Core.Path.{_≡_, ap, ap₂, sym, _∙_, subst, subst₂}
 use mathlib.Core.Logic.{_≢_, inl, inr}
 use mathlib.Core.List.{List, [], _∷_, _++_, append-assoc}
 use mathlib.Core.Bool.{true, false}
@@ -22,9 +22,10 @@ use Rattle.network.specs.Ready.{Ready, AtomsIn}
 use Rattle.matching.specs.Search.{mayIn, KeepsIn, searchFrom, foundList, foundIn, Skipped}
 use Rattle.narrowing.specs.Sets.{Keeps}
 use Rattle.narrowing.specs.Tables.{mayAtom, mayLink}
-use Rattle.symmetry.specs.Checks.{Follows}
+use Rattle.symmetry.specs.Follows.{Follows}
 use Rattle.matching.specs.declared.search.Found.{Found}
 use Rattle.matching.proofs.SearchLaws.{nothing-found, none-found, some-found, none-begun, begun-none, restBounds, tried-start, tried-next, tried-end, tried-found}
+use Rattle.rows.proofs.Padding.{getD-filled}
 
 -- What the loop keeps: sheet atoms 1 to t were tried in vain, and those with a cost failed.
 pub record Tries (sheet figure : form.Normal) (pre failed : List ℕ) (work t : ℕ) : Type 0 where
@@ -36,11 +37,6 @@ pub record Tries (sheet figure : form.Normal) (pre failed : List ℕ) (work t : 
 pub tries-same : {sheet figure : form.Normal} {pre failed failed′ : List ℕ} {work work′ t : ℕ} → failed′ ≡ failed → work′ ≡ work
     → Tries sheet figure pre failed work t → Tries sheet figure pre failed′ work′ t
 tries-same {sheet} {figure} {pre} {failed} {failed′} {work} {work′} {t} e f u = subst (λ (w : ℕ). Tries sheet figure pre failed′ w t) (sym f) (subst (λ (l : List ℕ). Tries sheet figure pre l work t) (sym e) u)
-
-no-cost : (n u : ℕ) → _≡_ {A = ℕ} (getD (replicate n 0) u 0) 0
-no-cost zero u = refl
-no-cost (suc n) zero = refl
-no-cost (suc n) (suc u) = no-cost n u
 
 pub some-left : (left : ℕ) → left ≢ 0 → 0 < left
 some-left left h = go (decLt 0 left)
@@ -82,7 +78,7 @@ module _ (sheet figure : form.Normal) (ready : Ready sheet figure) (chosen : Lis
     tries-start cost e = record {
       within = omega arith;
       tried = tried-start S F pre small;
-      failures = λ u h b. h (ap (λ (l : List ℕ). getD l u 0) e ∙ no-cost sheetAtoms u);
+      failures = λ u h b. h (ap (λ (l : List ℕ). getD l u 0) e ∙ getD-filled {A = ℕ} 0 sheetAtoms u);
       worked = omega arith;
     }
 

@@ -16,7 +16,7 @@ use Rattle.network.specs.NetIn.{netIn}
 use Rattle.network.specs.Begun.{leastAfter}
 use Rattle.narrowing.specs.Sets.{Keeps}
 use Rattle.narrowing.specs.Tables.{mayAtom, mayLink}
-use Rattle.symmetry.specs.Checks.{Follows}
+use Rattle.symmetry.specs.Follows.{Follows}
 use Rattle.matching.specs.declared.search.Found.{Found}
 
 -- what was found behind the beginning of a list

@@ -1,4 +1,3 @@
 // Finding a figure in a sheet.
 mod colours;
-pub mod compare;
 pub mod search;

@@ -1,8 +1,5 @@
--- Counting.
-pub mod Counting
-pub mod Sums
 -- What a good placing does at links.
-pub mod GoodLinks
+pub mod GoodPlaces
 -- The sets as arrays, and nets in arrays.
 pub mod Staying
 pub mod NetRows
@@ -10,7 +7,3 @@ pub mod Choice
 pub mod Missing
 pub mod Obeying
 pub mod Passes
-pub mod Tallies
-pub mod Ports
-pub mod Marking
-pub mod Starting

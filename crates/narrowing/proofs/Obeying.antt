@@ -14,7 +14,7 @@ use Rattle.network.proofs.NetIn.{atoms-length}
 use Rattle.narrowing.specs.Sets.{Decided, by-atom, Obeys, Keeps}
 use Rattle.narrowing.specs.Tables.{mayAtom, mayLink, Stays}
 use Rattle.narrowing.specs.Steps.{linkOf, Fitting, GivenRow, Narrowed}
-use Rattle.narrowing.proofs.GoodLinks.{place-count, place-sent, place-member, decided-real, decided-link}
+use Rattle.narrowing.proofs.GoodPlaces.{place-count, place-sent, place-member, decided-real, decided-link}
 use Rattle.narrowing.proofs.NetRows.{atom-count, atom-link}
 
 pub narrowed-keeps : (sheet figure : NormalForm) (a l b k : List ℕ) → Narrowed sheet figure a l b k → (pre : List ℕ) → Keeps (netIn sheet) (netIn figure) pre (mayAtom a) (mayLink l) → Keeps (netIn sheet) (netIn figure) pre (mayAtom b) (mayLink l)

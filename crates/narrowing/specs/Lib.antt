@@ -1,4 +1,3 @@
-pub mod Count
 pub mod Sets
 pub mod Tables
 pub mod Steps

@@ -1,16 +1,13 @@
--- What the steps of narrowing look at, on the arrays of normal forms: atoms are counted from 0, links and marks by their numbers.
-use Prim.Native.Nat.{ℕ, _+_, _≤_, _<_}
+-- What the steps of narrowing look at, on the arrays of normal forms: atoms are counted from 0, links by their numbers.
+use Prim.Native.Nat.{ℕ, _+_, _<_}
 use mathlib.Core.Path.{_≡_}
 use mathlib.Core.List.{List}
 use lib.ListN.{getD}
-use Rattle.hyperlmntal.specs.Link.{_∈_}
 use Rattle.rows.specs.Limits.{sheetAtoms, sheetLinks}
 use Rattle.rows.specs.declared.Atom.{Atom}
 use Rattle.sheet.specs.declared.normal.Normal.{Normal as NormalForm}
-use Rattle.placing.specs.Net.{cellLinks}
 use Rattle.placing.specs.Placing.{Placing, Good}
 use Rattle.network.specs.NetIn.{netIn, atomAt}
-use Rattle.narrowing.specs.Count.{count}
 use Rattle.narrowing.specs.Sets.{Obeys}
 use Rattle.narrowing.specs.Tables.{Marked, mayAtom, mayLink, Stays}
 
@@ -22,16 +19,6 @@ linkOf a k = getD (a .links) k 0
 pub record Fitting (here there : Atom) (l : List ℕ) : Type 0 where
   pub counts : here .count ≡ there .count
   pub links : (k : ℕ) → k < here .count → mayLink l (linkOf here k) (linkOf there k)
-
--- equal links among the first n + 1 are equal in both, where the second is link n
-abbrev pub Echoes : Atom → Atom → ℕ → Type 0
-Echoes here there n = (h : ℕ) → h < n → linkOf here h ≡ linkOf here n → linkOf there h ≡ linkOf there n
-
--- names, link counts, and equal links
-pub record Alike (here there : Atom) : Type 0 where
-  pub names : here .name ≡ there .name
-  pub counts : here .count ≡ there .count
-  pub echoes : (k : ℕ) → k < here .count → Echoes here there k
 
 -- sheet atom t, which figure atom i may go to, has link y + 1 at place k
 pub record GivenBy (sheet : NormalForm) (a : List ℕ) (i k y t : ℕ) : Type 0 where
@@ -56,23 +43,3 @@ pub record Visited (sheet : NormalForm) (here : Atom) (i : ℕ) (a l b k : List 
 -- A good placing in the sets of the first two arrays is in those of the others.
 abbrev pub Narrowed : NormalForm → NormalForm → (a l b k : List ℕ) → Type 0
 Narrowed sheet figure a l b k = (p : Placing) → Good (netIn sheet) (netIn figure) p → Obeys (netIn sheet) (netIn figure) (mayAtom a) (mayLink l) p → Obeys (netIn sheet) (netIn figure) (mayAtom b) (mayLink k) p
-
--- the places of atoms at link x + 1
-abbrev pub placesOf : NormalForm → ℕ → ℕ
-placesOf n x = count (x + 1) (cellLinks ((netIn n) .atoms))
-
--- no number of a list is over n
-abbrev pub AllAtMost : List ℕ → ℕ → Type 0
-AllAtMost l n = (q : ℕ) → getD l q 0 ≤ n
-
--- enough places, and as many if no context has the figure link: closed is then 1
-pub record Enough (closed wanted there : ℕ) : Type 0 where
-  pub least : wanted ≤ there
-  pub exact : closed ≡ 1 → wanted ≡ there
-
--- the marks of figure link x + 1 are marks of sheet link y + 1, and back
-abbrev pub MarksOn : NormalForm → NormalForm → ℕ → ℕ → Type 0
-MarksOn sheet figure x y = (m : ℕ) → (x + 1, m) ∈ (netIn figure) .marks → (y + 1, m) ∈ (netIn sheet) .marks
-
-abbrev pub MarksBack : NormalForm → NormalForm → ℕ → ℕ → Type 0
-MarksBack sheet figure x y = (m : ℕ) → (y + 1, m) ∈ (netIn sheet) .marks → (x + 1, m) ∈ (netIn figure) .marks

@@ -1,12 +1,9 @@
 // Narrowing: where each figure atom and each figure link may go, while the search places atoms.
-mod alike;
 pub mod choose;
 mod empty;
 mod fit;
 mod links;
 pub mod narrow;
-mod profile;
-pub mod start;
 mod sweep;
 
 use rows::Sheet;

@@ -1,3 +1,4 @@
 pub mod NetIn
 pub mod Nowhere
 pub mod NetRead
+pub mod Swapped

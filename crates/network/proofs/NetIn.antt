@@ -7,10 +7,11 @@ use lib.ListN.{length, getD, take, length-map, length-take, List·getD-map}
 use lib.Seq.{getD-take, length-take-le}
 use Rattle.hyperlmntal.specs.Link.{_∈_}
 use Rattle.sheet.specs.declared.normal.Normal as form
-use Rattle.placing.specs.Net.{Range}
+use Rattle.placing.specs.Net.{NetCell, Range}
 use Rattle.placing.specs.Placing.{cellAt}
-use Rattle.placing.proofs.Lists.{member-at, getD-member, getD-of}
+use Rattle.placing.proofs.Lists.{member-at, getD-of}
 use Rattle.network.specs.NetIn.{atomIn, contextIn, paired, netIn, atomAt, contextAt, Used, Fit}
+use Rattle.sheet.proofs.normal.Merging.{getD-in}
 
 -- The pairs of two lists.
 pub paired-length : (l m : List ℕ) → length l ≡ length m → length (paired l m) ≡ length l
@@ -40,7 +41,7 @@ module _ (n count : ℕ) (links : List ℕ) (u : Used n count links) where
       subst (Range n) e (u .numbered (t .0) h)
 
   pub used-in : (k : ℕ) → k < count → getD links k 0 ∈ take count links
-  used-in k h = subst (λ (y : ℕ). y ∈ take count links) (used-at k h) (getD-member (take count links) k 0 (omega (arith, used-length)))
+  used-in k h = subst (λ (y : ℕ). y ∈ take count links) (used-at k h) (getD-in (take count links) k 0 (omega (arith, used-length)))
 
 module _ (n : form.Normal) (f : Fit n) where
   pub atoms-length : length (netIn n .atoms) ≡ n .«atom_count»
@@ -82,6 +83,16 @@ module _ (n : form.Normal) (f : Fit n) where
   pub context-index : (i : ℕ) → i < n .«context_count» → cellAt (netIn n .contexts) (i + 1) ≡ contextIn (contextAt n i)
   context-index i h = context-cell (i + 1) (omega arith, omega arith) ∙ ap (λ k. contextIn (contextAt n k)) (let q : i + 1 - 1 ≡ i = omega arith in q)
 
+  pub context-of : (row : NetCell) → row ∈ netIn n .contexts → (c : ℕ) × (c < n .«context_count») × (contextIn (contextAt n c) ≡ row)
+  context-of row m =
+      let t = member-at (netIn n .contexts) row m in
+      let h : t .0 < n .«context_count» = omega (arith, t .1, contexts-length) in (
+        t .0,
+        h,
+        sym (context-index (t .0) h) ∙ (ap (λ (j : ℕ). getD (netIn n .contexts) j (0, [])) (let q : t .0 + 1 - 1 ≡ t .0 = omega arith in q)
+            ∙ getD-of (netIn n .contexts) (t .0) (0, []) row (t .2)),
+      )
+
   pub atom-used : (t : ℕ) → Range (n .«atom_count») t → Used (n .«class_count») (atomAt n (t - 1) .count) (atomAt n (t - 1) .links)
   atom-used t r = f .atoms (t - 1) (let h : 1 ≤ t = r .0 in let k : t ≤ n .«atom_count» = r .1 in omega arith)
 
@@ -92,7 +103,7 @@ module _ (n : form.Normal) (f : Fit n) where
       ∙ (λ j. (getD-take (n .«mark_count») (n .marked) i 0 h j, getD-take (n .«mark_count») (n .marks) i 0 h j))
 
   pub mark-in : (i : ℕ) → i < n .«mark_count» → (getD (n .marked) i 0, getD (n .marks) i 0) ∈ netIn n .marks
-  mark-in i h = subst (λ (e : ℕ × ℕ). e ∈ netIn n .marks) (mark-at i h) (getD-member (netIn n .marks) i (0, 0) (omega (arith, marks-length)))
+  mark-in i h = subst (λ (e : ℕ × ℕ). e ∈ netIn n .marks) (mark-at i h) (getD-in (netIn n .marks) i (0, 0) (omega (arith, marks-length)))
 
   pub mark-of : (e : ℕ × ℕ) → e ∈ netIn n .marks → (i : ℕ) × (i < n .«mark_count») × ((getD (n .marked) i 0, getD (n .marks) i 0) ≡ e)
   mark-of e m =

@@ -10,7 +10,7 @@ use lib.ListN.{length, getD, take, drop, replicate, length-append}
 use lib.Seq.{take-append-add, getD-append-seam}
 use Rattle.placing.specs.Net.{Net, Range}
 use Rattle.placing.specs.Placing.{numberAt, Good}
-use Rattle.placing.specs.First.{Within, nothing, also, after, Answer}
+use Rattle.placing.specs.First.{Within, also, after, Answer}
 use Rattle.placing.specs.Smallest.{listOf, placingFrom, boundsOf, goodList}
 use Rattle.placing.proofs.Tests.{turned-down}
 use Rattle.placing.proofs.FirstLaws.{both-ways, Tried, tried-more}

@@ -1,5 +1,5 @@
 -- The arrays that a search works on.
-use Prim.Native.Nat.{ℕ, suc, _*_, _+_, _-_, _<_}
+use Prim.Native.Nat.{ℕ, suc, _*_, _+_, _<_}
 use mathlib.Core.Path.{_≡_}
 use mathlib.Core.Logic.{_↔_}
 use mathlib.Core.List.{List, []}

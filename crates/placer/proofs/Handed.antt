@@ -6,10 +6,10 @@ use Rattle.sheet.specs.declared.normalise.Normalised.{Normalised}
 use Rattle.sheet.specs.NormalText.{normalisedNumber, normalisedInput, normalisedRow, normalisedBytes}
 use Rattle.filling.specs.declared.done.Done.{Done}
 use Rattle.filling.specs.Done.{doneNumber, doneInput, doneRow, doneBytes}
-use Rattle.matching.specs.declared.compare.Compared.{Compared}
-use Rattle.matching.specs.Compare.{comparedNumber, comparedInput, comparedRow, comparedYes}
-use Rattle.tasks.specs.declared.claim.Claimed.{Claimed}
-use Rattle.tasks.specs.Claim.{claimedNumber, claimedInput, claimedRow, claimedYes}
+use Rattle.comparing.specs.declared.compare.Compared.{Compared}
+use Rattle.comparing.specs.Compare.{comparedNumber, comparedInput, comparedRow, comparedYes}
+use Rattle.claiming.specs.declared.claim.Claimed.{Claimed}
+use Rattle.claiming.specs.Claim.{claimedNumber, claimedInput, claimedRow, claimedYes}
 use Rattle.answers.specs.declared.TaskAnswer.{TaskAnswer}
 use Rattle.answers.specs.declared.Verdict.{Verdict}
 

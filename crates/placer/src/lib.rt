@@ -7,23 +7,23 @@ use answers::of_claimed;
 use answers::of_compared;
 use answers::of_done;
 use answers::of_normalised;
+use claiming::claim::claim;
+use comparing::compare::compare;
 use filling::fill::fill;
-use matching::compare::compare;
+use finding::place::place;
 use sheet::kind::Kind;
 use sheet::normalise::normalise_figure;
 use sheet::normalise::normalise_sheet;
-use tasks::claim::claim;
-use tasks::place::place;
-use tasks::swap::swap;
+use swapping::swap::swap;
 ghost use mathlib.Core.Path.{_≡_};
 ghost use lib.ListN.{length};
 ghost use Rattle.sheet.specs.NormalText.{normalisedAnswer, normalisedSlip, normalisedNumber, normalisedInput, normalisedRow, normalisedBytes};
 ghost use Rattle.filling.specs.Done.{doneNumber, doneInput, doneRow, doneBytes};
 ghost use Rattle.filling.specs.Fill.{fillAnswer, fillSlip};
-ghost use Rattle.matching.specs.Compare.{compareAnswer, comparedNumber, comparedInput, comparedRow, comparedYes};
-ghost use Rattle.tasks.specs.Place.{placeAnswer, placeSlip};
-ghost use Rattle.tasks.specs.Swap.{swapAnswer, swapSlip};
-ghost use Rattle.tasks.specs.Claim.{claimAnswer, claimedNumber, claimedInput, claimedRow, claimedYes};
+ghost use Rattle.comparing.specs.Compare.{compareAnswer, comparedNumber, comparedInput, comparedRow, comparedYes};
+ghost use Rattle.finding.specs.Place.{placeAnswer, placeSlip};
+ghost use Rattle.claiming.specs.Claim.{claimAnswer, claimedNumber, claimedInput, claimedRow, claimedYes};
+ghost use Rattle.swapping.specs.Swap.{swapAnswer, swapSlip};
 
 // The values of an answer, each where the caller wants it.
 fn hand_out(answer: TaskAnswer, input: &mut u16, row: &mut usize, bytes: &mut usize) -> u16

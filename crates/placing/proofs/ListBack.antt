@@ -1,7 +1,7 @@
 -- Reading back the text of a list of fillings: it passes, and what is held has its heads and its atoms.
 use Prim.Native.Nat.{ℕ, suc, _+_, _-_, _<_, _≤_}
 use mathlib.Core.Path.{_≡_, refl, sym, ap, _∙_, subst}
-use mathlib.Core.List.{List, [], _∷_, _++_, map, map-append, append-nil, append-assoc, List·Memᴰ·head, List·Memᴰ·tail, List·Memᴰ·not-nil}
+use mathlib.Core.List.{List, [], _∷_, _++_, map, map-append, append-nil, List·Memᴰ·head, List·Memᴰ·tail}
 use native.Mathlib.Omega.{arith}
 use lib.ListN.{length, length-append, length-map}
 use Rattle.hyperlmntal.specs.Link.{_∈_}
@@ -15,12 +15,14 @@ use Rattle.sheet.specs.Reading.{lastNumber, passed, readFrom, outcomeOf, noPort
 use Rattle.sheet.specs.declared.kind.Kind.the-variants.{Fillings}
 use Rattle.sheet.specs.declared.answer.Answer.the-variants.{Passed}
 use Rattle.sheet.proofs.read.ReadingLaws.{read-none}
-use Rattle.texts.proofs.BuiltRows.{heldAtom}
+use Rattle.texts.proofs.Went.{Went, went-none, went-then}
+use Rattle.texts.proofs.Few.{few-none}
+use Rattle.texts.proofs.BuiltRows.{heldAtom, Stock, headNums, heldHead, went-head, Stocked, Led, led-none, led-then}
 use Rattle.placing.specs.Net.{NetCell}
 use Rattle.placing.specs.Fillings.{Row, symbolRow, pointRow, edgeRow, Filling}
-use Rattle.placing.specs.ListText.{rowText, rowsText, listText}
+use Rattle.placing.specs.ListText.{rowsText, listText}
 use Rattle.placing.proofs.Names.{symbolsIn}
-use Rattle.placing.proofs.ListRows.{Stock, RowFits, Went, went-none, went-then, headOf, headNums, went-head, Stocked, Led, pointsIn, edgesIn, one-row}
+use Rattle.placing.proofs.ListRows.{RowFits, pointsIn, edgesIn, one-row}
 
 -- The atoms of a list of fillings, in order.
 abbrev pub listAtoms : List Filling → List NetCell
@@ -31,6 +33,10 @@ listAtoms (f ∷ θ) = symbolsIn (f .rows) ++ listAtoms θ
 abbrev pub listRows : List Filling → ℕ
 listRows [] = 0
 listRows (f ∷ θ) = 1 + length (f .rows) + listRows θ
+
+-- The head of a filling that is held: its number and port count, and its row.
+abbrev pub headOf : Filling → ℕ → Context
+headOf f row = heldHead (f .number) (f .ports) row
 
 -- The heads that are held, the first of them in the row after this one.
 abbrev pub listHeads : ℕ → List Filling → List Context
@@ -48,7 +54,7 @@ pub record FillingFits (f : Filling) : Type 0 where
   pub ports : f .ports ≤ mostLinks
   pub links : List ℕ
   pub marks : List ℕ
-  pub stock : Stock links marks
+  pub stock : Stock Fillings links marks
   pub each : (r : Row) → r ∈ f .rows → RowFits links marks r
 
 -- A list of fillings that can be written and read back.
@@ -74,38 +80,28 @@ edges-split (symbolRow a k) l = refl
 edges-split (pointRow x y) l = refl
 edges-split (edgeRow x m) l = refl
 
--- One list behind another, in two steps.
-two-steps : (f g h k l m : List (ℕ × ℕ)) → g ≡ f ++ k → h ≡ g ++ l → m ≡ k ++ l → h ≡ f ++ m
-two-steps f g h k l m p q e = q ∙ ap (λ z. z ++ l) p ∙ append-assoc f k l ∙ ap (λ z. f ++ z) (sym e)
+same-went : {given : List ℕ} {g h : Held} {k : ℕ} {text : List ℕ} {A C : List Atom} {B : List Context} → A ≡ C → Went Fillings given g h k text A B → Went Fillings given g h k text C B
+same-went e w = rw (← e) w
 
-held-split : (k l : List NetCell) → map heldAtom k ++ map heldAtom l ≡ map heldAtom (k ++ l)
-held-split k l = sym (map-append heldAtom k l)
-
-with-atoms : {given : List ℕ} {g h : Held} {k : ℕ} {text : List ℕ} {A A′ : List Atom} {B : List Context} → A ≡ A′ → Went given g h k text A B → Went given g h k text A′ B
-with-atoms {given} {g} {h} {k} {text} {A} {A′} {B} e w = subst (λ C. Went given g h k text C B) e w
+same-led : {given links marks : List ℕ} {g h : Held} {k : ℕ} {text : List ℕ} {A C : List Atom} {P Q E U : List (ℕ × ℕ)} → A ≡ C → P ≡ Q → E ≡ U
+    → Led Fillings given links marks g h k text A [] P E → Led Fillings given links marks g h k text C [] Q U
+same-led a p e w = rw (← a, ← p, ← e) w
 
 -- The rows of a filling.
-went-rows : (given links marks : List ℕ) (stock : Stock links marks) (l : List Row) (g : Held) → Stocked given links marks stock g
+went-rows : (given links marks : List ℕ) (stock : Stock Fillings links marks) (l : List Row) (g : Held) → Stocked Fillings links marks g
     → ((r : Row) → r ∈ l → RowFits links marks r) → length (g .contexts) ≤ figureContexts → length (g .atoms) + length (symbolsIn l) ≤ sheetAtoms → g .rows + length l ≤ rowLimit
-    → Led given links marks stock g (length l) (rowsText l) (map heldAtom (symbolsIn l)) (pointsIn l) (edgesIn l)
+    → (h : Held) × Led Fillings given links marks g h (length l) (rowsText l) (map heldAtom (symbolsIn l)) [] (pointsIn l) (edgesIn l)
 unfolding rowsText
-went-rows given links marks stock [] g s p heads atoms rows = record { to = g; went = went-none given g; stocked = s; points = sym (append-nil (g .fusions)); edges = sym (append-nil (g .edges)) }
+went-rows given links marks stock [] g s p heads atoms rows = (g, led-none Fillings given links marks g s)
 went-rows given links marks stock (r ∷ l) g s p heads atoms rows =
     let e : length (symbolsIn (r ∷ l)) ≡ length (symbolsIn (r ∷ [])) + length (symbolsIn l) = ap length (symbols-split r l) ∙ length-append (symbolsIn (r ∷ [])) (symbolsIn l) in
     let a = one-row given links marks stock g s (omega arith) heads r (p r (List·Memᴰ·head refl)) (omega arith) in
-    let h = a .to in
-    let n : length (h .atoms) ≡ length (g .atoms) + length (symbolsIn (r ∷ [])) = ap length (a .went .atoms) ∙ length-append (g .atoms) (map heldAtom (symbolsIn (r ∷ []))) ∙ ap (λ k. length (g .atoms) + k) (length-map (symbolsIn (r ∷ [])) heldAtom) in
-    let c : length (h .contexts) ≡ length (g .contexts) = ap length (a .went .heads ∙ append-nil (g .contexts)) in
-    let b = went-rows given links marks stock l h (a .stocked) (λ q i. p q (List·Memᴰ·tail i)) (omega arith) (omega arith) (omega (arith, a .went .rows)) in
-    let w : Went given g (b .to) (suc (length l)) (rowText r ++ rowsText l) (map heldAtom (symbolsIn (r ∷ [])) ++ map heldAtom (symbolsIn l)) [] =
-    went-then given g h (b .to) 1 (length l) (suc (length l)) _ _ _ _ _ _ (omega arith) (a .went) (b .went) in
-    record {
-      to = b .to;
-      went = with-atoms (held-split (symbolsIn (r ∷ [])) (symbolsIn l) ∙ ap (map heldAtom) (sym (symbols-split r l))) w;
-      stocked = b .stocked;
-      points = two-steps (g .fusions) (h .fusions) (b .to .fusions) (pointsIn (r ∷ [])) (pointsIn l) (pointsIn (r ∷ l)) (a .points) (b .points) (points-split r l);
-      edges = two-steps (g .edges) (h .edges) (b .to .edges) (edgesIn (r ∷ [])) (edgesIn l) (edgesIn (r ∷ l)) (a .edges) (b .edges) (edges-split r l);
-    }
+    let h = a .0 in
+    let n : length (h .atoms) ≡ length (g .atoms) + length (symbolsIn (r ∷ [])) = ap length (a .1 .went .atoms) ∙ length-append (g .atoms) (map heldAtom (symbolsIn (r ∷ []))) ∙ ap (λ k. length (g .atoms) + k) (length-map (symbolsIn (r ∷ [])) heldAtom) in
+    let c : length (h .contexts) ≡ length (g .contexts) = ap length (a .1 .went .contexts ∙ append-nil (g .contexts)) in
+    let b = went-rows given links marks stock l h (a .1 .stocked) (λ q i. p q (List·Memᴰ·tail i)) (omega arith) (omega arith) (omega (arith, a .1 .went .rows)) in
+    let w = led-then Fillings given links marks g h (b .0) 1 (length l) (suc (length l)) _ _ _ _ _ _ _ _ _ _ (omega arith) (a .1) (b .1) in
+    (b .0, same-led (sym (map-append heldAtom (symbolsIn (r ∷ [])) (symbolsIn l)) ∙ ap (map heldAtom) (sym (symbols-split r l))) (sym (points-split r l)) (sym (edges-split r l)) w)
 
 last-number : (l : List Context) (c : Context) → lastNumber (l ++ (c ∷ [])) ≡ c .number
 unfolding lastNumber
@@ -121,42 +117,37 @@ ofLast k d (f ∷ θ) = ofLast k (k (f .rows)) θ
 -- What the fillings of a list lead to.
 record Through (given : List ℕ) (g : Held) (θ : List Filling) : Type 0 where
   to : Held
-  went : Went given g to (listRows θ) (listText θ) (map heldAtom (listAtoms θ)) (listHeads (g .rows) θ)
+  went : Went Fillings given g to (listRows θ) (listText θ) (map heldAtom (listAtoms θ)) (listHeads (g .rows) θ)
   points : to .fusions ≡ ofLast pointsIn (g .fusions) θ
   edges : to .edges ≡ ofLast edgesIn (g .edges) θ
 
 went-list : (given : List ℕ) (θ : List Filling) (g : Held) → Ascends (lastNumber (g .contexts)) θ → ((f : Filling) → f ∈ θ → FillingFits f)
     → length (g .contexts) ≤ lastNumber (g .contexts) → length (g .atoms) + length (listAtoms θ) ≤ sheetAtoms → g .rows + listRows θ ≤ rowLimit → Through given g θ
 unfolding listText withHead
-went-list given [] g up p few atoms rows = record { to = g; went = went-none given g; points = refl; edges = refl }
+went-list given [] g up p few atoms rows = record { to = g; went = went-none Fillings given g; points = refl; edges = refl }
 went-list given (f ∷ θ) g up p few atoms rows =
     let q = p f (List·Memᴰ·head refl) in
     let n : length (listAtoms (f ∷ θ)) ≡ length (symbolsIn (f .rows)) + length (listAtoms θ) = length-append (symbolsIn (f .rows)) (listAtoms θ) in
-    let a = went-head given f g (omega arith) (q .number) (q .ports) (up .0) (omega arith) (omega (arith, up .0, q .number .1)) in
-    let h = withHead g (headNums f) in
+    let a = went-head given (f .number) (f .ports) g (omega arith) (q .number) (q .ports) (up .0) (omega arith) (omega (arith, up .0, q .number .1)) in
+    let h = withHead g (headNums (f .number) (f .ports)) in
     let c : length (h .contexts) ≡ length (g .contexts) + 1 = length-append (g .contexts) (headOf f (g .rows + 1) ∷ []) in
-    let s : Stocked given (q .links) (q .marks) (q .stock) h =
-    record {
-      own-links = record { once = tt; within = λ x i. absurd (List·Memᴰ·not-nil i) };
-      own-marks = record { once = tt; within = λ x i. absurd (List·Memᴰ·not-nil i) };
-      headed = omega arith;
-    } in
+    let s : Stocked Fillings (q .links) (q .marks) h = record { own-joints = few-none (q .links); own-marks = few-none (q .marks); headed = λ e. omega arith } in
     let b = went-rows given (q .links) (q .marks) (q .stock) (f .rows) h s (q .each) (omega (arith, up .0, q .number .1)) (omega arith) (omega arith) in
-    let k = b .to in
-    let m : length (k .atoms) ≡ length (g .atoms) + length (symbolsIn (f .rows)) = ap length (b .went .atoms) ∙ length-append (g .atoms) (map heldAtom (symbolsIn (f .rows))) ∙ ap (λ i. length (g .atoms) + i) (length-map (symbolsIn (f .rows)) heldAtom) in
-    let d : k .contexts ≡ g .contexts ++ (headOf f (g .rows + 1) ∷ []) = b .went .heads ∙ append-nil (h .contexts) in
+    let k = b .0 in
+    let m : length (k .atoms) ≡ length (g .atoms) + length (symbolsIn (f .rows)) = ap length (b .1 .went .atoms) ∙ length-append (g .atoms) (map heldAtom (symbolsIn (f .rows))) ∙ ap (λ i. length (g .atoms) + i) (length-map (symbolsIn (f .rows)) heldAtom) in
+    let d : k .contexts ≡ g .contexts ++ (headOf f (g .rows + 1) ∷ []) = b .1 .went .contexts ∙ append-nil (h .contexts) in
     let e : lastNumber (k .contexts) ≡ f .number = ap lastNumber d ∙ last-number (g .contexts) (headOf f (g .rows + 1)) in
     let i : length (k .contexts) ≡ length (g .contexts) + 1 = ap length d ∙ c in
-    let j : k .rows ≡ g .rows + (1 + length (f .rows)) = omega (arith, b .went .rows) in
+    let j : k .rows ≡ g .rows + (1 + length (f .rows)) = omega (arith, b .1 .went .rows) in
     let t = went-list given θ k (rw e (up .1)) (λ z y. p z (List·Memᴰ·tail y)) (omega (arith, up .0)) (omega arith) (omega arith) in
-    let v : Went given k (t .to) (listRows θ) (listText θ) (map heldAtom (listAtoms θ)) (listHeads (g .rows + (1 + length (f .rows))) θ) = subst (λ n. Went given k (t .to) (listRows θ) (listText θ) (map heldAtom (listAtoms θ)) (listHeads n θ)) j (t .went) in
-    let w = went-then given h k (t .to) (length (f .rows)) (listRows θ) (length (f .rows) + listRows θ) _ _ _ _ _ _ refl (b .went) v in
-    let u = went-then given g h (t .to) 1 (length (f .rows) + listRows θ) (listRows (f ∷ θ)) _ _ _ _ _ _ (omega arith) a w in
+    let v : Went Fillings given k (t .to) (listRows θ) (listText θ) (map heldAtom (listAtoms θ)) (listHeads (g .rows + (1 + length (f .rows))) θ) = subst (λ n. Went Fillings given k (t .to) (listRows θ) (listText θ) (map heldAtom (listAtoms θ)) (listHeads n θ)) j (t .went) in
+    let w = went-then Fillings given h k (t .to) (length (f .rows)) (listRows θ) (length (f .rows) + listRows θ) _ _ _ _ _ _ refl (b .1 .went) v in
+    let u = went-then Fillings given g h (t .to) 1 (length (f .rows) + listRows θ) (listRows (f ∷ θ)) _ _ _ _ _ _ (omega arith) a w in
     record {
       to = t .to;
-      went = with-atoms (held-split (symbolsIn (f .rows)) (listAtoms θ)) u;
-      points = t .points ∙ ap (λ z. ofLast pointsIn z θ) (b .points);
-      edges = t .edges ∙ ap (λ z. ofLast edgesIn z θ) (b .edges);
+      went = same-went (sym (map-append heldAtom (symbolsIn (f .rows)) (listAtoms θ))) u;
+      points = t .points ∙ ap (λ z. ofLast pointsIn z θ) (b .1 .fusions);
+      edges = t .edges ∙ ap (λ z. ofLast edgesIn z θ) (b .1 .edges);
     }
 
 module _ (θ : List Filling) (fits : ListFits θ) where
@@ -180,7 +171,7 @@ module _ (θ : List Filling) (fits : ListFits θ) where
   list-atoms = ap (λ o. o .held .atoms) outcome ∙ through .went .atoms
 
   pub list-heads : outcomeOf Fillings noPorts (listText θ) .held .contexts ≡ listHeads 0 θ
-  list-heads = ap (λ o. o .held .contexts) outcome ∙ through .went .heads
+  list-heads = ap (λ o. o .held .contexts) outcome ∙ through .went .contexts
 
   -- The fusions and edges that are held are those of the last filling.
   pub list-points : outcomeOf Fillings noPorts (listText θ) .held .fusions ≡ ofLast pointsIn [] θ

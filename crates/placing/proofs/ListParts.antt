@@ -25,6 +25,7 @@ use Rattle.placing.specs.ListText.{rowText, rowsText, headText, listText
 use Rattle.placing.proofs.Names.{symbolsIn}
 use Rattle.placing.proofs.ListRows.{pointsIn, edgesIn}
 use Rattle.placing.proofs.ListBack.{listAtoms, listRows, Ascends, FillingFits, ListFits, list-passes, list-atoms, list-points, list-edges}
+use Rattle.sheet.proofs.filling.FillingLaws.{before-nil}
 
 -- A text that begins with a row.
 module _ (b : ℕ) (nums rest : List ℕ) where
@@ -74,14 +75,9 @@ before-rows (r ∷ l) rest n h =
     ∙ ap (λ t. rowText r ++ t) (before-rows l rest (n - 1) (omega arith) ∙ ap (λ i. rowsText l ++ beforeHead i rest) q)
     ∙ sym (append-assoc (rowText r) (rowsText l) (beforeHead (n - suc (length l)) rest))
 
-pub before-none : (n : ℕ) → beforeHead n [] ≡ []
-unfolding beforeHead
-before-none zero = refl
-before-none (suc n) = refl
-
 before-list : (θ : List Filling) (n : ℕ) → beforeHead n (listText θ) ≡ []
 unfolding listText
-before-list [] n = before-none n
+before-list [] n = before-nil n
 before-list (f ∷ θ) n = before-head 72 (f .number ∷ f .ports ∷ []) (rowsText (f .rows) ++ listText θ) n refl
 
 -- An H row, by its number.

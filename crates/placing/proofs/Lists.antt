@@ -1,7 +1,7 @@
 -- Lists by position, tables of values, related lists, and a search through a list.
-use Prim.Native.Nat.{ℕ, zero, suc, _+_, _-_, _<_}
+use Prim.Native.Nat.{ℕ, zero, suc, _+_, _<_}
 use mathlib.Core.Path.{_≡_, refl, ap, ap₂, sym, _∙_, subst, subst₂}
-use mathlib.Core.Logic.{_⊎_, inl, inr, ⊎-elim}
+use mathlib.Core.Logic.{_⊎_, inl, inr}
 use mathlib.Core.List.{List, [], _∷_, _++_, map, List·Memᴰ·head, List·Memᴰ·tail, List·Memᴰ·cases-cons, List·Memᴰ·not-nil}
 use mathlib.Core.Option.{some}
 use native.Mathlib.Omega.{arith}
@@ -9,7 +9,6 @@ use lib.ListN.{length, getD, getElem?}
 use Rattle.hyperlmntal.specs.Link.{_∈_}
 use Rattle.hyperlmntal.proofs.Lists.{Each, done, more}
 use Rattle.hyperlmntal.proofs.Positions.{some-injective}
-use Rattle.sheet.proofs.read.Ranges.{Every}
 
 -- What stands at a position.
 pub at-left : {A : Type 0} (k l : List A) (i : ℕ) → i < length k → getElem? (k ++ l) i ≡ getElem? k i
@@ -53,9 +52,6 @@ member-at {A} (b ∷ l) a m = at (List·Memᴰ·cases-cons m) (λ k. member-at l
     at : (a ≡ b) ⊎ (a ∈ l) → (a ∈ l → (i : ℕ) × (i < length l) × (getElem? l i ≡ some a)) → (i : ℕ) × (i < suc (length l)) × (getElem? (b ∷ l) i ≡ some a)
     at (inl e) f = (0, omega arith, ap some (sym e))
     at (inr k) f = let t = f k in (suc (t .0), (let h : t .0 < length l = t .1 in omega arith), t .2)
-
-pub getD-member : {A : Type 0} (l : List A) (i : ℕ) (d : A) → i < length l → getD l i d ∈ l
-getD-member l i d h = at-member l i (getD l i d) (at-getD l i d h)
 
 -- The list of the values of a function from s on.
 abbrev pub table : {A : Type 0} → (ℕ → A) → ℕ → ℕ → List A
@@ -111,17 +107,3 @@ each-by-position d d′ [] [] e h = done
 each-by-position d d′ [] (b ∷ k) e h = absurd (omega arith)
 each-by-position d d′ (a ∷ l) [] e h = absurd (omega arith)
 each-by-position d d′ (a ∷ l) (b ∷ k) e h = more (h 0 (omega arith)) (each-by-position d d′ l k (omega arith) (λ i p. h (suc i) (omega arith)))
-
--- Whether some member of a list has a property.
-pub some-member : {A : Type 0} (Q : A → Type 0) → ((a : A) → Dec (Q a)) → (l : List A) → Dec ((a : A) × (a ∈ l) × Q a)
-some-member Q d [] = no (λ t. List·Memᴰ·not-nil (t .1))
-some-member {A} Q d (x ∷ l) = at (d x) (some-member Q d l)
-  where
-    at : Dec (Q x) → Dec ((a : A) × (a ∈ l) × Q a) → Dec ((a : A) × (a ∈ (x ∷ l)) × Q a)
-    at (yes q) r = yes (x, List·Memᴰ·head refl, q)
-    at (no n) (yes t) = yes (t .0, List·Memᴰ·tail (t .1), t .2)
-    at (no n) (no k) = no (λ t. neither t (List·Memᴰ·cases-cons (t .1)))
-      where
-        neither : (t : (a : A) × (a ∈ (x ∷ l)) × Q a) → (t .0 ≡ x) ⊎ (t .0 ∈ l) → ⊥
-        neither t (inl e) = n (subst Q e (t .2))
-        neither t (inr i) = k (t .0, i, t .2)

@@ -1,5 +1,5 @@
 -- The net of a normal form is normal, and its hypergraph is that normal form.
-use Prim.Native.Nat.{ℕ, zero, suc, _+_, _-_, _≤_, _<_, max}
+use Prim.Native.Nat.{ℕ, zero, suc, _-_, _≤_, _<_, max}
 use mathlib.Core.Path.{_≡_, refl, ap, ap₂, sym, _∙_, subst}
 use mathlib.Core.Logic.{_⊎_, inl, inr}
 use mathlib.Core.Bool.{Bool, true, false}
@@ -22,8 +22,8 @@ use Rattle.sheet.proofs.normal.Distinct.{Once, distinct-of, distinct-once}
 use Rattle.sheet.proofs.normal.NormalNodes.{form-ports}
 use Rattle.sheet.proofs.normal.NormalBounds.{classCount, normal-range}
 use Rattle.placing.specs.Net.{NetCell, Net, Range, cellLinks, markLinks, standing, greatest, atomsAmong, contextsAmong, edgeNumbers, normalNet, atomVertex, contextVertex, netGraph, Normal}
-use Rattle.placing.proofs.Lists.{getD-member}
 use Rattle.placing.proofs.Standing.{of-marks}
+use Rattle.sheet.proofs.normal.Merging.{getD-in}
 
 -- The links that stand in a net are the local links of its hypergraph.
 pub atom-nodes : (l : List NetCell) → portNodes (map atomVertex l) ≡ map inner (cellLinks l)
@@ -104,7 +104,7 @@ index-at (x ∷ l) o zero h = at (eqb x x) refl
 index-at (x ∷ l) o (suc i) h = at (eqb x (getD l i 0)) refl (index-at l (o .1) i (omega arith))
   where
     at : (t : Bool) → eqb x (getD l i 0) ≡ t → indexOf (getD l i 0) l ≡ i → pick t 0 (suc (indexOf (getD l i 0) l)) ≡ suc i
-    at true e q = absurd (o .0 (Memᴰ·cast (eqb-true x (getD l i 0) e) (getD-member l i 0 (omega arith))))
+    at true e q = absurd (o .0 (Memᴰ·cast (eqb-true x (getD l i 0) e) (getD-in l i 0 (omega arith))))
     at false e q = ap suc q
 
 -- The number of each node that is shown is there.
@@ -126,7 +126,7 @@ number-used F n h =
     let l = distinct (map label (shown F)) in
     let a : 1 ≤ n = h .0 in
     let b : n ≤ length l = h .1 in
-    let t : (x : Node ℕ) × (x ∈ shown F) × (label x ≡ getD l (n - 1) 0) = Memᴰ·of-map label (shown F) (distinct-of (getD l (n - 1) 0) (map label (shown F)) (getD-member l (n - 1) 0 (omega arith))) in
+    let t : (x : Node ℕ) × (x ∈ shown F) × (label x ≡ getD l (n - 1) 0) = Memᴰ·of-map label (shown F) (distinct-of (getD l (n - 1) 0) (map label (shown F)) (getD-in l (n - 1) 0 (omega arith))) in
     let e : suc (indexOf (label (t .0)) l) ≡ n = ap (λ k. suc (indexOf k l)) (t .2) ∙ ap suc (index-at l (distinct-once (map label (shown F))) (n - 1) (omega arith)) ∙ (let q : suc (n - 1) ≡ n = omega arith in q) in
     Memᴰ·cast (ap inner (sym e)) (shown-node label F (t .0) (t .1))
 

@@ -141,7 +141,7 @@ module _ (r : List Row) where
           let w = cells c i in
           let a = length-map (map inner (c .1)) number in
           let b = length-map (c .1) inner in
-          (w .0, omega (arith, w .1), λ x j. port x (Memᴰ·of-map number (map inner (c .1)) j))
+          record { name = w .0; count = omega (arith, w .1); known = λ x j. port x (Memᴰ·of-map number (map inner (c .1)) j) }
         where
           port : (x : ℕ) → (y : Node ℕ) × (y ∈ map inner (c .1)) × (number y ≡ x) → x ∈ upTo (classCount (rowsGraph r))
           port x t =
@@ -178,9 +178,9 @@ normal-filling-fits f number ports exact cells l few all =
       links = upTo (classCount (rowsGraph (f .rows)));
       marks = upTo (f .ports);
       stock = record {
-        link-range = λ x i. let t = upTo-of (classCount (rowsGraph (f .rows))) x i in (t .0, omega (arith, t .1));
+        joint-range = λ x i. let t = upTo-of (classCount (rowsGraph (f .rows))) x i in (t .0, omega (arith, t .1));
         mark-range = λ m i. let t = upTo-of (f .ports) m i in (t .0, omega (arith, t .1));
-        few-links = omega (arith, upTo-length (classCount (rowsGraph (f .rows))));
+        few-joints = omega (arith, upTo-length (classCount (rowsGraph (f .rows))));
         few-marks = omega (arith, upTo-length (f .ports));
       };
       each = rows-fit (f .rows) (f .ports) exact cells;

@@ -10,10 +10,11 @@ use Rattle.hyperlmntal.specs.Link.{_∈_}
 use Rattle.hyperlmntal.specs.Hypergraph.{inner, Fusion, Connected, stay, along, back, then}
 use Rattle.hyperlmntal.specs.DenotedSubstitution.{Spot}
 use Rattle.hyperlmntal.proofs.Connection.{connected-ind}
+use Rattle.hyperlmntal.proofs.TellApart.{some-dec}
 use Rattle.placing.specs.Net.{NetCell, Net, Range}
 use Rattle.placing.specs.Placing.{Placing, numberAt, cellAt, linkTo, givenTo, Taken, PortAt, Inside, Good}
 use Rattle.placing.specs.Fillings.{edgeRow}
-use Rattle.placing.proofs.Lists.{each-of-maps, each-right, some-member}
+use Rattle.placing.proofs.Lists.{each-of-maps, each-right}
 use Rattle.placing.proofs.Filled.{FilledNode, figN, ownN, markN, figCell, ownCell, rowsFor, Slot, slot-member, slot-one, exact-for, Edge, at-mark, at-point, at-port, edge-of}
 use Rattle.placing.proofs.Standing.{atom-link, context-link, on-link, cell-in, port-in}
 use Rattle.placing.proofs.Origins.{Solution, A, H, from, R, figure-at, cells-alike}
@@ -118,7 +119,7 @@ module _ (C : Solution) where
             (λ u. l (taken-figure C i hi u), w .number ∙ ap (λ c. c .0) (slot-one F (C .fillings) (C .fits) (w .there) (subst (λ k. Slot F (C .fillings) (C .fits) k (o .row)) (sym e) (o .there))) ∙ sym (o .number))
 
     own-link : PortAt S F p (givenTo p j) y ⊎ Inside S F p (givenTo p j) y
-    own-link = at (some-member (λ x. linkTo p x ≡ y) (λ x. ℕ-discrete (linkTo p x) y) (o .row .1))
+    own-link = at (some-dec (λ x. linkTo p x ≡ y) (λ x. ℕ-discrete (linkTo p x) y) (o .row .1))
       where
         at : Dec AtPort → PortAt S F p (givenTo p j) y ⊎ Inside S F p (givenTo p j) y
         at (yes t) = inl (record { row = o .row; of-figure = mc; number = sym (o .number); link = t .0; port = t .1; there = t .2 })

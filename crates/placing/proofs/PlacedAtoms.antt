@@ -19,7 +19,7 @@ use Rattle.placing.specs.Net.{NetCell, Net, Range, atomVertex, contextVe
 use Rattle.placing.specs.Placing.{Placing, cellAt, atomTo, linkTo, givenTo, Taken, Across, PortAt, Inside}
 use Rattle.placing.specs.Fillings.{placesOf}
 use Rattle.placing.specs.Filled.{flatEntry}
-use Rattle.placing.proofs.Lists.{member-at, getD-of, getD-member, each-by-position, table}
+use Rattle.placing.proofs.Lists.{member-at, getD-of, each-by-position, table}
 use Rattle.placing.proofs.Names.{symbolsIn, net-name, name-net, all-exact-flat}
 use Rattle.placing.proofs.Reduction.{filled}
 use Rattle.placing.proofs.Filled.{FilledNode, figN, ownN, figCell, ownCell, rowsFor, Slot, slot-member, ownCells, filled-atoms}
@@ -27,6 +27,7 @@ use Rattle.placing.proofs.Standing.{atom-link, context-link, cell-in, p
 use Rattle.placing.proofs.Orders.{upTo, up-to-in, up-to-out, count-once, places-in, places-out, places-once, once-append, once-perm, once-by-place}
 use Rattle.placing.proofs.FillingsFit.{filling-symbols, stands-there, rows-found}
 use Rattle.placing.proofs.PlacingFillings.{Placed, θ, fit, H, K, slot-of, one-slot, port-there, Hit, Touched, hit-dec, taken-dec, touched-dec, given-slot, homeOf, onSheet, onFigure, hit-home, onward, backward}
+use Rattle.sheet.proofs.normal.Merging.{getD-in}
 
 -- A list by its places from s on.
 places-whole : (L l : List NetCell) (s : ℕ) → ((i : ℕ) → getD L (s + i) (0, []) ≡ getD l i (0, [])) → map (cellAt L) (table (λ j. j) (suc s) (length l)) ≡ l
@@ -218,7 +219,7 @@ module _ (C : Placed) where
               let a : 1 ≤ t .by = t .of-figure .0 in
               let b : t .by ≤ length (F .atoms) = t .of-figure .1 in
               let n = C .good .sending .atoms-sent in
-              Memᴰ·append-left (allGiven (F .contexts)) (Memᴰ·cast (sym (t .there)) (getD-member (p .atomsTo) (t .by - 1) 0 (omega arith)))
+              Memᴰ·append-left (allGiven (F .contexts)) (Memᴰ·cast (sym (t .there)) (getD-in (p .atomsTo) (t .by - 1) 0 (omega arith)))
           at (no n) = let u = C .good .sending .to-contexts j h n in Memᴰ·append-right (p .atomsTo) (all-in (F .contexts) (u .0) j (u .1) (given-in (u .0) j h (sym (u .2))))
 
   sheet-vertices : map vertexAt (upTo (length (S .atoms))) ≡ netGraph S .atoms

@@ -1,5 +1,5 @@
 -- From a good placing to fillings: the figure filled with the placing's fillings is isomorphic to the sheet.
-use Prim.Native.Nat.{ℕ, _+_, _-_, _≤_}
+use Prim.Native.Nat.{ℕ, _+_, _≤_}
 use mathlib.Core.Path.{_≡_, refl, ap, sym, _∙_, subst}
 use mathlib.Core.List.{List, [], Memᴰ·cast, Memᴰ·map, Memᴰ·of-map}
 use native.Mathlib.Omega.{arith}
@@ -9,11 +9,12 @@ use Rattle.hyperlmntal.specs.Link.{free, _∈_}
 use Rattle.hyperlmntal.specs.Hypergraph.{Node, inner, name, Fusion, Connected, stay, along, back, then}
 use Rattle.hyperlmntal.specs.DenotedSubstitution.{Spot, outer, within}
 use Rattle.hyperlmntal.proofs.Connection.{connected-≡, recast}
+use Rattle.hyperlmntal.proofs.TellApart.{some-dec}
 use Rattle.sheet.specs.Graph.{edgeOf}
 use Rattle.placing.specs.Net.{NetCell, Net, Range, netGraph, Normal, Apart}
 use Rattle.placing.specs.Placing.{Placing, numberAt, cellAt, atomTo, linkTo, givenTo, Taken, Linked, here, step, Good}
 use Rattle.placing.specs.Fillings.{Filling, pointRow, edgeRow, Fits, standsOn, fillingFor, fillingsOf}
-use Rattle.placing.proofs.Lists.{member-at, some-member}
+use Rattle.placing.proofs.Lists.{member-at}
 use Rattle.placing.proofs.Reduction.{filled}
 use Rattle.placing.proofs.Filled.{FilledNode, figN, ownN, markN, rowsFor, Slot, slot-member, Edge, at-mark, at-point, at-port, edge-of, mark-edge, port-edge}
 use Rattle.placing.proofs.Standing.{mark-link, port-of-member}
@@ -91,24 +92,24 @@ module _ (C : Placed) where
   Touched y = (j : ℕ) × (j ∈ upTo (length (S .atoms))) × ((¬ Taken S F p j) × (y ∈ (cellAt (S .atoms) j) .1))
 
   pub hit-dec : (y : ℕ) → Dec (Hit y)
-  hit-dec y = some-member (λ x. linkTo p x ≡ y) (λ x. ℕ-discrete (linkTo p x) y) (upTo (F .links))
+  hit-dec y = some-dec (λ x. linkTo p x ≡ y) (λ x. ℕ-discrete (linkTo p x) y) (upTo (F .links))
 
   pub taken-dec : (j : ℕ) → Dec (Taken S F p j)
-  taken-dec j = at (some-member (λ i. atomTo p i ≡ j) (λ i. ℕ-discrete (atomTo p i) j) (upTo (length (F .atoms))))
+  taken-dec j = at (some-dec (λ i. atomTo p i ≡ j) (λ i. ℕ-discrete (atomTo p i) j) (upTo (length (F .atoms))))
     where
       at : Dec ((i : ℕ) × (i ∈ upTo (length (F .atoms))) × (atomTo p i ≡ j)) → Dec (Taken S F p j)
       at (yes t) = yes (record { by = t .0; of-figure = up-to-out (length (F .atoms)) (t .0) (t .1); there = t .2 })
       at (no n) = no (λ t. n (t .by, up-to-in (length (F .atoms)) (t .by) (t .of-figure), t .there))
 
   member-dec : (y : ℕ) (l : List ℕ) → Dec (y ∈ l)
-  member-dec y l = at (some-member (λ z. z ≡ y) (λ z. ℕ-discrete z y) l)
+  member-dec y l = at (some-dec (λ z. z ≡ y) (λ z. ℕ-discrete z y) l)
     where
       at : Dec ((z : ℕ) × (z ∈ l) × (z ≡ y)) → Dec (y ∈ l)
       at (yes t) = yes (Memᴰ·cast (sym (t .2)) (t .1))
       at (no n) = no (λ m. n (y, m, refl))
 
   pub touched-dec : (y : ℕ) → Dec (Touched y)
-  touched-dec y = some-member (λ j. (¬ Taken S F p j) × (y ∈ (cellAt (S .atoms) j) .1)) (λ j. at j (taken-dec j) (member-dec y ((cellAt (S .atoms) j) .1))) (upTo (length (S .atoms)))
+  touched-dec y = some-dec (λ j. (¬ Taken S F p j) × (y ∈ (cellAt (S .atoms) j) .1)) (λ j. at j (taken-dec j) (member-dec y ((cellAt (S .atoms) j) .1))) (upTo (length (S .atoms)))
     where
       at : (j : ℕ) → Dec (Taken S F p j) → Dec (y ∈ (cellAt (S .atoms) j) .1) → Dec ((¬ Taken S F p j) × (y ∈ (cellAt (S .atoms) j) .1))
       at j (yes t) d = no (λ u. u .0 t)

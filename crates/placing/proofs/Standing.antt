@@ -1,5 +1,5 @@
 -- Where the links of a net stand.
-use Prim.Native.Nat.{ℕ, suc, _+_, _-_, _≤_, _<_}
+use Prim.Native.Nat.{ℕ, suc, _-_, _≤_, _<_}
 use mathlib.Core.Path.{_≡_, refl, ap, sym, _∙_, subst}
 use mathlib.Core.Logic.{_⊎_, inl, inr, _↔_}
 use mathlib.Core.List.{List, [], _∷_, _++_, map, List·Memᴰ·head, List·Memᴰ·tail, List·Memᴰ·append-cases, List·Memᴰ·cases-cons, List·Memᴰ·not-nil, Memᴰ·append-left, Memᴰ·append-right, Memᴰ·cast, Memᴰ·map, Memᴰ·of-map}
@@ -11,7 +11,8 @@ use Rattle.hyperlmntal.proofs.Connection.{connected-ind, connected-≡, recast}
 use Rattle.sheet.specs.Graph.{edgeOf}
 use Rattle.placing.specs.Net.{NetCell, Net, Range, cellLinks, markLinks, netGraph, Normal}
 use Rattle.placing.specs.Placing.{numberAt, cellAt}
-use Rattle.placing.proofs.Lists.{getD-member, member-at, getD-of}
+use Rattle.placing.proofs.Lists.{member-at, getD-of}
+use Rattle.sheet.proofs.normal.Merging.{getD-in}
 
 pub in-cells : (l : List NetCell) (c : NetCell) (x : ℕ) → c ∈ l → x ∈ c .1 → x ∈ cellLinks l
 in-cells [] c x m i = absurd (List·Memᴰ·not-nil m)
@@ -93,14 +94,14 @@ module _ (N : Net) (normal : Normal N) where
 
 -- Members of a list by their places from 1.
 pub cell-in : (l : List NetCell) (i : ℕ) → Range (length l) i → cellAt l i ∈ l
-cell-in l i h = let a : 1 ≤ i = h .0 in let b : i ≤ length l = h .1 in getD-member l (i - 1) (0, []) (omega arith)
+cell-in l i h = let a : 1 ≤ i = h .0 in let b : i ≤ length l = h .1 in getD-in l (i - 1) (0, []) (omega arith)
 
 -- The links of an atom by its place.
 pub place-link : (N : Net) → Normal N → (j y : ℕ) → Range (length (N .atoms)) j → y ∈ (cellAt (N .atoms) j) .1 → Range (N .links) y
 place-link N normal j y h m = atom-link N normal (cellAt (N .atoms) j) y (cell-in (N .atoms) j h) m
 
 pub port-in : (l : List ℕ) (i : ℕ) → Range (length l) i → numberAt l i ∈ l
-port-in l i h = let a : 1 ≤ i = h .0 in let b : i ≤ length l = h .1 in getD-member l (i - 1) 0 (omega arith)
+port-in l i h = let a : 1 ≤ i = h .0 in let b : i ≤ length l = h .1 in getD-in l (i - 1) 0 (omega arith)
 
 pub port-of-member : (l : List ℕ) (x : ℕ) → x ∈ l → (i : ℕ) × Range (length l) i × (numberAt l i ≡ x)
 port-of-member l x m = let t = member-at l x m in let h : t .0 < length l = t .1 in (suc (t .0), (omega arith, omega arith), ap (λ j. getD l j 0) (let q : suc (t .0) - 1 ≡ t .0 = omega arith in q) ∙ getD-of l (t .0) 0 x (t .2))

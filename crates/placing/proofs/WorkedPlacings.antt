@@ -21,8 +21,8 @@ use Rattle.placing.specs.Placing.{Placing}
 use Rattle.placing.specs.Fillings.{placesOf, withContext, byNumber, normalFillingsOf}
 use Rattle.placing.specs.Filled.{filledNormal}
 use Rattle.placing.specs.ListText.{rowsText, listText}
-use Rattle.placing.specs.First.{firstFrom, firstList}
-use Rattle.placing.specs.Smallest.{isAmong, smallest, labelsBy}
+use Rattle.placing.specs.First.{firstFrom}
+use Rattle.placing.specs.Smallest.{smallest, labelsBy}
 use Rattle.placing.proofs.FirstLaws.{firstMay}
 use Rattle.placing.proofs.Narrowed.{narrowed, narrowed-same}
 
@@ -114,12 +114,3 @@ same-sooner (c ∷ l) =
 pub worked-placings : map (resultBy smallest) cases ≡ map stated cases
 unfolding answerTo ℕ-discrete sameFunctor connect _≟_ normalForm normalFormBy classOf classesBy numberBy marksAmong inserted distinct others joined labelsBy firstFrom firstMay narrowed placesOf withContext byNumber rowsText listText
 worked-placings = same-sooner cases ∙ refl
-
--- The first list that has a 2, within the bounds 1, 2, 2 and within the bounds 1, 1.
-first-two : firstList (isAmong 2) (1 ∷ 2 ∷ 2 ∷ []) ≡ some (0 ∷ 0 ∷ 2 ∷ [])
-unfolding firstFrom firstList
-first-two = refl
-
-first-none : firstList (isAmong 2) (1 ∷ 1 ∷ []) ≡ none
-unfolding firstFrom firstList
-first-none = refl

@@ -4,9 +4,9 @@ use mathlib.Core.Path.{_≡_}
 use mathlib.Core.List.{List, [], _∷_, _++_, map}
 use lib.Dec.{eqb, ltb}
 use lib.ListN.{length}
-use Rattle.hyperlmntal.specs.Link.{free, _∈_}
+use Rattle.hyperlmntal.specs.Link.{_∈_}
 use Rattle.hyperlmntal.specs.Template.{Template}
-use Rattle.hyperlmntal.specs.Hypergraph.{name, Flat}
+use Rattle.hyperlmntal.specs.Hypergraph.{Flat}
 use Rattle.hyperlmntal.specs.TermOf.{termOf}
 use Rattle.rows.specs.Pick.{pick}
 use Rattle.sheet.specs.Graph.{fusionOf, edgeOf}

@@ -12,11 +12,11 @@ use Rattle.rows.specs.Format.{mostLinks}
 use Rattle.rows.specs.Limits.{sheetMarks, fillingLinks}
 use Rattle.rows.specs.Held.{Wiring, Held, indexOf, withLink, withLinks, relabelled, merged, withFusion, withMark}
 use Rattle.rows.specs.Packed.{packed}
-use Rattle.rows.specs.Steps.{Wired, rewired, Rewires}
+use Rattle.rows.specs.Steps.{Wired, rewired, Rewires, Linked, Relinks}
 use Rattle.rows.specs.declared.Sheet.{Sheet}
 use Rattle.rows.proofs.Padding.{take-padded, set-padded, getD-padding, mapped-padded}
 use Rattle.rows.proofs.Lists.{mapped}
-use Rattle.rows.proofs.Wired.{link-known, link-new, wired-links}
+use Rattle.rows.proofs.Wired.{link-known, link-new, wired-link, wired-links}
 
 abbrev linkRoom : ℕ
 linkRoom = fillingLinks + mostLinks
@@ -30,36 +30,6 @@ links-of s h e = rw e (take-padded linkRoom 0 (h .wiring .links))
 
 pub marks-of : (s : Sheet) (h : Held) → s ≡ packed h → take (s .«mark_count») (s .marks) ≡ h .wiring .marks
 marks-of s h e = rw e (take-padded markRoom 0 (h .wiring .marks))
-
-module _ (s : Sheet) (h : Held) (wired : Wired (h .wiring)) (e : s ≡ packed h) (x : ℕ) where
-  pub with-link-old : indexOf x (take (s .«link_count») (s .links)) < s .«link_count» → s ≡ packed (rewired h (withLink (h .wiring) x))
-  with-link-old q =
-      let count : s .«link_count» ≡ length (h .wiring .links) = ap (λ (s : Sheet). s .«link_count») e in
-      rw (link-known (h .wiring) x (rw (links-of s h e, count) at q)) e
-
-  pub with-link-new : s .«link_count» ≤ indexOf x (take (s .«link_count») (s .links)) → s .«link_count» < linkRoom
-      → record {
-        atoms = s .atoms;
-        «atom_count» = s .«atom_count»;
-        contexts = s .contexts;
-        «context_count» = s .«context_count»;
-        ports = s .ports;
-        links = set (s .links) (s .«link_count») x;
-        classes = set (s .classes) (s .«link_count») (s .«link_count»);
-        «link_count» = s .«link_count» + 1;
-        marks = s .marks;
-        marked = s .marked;
-        «mark_count» = s .«mark_count»;
-      } ≡ packed (rewired h (withLink (h .wiring) x))
-  with-link-new q room =
-      let count : s .«link_count» ≡ length (h .wiring .links) = ap (λ (s : Sheet). s .«link_count») e in
-      let fits : length (h .wiring .links) < linkRoom = rw count at room in
-      let fits-too : length (h .wiring .classes) < linkRoom = rw (← wired .classed) at fits in
-      let new = link-new (h .wiring) x (rw (links-of s h e, count) at q) in
-      let stored = set-padded linkRoom 0 (h .wiring .links) x (length (h .wiring .links)) refl fits in
-      let labelled = set-padded linkRoom 0 (h .wiring .classes) (length (h .wiring .links)) (length (h .wiring .links)) (sym (wired .classed)) fits-too in
-      let longer : length (h .wiring .links) + 1 ≡ length (h .wiring .links ++ (x ∷ [])) = rw length-append in
-      rw e (rw new (rw stored (rw labelled (rw longer))))
 
 module _ (s : Sheet) (h : Held) (wired : Wired (h .wiring)) (e : s ≡ packed h) where
   pub with-merged : (i j : ℕ)
@@ -80,12 +50,6 @@ module _ (s : Sheet) (h : Held) (wired : Wired (h .wiring)) (e : s ≡ packed h)
   with-merged i j =
       let at = getD-padding linkRoom 0 (h .wiring .classes) in
       rw e (rw (at i) (rw (at j) (rw (mapped-padded linkRoom 0 (h .wiring .classes) (relabelled (getD (h .wiring .classes) j 0) (getD (h .wiring .classes) i 0)) (length (h .wiring .links)) (sym (wired .classed))))))
-
-  -- the places of two links, merged
-  pub with-fusion : (t : Sheet) (a b : ℕ) → Rewires s t (λ w. merged w (indexOf a (take (s .«link_count») (s .links))) (indexOf b (take (s .«link_count») (s .links))))
-      → t ≡ packed (rewired h (withFusion (h .wiring) a b))
-  unfolding withFusion
-  with-fusion t a b f = rw (links-of s h e) at (f h wired e)
 
   module _ (a m : ℕ) where
     pub with-mark-known : (t : Sheet) → indexOf m (take (s .«mark_count») (s .marks)) < s .«mark_count»
@@ -123,21 +87,100 @@ module _ (s : Sheet) (h : Held) (wired : Wired (h .wiring)) (e : s ≡ packed h)
         let longer : length (h .wiring .marks) + 1 ≡ length (h .wiring .marks ++ (m ∷ [])) = rw length-append in
         rw (links-of s h e) (rw e (rw new (rw stored (rw put (rw longer)))))
 
+-- a known mark, with its link's class merged
+pub mark-merged : (s : Sheet) (h : Held) → Wired (h .wiring) → s ≡ packed h → (a m i p : ℕ) (out : List ℕ) → i ≡ indexOf a (take (s .«link_count») (s .links)) → p ≡ indexOf m (take (s .«mark_count») (s .marks)) → p < s .«mark_count»
+    → out ≡ mapped (relabelled (getD (s .classes) i 0) (getD (s .classes) (getD (s .marked) p 0) 0)) (s .«link_count») (s .classes)
+    → record {
+      atoms = s .atoms;
+      «atom_count» = s .«atom_count»;
+      contexts = s .contexts;
+      «context_count» = s .«context_count»;
+      ports = s .ports;
+      links = s .links;
+      classes = out;
+      «link_count» = s .«link_count»;
+      marks = s .marks;
+      marked = s .marked;
+      «mark_count» = s .«mark_count»;
+    } ≡ packed (rewired h (withMark (h .wiring) a m))
+mark-merged s h wired e a m i p out ei ep q eo =
+    let j = indexOf a (take (s .«link_count») (s .links)) in
+    let k = indexOf m (take (s .«mark_count») (s .marks)) in
+    rw eo (rw ei (rw ep (with-mark-known s h wired e a m _ (rw ep at q) (λ h wired e. with-merged s h wired e (getD (s .marked) k 0) j))))
+
 -- links one after the other
 pub links-snoc : (w : Wiring) (l : List ℕ) (x : ℕ) → withLinks w (l ++ (x ∷ [])) ≡ withLink (withLinks w l) x
 unfolding withLinks
 links-snoc w [] x = refl
 links-snoc w (y ∷ l) x = links-snoc (withLink w y) l x
 
-pub with-links-none : (s : Sheet) → Rewires s s (λ w. withLinks w [])
+pub links-none : (links classes : List ℕ) (n : ℕ) → Relinks links classes n links classes n (λ w. withLinks w [])
 unfolding withLinks
-with-links-none s h wired e = e
+links-none links classes n w wired k = k
 
-pub with-links-more : (s t u : Sheet) (l : List ℕ) (x : ℕ) → Rewires s t (λ w. withLinks w l) → Rewires t u (λ w. withLink w x) → Rewires s u (λ w. withLinks w (l ++ (x ∷ [])))
-with-links-more s t u l x f g h wired e =
-    rw (links-snoc (h .wiring) l x) (g (rewired h (withLinks (h .wiring) l)) (wired-links (h .wiring) l wired) (f h wired e))
+pub links-more : (links classes : List ℕ) (n : ℕ) (links' classes' : List ℕ) (n' : ℕ) (links'' classes'' : List ℕ) (n'' : ℕ) (l : List ℕ) (x : ℕ)
+    → Relinks links classes n links' classes' n' (λ w. withLinks w l) → Relinks links' classes' n' links'' classes'' n'' (λ w. withLink w x) → Relinks links classes n links'' classes'' n'' (λ w. withLinks w (l ++ (x ∷ [])))
+links-more links classes n links' classes' n' links'' classes'' n'' l x f g w wired k = rw (links-snoc w l x) (g (withLinks w l) (wired-links w l wired) (f w wired k))
 
 -- the first links of a row, and one more
 pub row-link : (nums : List ℕ) (k : ℕ) → k + 2 < length nums → take (k + 1) (drop 2 nums) ≡ take k (drop 2 nums) ++ (getD nums (k + 2) 0 ∷ [])
 row-link nums k h =
     rw (add-one k) (rw (take-suc (drop 2 nums) k 0 (simp length-drop (omega arith))) (rw (getD-drop 2 nums k 0) (rw (add-comm 2 k))))
+
+-- the arrays of links and classes by themselves
+module _ (w : Wiring) (wired : Wired w) (links classes : List ℕ) (n : ℕ) (k : Linked w links classes n) (x : ℕ) where
+  own : take n links ≡ w .links
+  own = rw (k .numbers) (rw (k .count) (take-padded linkRoom 0 (w .links)))
+
+  pub link-old : indexOf x (take n links) < n → Linked (withLink w x) links classes n
+  link-old q = rw (link-known w x (rw (own, k .count) at q)) k
+
+  pub link-added : n ≤ indexOf x (take n links) → n < linkRoom → Linked (withLink w x) (set links n x) (set classes n n) (n + 1)
+  link-added q room =
+      let fits : length (w .links) < linkRoom = rw (k .count) at room in
+      let fits-too : length (w .classes) < linkRoom = rw (← wired .classed) at fits in
+      rw (link-new w x (rw (own, k .count) at q))
+      record {
+        numbers = rw (k .numbers) (set-padded linkRoom 0 (w .links) x n (k .count) fits);
+        labels = rw (k .labels) (rw (k .count) (set-padded linkRoom 0 (w .classes) (length (w .links)) (length (w .links)) (sym (wired .classed)) fits-too));
+        count = rw (k .count) (rw length-append);
+      }
+
+-- two links that are there, made one point
+pub link-fused : (w : Wiring) → Wired w → (links classes : List ℕ) (n : ℕ) → Linked w links classes n → (a b : ℕ)
+    → Linked (withFusion w a b) links (mapped (relabelled (getD classes (indexOf b (take n links)) 0) (getD classes (indexOf a (take n links)) 0)) n classes) n
+unfolding withFusion merged
+link-fused w wired links classes n k a b =
+    let i = indexOf a (w .links) in
+    let j = indexOf b (w .links) in
+    let at = getD-padding linkRoom 0 (w .classes) in
+    record {
+      numbers = k .numbers;
+      labels = rw (own w wired links classes n k 0) (rw (k .labels) (rw (at i) (rw (at j) (mapped-padded linkRoom 0 (w .classes) (relabelled (getD (w .classes) j 0) (getD (w .classes) i 0)) n (k .count ∙ sym (wired .classed))))));
+      count = k .count;
+    }
+
+pub fused-links : (w : Wiring) → Wired w → (a b : ℕ) (links classes : List ℕ) (n : ℕ) → Linked (withLink (withLink w a) b) links classes n → (i j : ℕ) (out : List ℕ)
+    → i ≡ indexOf a (take n links) → j ≡ indexOf b (take n links) → out ≡ mapped (relabelled (getD classes j 0) (getD classes i 0)) n classes → Linked (withFusion (withLinks w (a ∷ b ∷ [])) a b) links out n
+unfolding withLinks
+fused-links w wired a b links classes n k i j out ei ej eo = rw eo (rw ei (rw ej (link-fused (withLink (withLink w a) b) (wired-link (withLink w a) b (wired-link w a wired)) links classes n k a b)))
+
+-- a sheet with other links and classes
+pub relinked : (s : Sheet) (h : Held) → s ≡ packed h → (w : Wiring) → w .marks ≡ h .wiring .marks → w .marked ≡ h .wiring .marked → (links classes : List ℕ) (n : ℕ) → Linked w links classes n
+    → record {
+      atoms = s .atoms;
+      «atom_count» = s .«atom_count»;
+      contexts = s .contexts;
+      «context_count» = s .«context_count»;
+      ports = s .ports;
+      links = links;
+      classes = classes;
+      «link_count» = n;
+      marks = s .marks;
+      marked = s .marked;
+      «mark_count» = s .«mark_count»;
+    } ≡ packed (rewired h w)
+relinked s h e w m d links classes n k = rw e (rw (k .numbers) (rw (k .labels) (rw (k .count) (rw m (rw d)))))
+
+pub linked-of : (s : Sheet) (h : Held) → s ≡ packed h → Linked (h .wiring) (s .links) (s .classes) (s .«link_count»)
+linked-of s h e = rw e record { numbers = refl; labels = refl; count = refl }

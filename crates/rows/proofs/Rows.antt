@@ -9,9 +9,9 @@ use lib.ListN.{length, getD, set, length-append}
 use borrow.Author.Tests.{eqb-true, eqb-false}
 use Rattle.rows.specs.Pick.{pick}
 use Rattle.rows.specs.Limits.{sheetAtoms, figureContexts}
-use Rattle.rows.specs.Held.{Held, withLinks, noWiring, linksOf, atomOf, contextOf, withAtom}
+use Rattle.rows.specs.Held.{Held, noWiring, atomOf, contextOf}
 use Rattle.rows.specs.Packed.{noAtom, noContext, portsOf, portTable, packed}
-use Rattle.rows.specs.Steps.{Wired, rewired, Rewires, withPorts}
+use Rattle.rows.specs.Steps.{rewired, withSymbol, withPorts}
 use Rattle.rows.specs.declared.Context.{Context}
 use Rattle.rows.specs.declared.Sheet.{Sheet}
 use Rattle.rows.proofs.Padding.{set-padded}
@@ -48,10 +48,8 @@ module _ (s : Sheet) (h : Held) (e : s ≡ packed h) (nums : List ℕ) where
       let longer : length (h .contexts) + 1 ≡ length (h .contexts ++ (contextOf nums row ∷ [])) = rw length-append in
       rw e (rw stored (rw (table-with (h .contexts) (contextOf nums row) small) (rw longer)))
 
-  -- the atom is stored, and then its links are taken in
-  pub with-atom : (t : Sheet) → Wired (h .wiring) → s .«atom_count» ≤ sheetAtoms
-      → Rewires
-      record {
+  pub with-symbol : s .«atom_count» ≤ sheetAtoms
+      → record {
         atoms = set (s .atoms) (s .«atom_count») (atomOf nums);
         «atom_count» = s .«atom_count» + 1;
         contexts = s .contexts;
@@ -63,17 +61,13 @@ module _ (s : Sheet) (h : Held) (e : s ≡ packed h) (nums : List ℕ) where
         marks = s .marks;
         marked = s .marked;
         «mark_count» = s .«mark_count»;
-      }
-      t
-      (λ w. withLinks w (linksOf nums))
-      → t ≡ packed (withAtom h nums)
-  unfolding withAtom
-  with-atom t wired room f =
+      } ≡ packed (withSymbol h nums)
+  with-symbol room =
       let count : s .«atom_count» ≡ length (h .atoms) = ap (λ (s : Sheet). s .«atom_count») e in
       let fits : length (h .atoms) < sheetAtoms + 1 = omega arith in
       let stored = set-padded (sheetAtoms + 1) noAtom (h .atoms) (atomOf nums) (length (h .atoms)) refl fits in
       let longer : length (h .atoms) + 1 ≡ length (h .atoms ++ (atomOf nums ∷ [])) = rw length-append in
-      f (record { rows = h .rows; atoms = h .atoms ++ (atomOf nums ∷ []); contexts = h .contexts; fusions = h .fusions; edges = h .edges; wiring = h .wiring }) wired (rw e (rw stored (rw longer)))
+      rw e (rw stored (rw longer))
 
 pub without-wiring : (s : Sheet) (h : Held) → s ≡ packed h
     → record {

@@ -74,6 +74,9 @@ module _ (w : Wiring) (x : ℕ) where
   pub link-marks : withLink w x .marks ≡ w .marks
   link-marks = link-by (λ v. v .marks ≡ w .marks) (λ h. refl) (λ h. refl)
 
+  pub link-marked : withLink w x .marked ≡ w .marked
+  link-marked = link-by (λ v. v .marked ≡ w .marked) (λ h. refl) (λ h. refl)
+
   pub link-keeps : length (w .links) ≤ length (withLink w x .links)
   link-keeps = link-by (λ v. length (w .links) ≤ length (v .links)) (λ h. omega arith) (λ h. simp length-append (omega arith))
 
@@ -92,6 +95,11 @@ pub links-marks : (w : Wiring) (l : List ℕ) → withLinks w l .marks ≡ w .ma
 unfolding withLinks
 links-marks w [] = refl
 links-marks w (x ∷ l) = links-marks (withLink w x) l ∙ link-marks w x
+
+pub links-marked : (w : Wiring) (l : List ℕ) → withLinks w l .marked ≡ w .marked
+unfolding withLinks
+links-marked w [] = refl
+links-marked w (x ∷ l) = links-marked (withLink w x) l ∙ link-marked w x
 
 pub links-keep : (w : Wiring) (l : List ℕ) → length (w .links) ≤ length (withLinks w l .links)
 unfolding withLinks
@@ -112,7 +120,7 @@ links-there w [] k h = absurd (omega arith)
 links-there w (x ∷ l) zero h = links-stay (withLink w x) l x (link-there w x)
 links-there w (x ∷ l) (suc k) h = links-there (withLink w x) l k (omega arith)
 
--- Two classes made one: only the classes change, and there are as many of them.
+-- Two classes made one: as many labels as before.
 module _ (w : Wiring) (i j : ℕ) where
   pub merged-classes : length (merged w i j .classes) ≡ length (w .classes)
   unfolding merged

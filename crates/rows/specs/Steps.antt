@@ -2,11 +2,13 @@
 use Prim.Native.Nat.{ℕ, _+_, _<_, _≤_}
 use mathlib.Core.Path.{_≡_}
 use mathlib.Core.List.{List, [], _∷_, _++_}
+use lib.Dec.{eqb}
 use lib.ListN.{length, getD}
+use Rattle.rows.specs.Pick.{pick}
 use Rattle.rows.specs.Format.{mostLinks}
 use Rattle.rows.specs.Limits.{sheetAtoms, figureContexts, sheetMarks, fillingLinks}
-use Rattle.rows.specs.Held.{Wiring, Held, contextOf}
-use Rattle.rows.specs.Packed.{packed}
+use Rattle.rows.specs.Held.{Wiring, Held, withLink, withLinks, withFusion, linksOf, atomOf, contextOf}
+use Rattle.rows.specs.Packed.{padded, packed}
 use Rattle.rows.specs.declared.Sheet.{Sheet}
 use Rattle.rows.specs.declared.row.Row.{Row}
 
@@ -26,6 +28,24 @@ rewired h w = record { rows = h .rows; atoms = h .atoms; contexts = h .contexts;
 abbrev pub Rewires : Sheet → Sheet → (Wiring → Wiring) → Type 0
 Rewires s t f = Makes s t (λ h. rewired h (f (h .wiring)))
 
+-- the arrays and the count are those of the links and classes of w
+pub record Linked (w : Wiring) (links classes : List ℕ) (n : ℕ) : Type 0 where
+  pub numbers : links ≡ padded (fillingLinks + mostLinks) 0 (w .links)
+  pub labels : classes ≡ padded (fillingLinks + mostLinks) 0 (w .classes)
+  pub count : n ≡ length (w .links)
+
+-- the second arrays are those of what f makes of the wiring whose arrays the first are
+abbrev pub Relinks : List ℕ → List ℕ → ℕ → List ℕ → List ℕ → ℕ → (Wiring → Wiring) → Type 0
+Relinks links classes n links' classes' n' f = (w : Wiring) → Wired w → Linked w links classes n → Linked (f w) links' classes' n'
+
+-- what a row's letter and numbers make of links and classes
+abbrev pub linkedBy : ℕ → List ℕ → Wiring → Wiring
+linkedBy letter nums w =
+    pick (eqb letter 0) (withLinks w (linksOf nums))
+    (pick (eqb letter 1) (withLinks w (linksOf nums))
+    (pick (eqb letter 2) (withFusion (withLinks w (getD nums 0 0 ∷ getD nums 1 0 ∷ [])) (getD nums 0 0) (getD nums 1 0))
+    (pick (eqb letter 3) (withLink w (getD nums 0 0)) w)))
+
 -- a sheet that has room for one row more
 pub record Room (s : Sheet) : Type 0 where
   pub atoms : s .«atom_count» ≤ sheetAtoms
@@ -39,6 +59,10 @@ pub record Ranged (r : Row) : Type 0 where
   pub few : r .letter < 2 → getD (r .nums) 1 0 ≤ mostLinks
   pub context : r .letter ≡ 1 → getD (r .nums) 0 0 < 5
   pub head : 3 < r .letter → (getD (r .nums) 0 0 < 5) × (getD (r .nums) 1 0 ≤ mostLinks)
+
+-- one atom more
+abbrev pub withSymbol : Held → List ℕ → Held
+withSymbol h nums = record { rows = h .rows; atoms = h .atoms ++ (atomOf nums ∷ []); contexts = h .contexts; fusions = h .fusions; edges = h .edges; wiring = h .wiring }
 
 -- one context more
 abbrev pub withPorts : Held → List ℕ → ℕ → Held

@@ -4,16 +4,16 @@ use crate::Context;
 use crate::Sheet;
 use crate::row::Row;
 ghost use mathlib.Core.Path.{_≡_};
-ghost use mathlib.Core.List.{_++_, map};
+ghost use mathlib.Core.List.{[], _∷_, _++_, map};
 ghost use Prim.Native.Nat.{ℕ, _+_, _<_, _≤_};
 ghost use lib.Dec.{eqb};
 ghost use lib.ListN.{length, take, drop, getD, set};
 ghost use Rattle.rows.specs.Pick.{pick};
 ghost use Rattle.rows.specs.Format.{mostLinks};
-ghost use Rattle.rows.specs.Limits.{sheetMarks, figureContexts, fillingLinks};
-ghost use Rattle.rows.specs.Held.{indexOf, relabelled, withLink, withLinks, linksOf, merged, withFusion, withMark, withAtom, withRow, noWiring, Held};
+ghost use Rattle.rows.specs.Limits.{sheetAtoms, sheetMarks, figureContexts, fillingLinks};
+ghost use Rattle.rows.specs.Held.{indexOf, relabelled, withLink, withLinks, linksOf, withFusion, withMark, withRow, noWiring, Held};
 ghost use Rattle.rows.specs.Packed.{packed};
-ghost use Rattle.rows.specs.Steps.{Makes, Rewires, Wired, Room, Ranged, withPorts};
+ghost use Rattle.rows.specs.Steps.{Makes, Rewires, Relinks, Wired, Room, Ranged, linkedBy, withSymbol, withPorts};
 
 // The place of x among the first n numbers, or n where it is not there.
 pub fn index_of(s: &[u16], n: usize, x: u16) -> usize
@@ -30,25 +30,95 @@ pub fn index_of(s: &[u16], n: usize, x: u16) -> usize
     n
 }
 
-// The first n labels with every `from` made `to`.
-pub(crate) fn relabel(
-    classes: [u16; Sheet::LINK_ROOM],
-    n: usize,
-    from: u16,
-    to: u16,
-) -> [u16; Sheet::LINK_ROOM]
-    requires { ⌜ n ≤ fillingLinks + mostLinks ⌝ }
-    ensures { λ r. ⌜ r ≡ map (relabelled from to) (take n classes) ++ drop n classes ⌝ }
+// In the first n labels every `from` made `to`.
+pub(crate) fn relabel(classes: &mut [u16], n: usize, from: u16, to: u16)
+    requires { ⌜ n ≤ length (now classes) ⌝ }
+    ensures { λ _. ⌜ now (classes .exit) ≡ map (relabelled from to) (take n (now (classes .entry))) ++ drop n (now (classes .entry)) ⌝ }
 {
-    let mut labels = classes;
     let mut i = 0;
     while i < n {
-        if labels[i] == from {
-            labels[i] = to;
+        if classes[i] == from {
+            classes[i] = to;
         }
         i += 1;
     }
-    labels
+}
+
+// The classes of the links at places i and j made one.
+pub(crate) fn merge(classes: &mut [u16], n: usize, i: usize, j: usize)
+    requires { ⌜ (n ≤ length (now classes)) × (i < length (now classes)) × (j < length (now classes)) ⌝ }
+    ensures { λ _. ⌜ now (classes .exit) ≡ map (relabelled (getD (now (classes .entry)) j 0) (getD (now (classes .entry)) i 0)) (take n (now (classes .entry))) ++ drop n (now (classes .entry)) ⌝ }
+{
+    let from = classes[j];
+    let to = classes[i];
+    relabel(classes, n, from, to);
+}
+
+// A link number that is new starts a class of its own. The count of links with it is returned.
+pub(crate) fn add_link(links: &mut [u16], classes: &mut [u16], n: usize, x: u16) -> usize
+    requires { ⌜ (n < fillingLinks + mostLinks) × (length (now links) ≡ fillingLinks + mostLinks) × (length (now classes) ≡ fillingLinks + mostLinks) ⌝ }
+    ensures { λ r. ⌜ (r ≤ n + 1) × Relinks (now (links .entry)) (now (classes .entry)) n (now (links .exit)) (now (classes .exit)) r (λ w. withLink w x) ⌝ }
+{
+    let i = index_of(links, n, x);
+    if i < n {
+        return n;
+    }
+    links[n] = x;
+    classes[n] = n as u16;
+    n + 1
+}
+
+// As many links as the row's count says.
+pub(crate) fn add_links(
+    links: &mut [u16],
+    classes: &mut [u16],
+    n: usize,
+    nums: [u16; Sheet::FIELDS],
+) -> usize
+    requires { ⌜ (n ≤ fillingLinks) × (getD nums 1 0 ≤ mostLinks) × (length (now links) ≡ fillingLinks + mostLinks) × (length (now classes) ≡ fillingLinks + mostLinks) ⌝ }
+    ensures { λ r. ⌜ Relinks (now (links .entry)) (now (classes .entry)) n (now (links .exit)) (now (classes .exit)) r (λ w. withLinks w (linksOf nums)) ⌝ }
+{
+    let count = nums[1] as usize;
+    let mut m = n;
+    let mut k = 0;
+    while k < count {
+        m = add_link(links, classes, m, nums[k + 2]);
+        k += 1;
+    }
+    m
+}
+
+// Two links made one point.
+pub(crate) fn add_fusion(links: &mut [u16], classes: &mut [u16], n: usize, a: u16, b: u16) -> usize
+    requires { ⌜ (n ≤ fillingLinks) × (length (now links) ≡ fillingLinks + mostLinks) × (length (now classes) ≡ fillingLinks + mostLinks) ⌝ }
+    ensures { λ r. ⌜ Relinks (now (links .entry)) (now (classes .entry)) n (now (links .exit)) (now (classes .exit)) r (λ w. withFusion (withLinks w (a ∷ b ∷ [])) a b) ⌝ }
+{
+    let one = add_link(links, classes, n, a);
+    let two = add_link(links, classes, one, b);
+    let i = index_of(links, two, a);
+    let j = index_of(links, two, b);
+    merge(classes, two, i, j);
+    two
+}
+
+// The links of a row, by its letter.
+pub(crate) fn add_row_links(
+    links: &mut [u16],
+    classes: &mut [u16],
+    n: usize,
+    letter: usize,
+    nums: [u16; Sheet::FIELDS],
+) -> usize
+    requires { ⌜ (n ≤ fillingLinks) × (letter < 2 → getD nums 1 0 ≤ mostLinks) × (length (now links) ≡ fillingLinks + mostLinks) × (length (now classes) ≡ fillingLinks + mostLinks) ⌝ }
+    ensures { λ r. ⌜ (letter ≡ 3 → r ≤ n + 1) × Relinks (now (links .entry)) (now (classes .entry)) n (now (links .exit)) (now (classes .exit)) r (linkedBy letter nums) ⌝ }
+{
+    match letter {
+        0 => add_links(links, classes, n, nums),
+        1 => add_links(links, classes, n, nums),
+        2 => add_fusion(links, classes, n, nums[0], nums[1]),
+        3 => add_link(links, classes, n, nums[0]),
+        _ => n,
+    }
 }
 
 // The links that a symbol or blank row may have; those past its count are 0.
@@ -81,59 +151,6 @@ pub(crate) fn ports_with(
 }
 
 impl Sheet {
-    // A link number that is new starts a class of its own.
-    pub(crate) fn with_link(mut self, x: u16) -> Self
-        requires { ⌜ self .«link_count» < fillingLinks + mostLinks ⌝ }
-        ensures { λ r. ⌜ Rewires self r (λ w. withLink w x) × (r .«link_count» ≤ self .«link_count» + 1) × (r .marked ≡ self .marked) × (r .«mark_count» ≡ self .«mark_count») ⌝ }
-    {
-        let n = self.link_count;
-        let i = index_of(&self.links, n, x);
-        if i < n {
-            return self;
-        }
-        self.links[n] = x;
-        self.classes[n] = n as u16;
-        self.link_count = n + 1;
-        self
-    }
-
-    // As many links as the row's count says.
-    pub(crate) fn with_links(self, nums: [u16; Sheet::FIELDS]) -> Self
-        requires { ⌜ (self .«link_count» ≤ fillingLinks) × (getD nums 1 0 ≤ mostLinks) ⌝ }
-        ensures { λ r. ⌜ Rewires self r (λ w. withLinks w (linksOf nums)) ⌝ }
-    {
-        let count = nums[1] as usize;
-        let mut sheet = self;
-        let mut k = 0;
-        while k < count {
-            sheet = sheet.with_link(nums[k + 2]);
-            k += 1;
-        }
-        sheet
-    }
-
-    // The classes of the links at places i and j made one.
-    pub(crate) fn merge(mut self, i: usize, j: usize) -> Self
-        requires { ⌜ (self .«link_count» ≤ fillingLinks + mostLinks) × (i < fillingLinks + mostLinks) × (j < fillingLinks + mostLinks) ⌝ }
-        ensures { λ r. ⌜ Rewires self r (λ w. merged w i j) ⌝ }
-    {
-        let classes = self.classes;
-        let labels = relabel(classes, self.link_count, classes[j], classes[i]);
-        self.classes = labels;
-        self
-    }
-
-    // A fusion of two links that the sheet has.
-    pub(crate) fn with_fusion(self, a: u16, b: u16) -> Self
-        requires { ⌜ self .«link_count» < fillingLinks + mostLinks ⌝ }
-        ensures { λ r. ⌜ Rewires self r (λ w. withFusion w a b) ⌝ }
-    {
-        let n = self.link_count;
-        let i = index_of(&self.links, n, a);
-        let j = index_of(&self.links, n, b);
-        self.merge(i, j)
-    }
-
     // A mark on a link that the sheet has.
     pub(crate) fn with_mark(mut self, a: u16, m: u16) -> Self
         requires { ⌜ (self .«link_count» < fillingLinks + mostLinks) × (self .«mark_count» ≤ sheetMarks) × ((p : ℕ) → getD (self .marked) p 0 < fillingLinks) ⌝ }
@@ -144,7 +161,10 @@ impl Sheet {
         let p = index_of(&self.marks, n, m);
         if p < n {
             let place = self.marked[p] as usize;
-            return self.merge(place, i);
+            let mut classes = self.classes;
+            merge(&mut classes, self.link_count, place, i);
+            self.classes = classes;
+            return self;
         }
         self.marks[n] = m;
         self.marked[n] = i as u16;
@@ -152,9 +172,10 @@ impl Sheet {
         self
     }
 
+    // A symbol row as an atom.
     pub(crate) fn with_atom(mut self, nums: [u16; Sheet::FIELDS]) -> Self
-        requires { ⌜ Room self × (getD nums 1 0 ≤ mostLinks) ⌝ }
-        ensures { λ r. ⌜ Makes self r (λ h. withAtom h nums) ⌝ }
+        requires { ⌜ self .«atom_count» ≤ sheetAtoms ⌝ }
+        ensures { λ r. ⌜ Makes self r (λ h. withSymbol h nums) ⌝ }
     {
         let n = self.atom_count;
         let links = row_links(nums);
@@ -164,7 +185,7 @@ impl Sheet {
             links,
         };
         self.atom_count = n + 1;
-        self.with_links(nums)
+        self
     }
 
     // A blank row or a head as a context, at this row.
@@ -200,19 +221,23 @@ impl Sheet {
     }
 
     // The sheet with one row more, which is the text's row `at`.
-    pub fn with_row(self, row: Row, at: u16) -> Self
+    pub fn with_row(mut self, row: Row, at: u16) -> Self
         requires { ⌜ Room self × Ranged row ⌝ }
         ensures { λ r. ⌜ ((h : Held) → Wired (h .wiring) → self ≡ packed h → at ≡ h .rows + 1 → r ≡ packed (withRow h row)) ⌝ }
     {
         let nums = row.nums;
         let letter = row.letter;
+        let mut links = self.links;
+        let mut classes = self.classes;
+        let n = add_row_links(&mut links, &mut classes, self.link_count, letter, nums);
+        self.links = links;
+        self.classes = classes;
+        self.link_count = n;
         match letter {
             0 => self.with_atom(nums),
-            1 => self.with_ports(nums, at).with_links(nums),
-            2 => self.with_link(nums[0])
-                .with_link(nums[1])
-                .with_fusion(nums[0], nums[1]),
-            3 => self.with_link(nums[0]).with_mark(nums[0], nums[1]),
+            1 => self.with_ports(nums, at),
+            2 => self,
+            3 => self.with_mark(nums[0], nums[1]),
             _ => self.unwired().with_ports(nums, at),
         }
     }

@@ -1,11 +1,4 @@
-pub mod Sets
-pub mod Places
-pub mod Flagged
 pub mod States
-pub mod FlagLaws
-pub mod KindLaws
-pub mod Telling
-pub mod MarkLaws
 pub mod Trying
 pub mod SettleLaws
 pub mod Starting

@@ -2,7 +2,7 @@
 use Prim.Native.Nat.{ℕ, suc, _+_, _-_, _≤_, _<_}
 use mathlib.Core.Path.{_≡_, sym, _∙_, subst}
 use mathlib.Core.Logic.{_≢_}
-use mathlib.Core.List.{List, [], _∷_}
+use mathlib.Core.List.{List, _∷_}
 use native.Mathlib.Decide.{decLe}
 use native.Mathlib.Omega.{arith}
 use native.Mathlib.Numerals.{add-one}
@@ -17,8 +17,8 @@ use Rattle.completing.specs.Completion.{Completable, put}
 use Rattle.completing.specs.Leaf.{Ascending, Settling}
 use Rattle.completing.proofs.SettlingLoop.{settling-start, settling-last, settling-next}
 use Rattle.settling.specs.Completes.{unsettled, Working, CompletableIn, FirstFor, Settles}
-use Rattle.settling.proofs.Sets.{set-cases, below-cases}
-use Rattle.settling.proofs.Flagged.{flagged-ascending, flagged-first, flagged-none}
+use Rattle.deciding.proofs.Sets.{set-cases, below-cases}
+use Rattle.deciding.proofs.Flagged.{flagged-ascending, flagged-first, flagged-none}
 use Rattle.settling.proofs.States.{links-set, state-put, taken-in-same}
 
 -- The links before x are settled.

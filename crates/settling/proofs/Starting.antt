@@ -2,7 +2,7 @@
 use Prim.Native.Nat.{ℕ, suc, _+_, _-_, _<_}
 use mathlib.Core.Path.{_≡_, refl, sym, _∙_, ap, subst}
 use mathlib.Core.Logic.{_≢_}
-use mathlib.Core.List.{List, [], map}
+use mathlib.Core.List.{List, map}
 use native.Mathlib.Decide.{ℕ-discrete}
 use native.Mathlib.Omega.{arith}
 use native.Mathlib.Numerals.{add-one}
@@ -21,11 +21,11 @@ use Rattle.completing.specs.Completion.{Open, Partial}
 use Rattle.completing.specs.Leaf.{OpenLinks, StateOf, NoneWith}
 use Rattle.completing.proofs.State.{state-partial}
 use Rattle.rows.proofs.Lists.{getD-mapped}
-use Rattle.settling.specs.Flags.{Twice, Different, Opens}
-use Rattle.settling.specs.Agrees.{AtomAgrees, Agrees}
+use Rattle.deciding.specs.Flags.{Twice, Different, Opens}
+use Rattle.deciding.specs.Agrees.{AtomAgrees, Agrees}
 use Rattle.settling.specs.Completes.{unsettled, Working}
-use Rattle.settling.proofs.Flagged.{flagged-in, FlaggedAt, flagged-out}
-use Rattle.settling.proofs.Places.{number-some}
+use Rattle.deciding.proofs.Flagged.{flagged-in, FlaggedAt, flagged-out}
+use Rattle.deciding.proofs.Places.{number-some}
 
 -- a place counted from 1
 back : (i n : ℕ) → Range n i → i ≡ suc (i - 1)

@@ -20,10 +20,10 @@ use Rattle.completing.proofs.Needs.{fault-links}
 use Rattle.completing.proofs.Put.{completable-wider, partial-fewer, put-partial, completable-back}
 use Rattle.completing.proofs.Interchange.{interchange}
 use Rattle.completing.proofs.Completing.{fault-completable}
-use Rattle.settling.specs.Kinds.{KindsIn}
+use Rattle.deciding.specs.Kinds.{KindsIn}
 use Rattle.settling.specs.Completes.{unsettled, Working, CompletableIn, CompletableAt, WayOut}
-use Rattle.settling.proofs.Sets.{set-cases}
-use Rattle.settling.proofs.Flagged.{flagged-in, flagged-out, cleared-out, cleared-in}
+use Rattle.deciding.proofs.Sets.{set-cases}
+use Rattle.deciding.proofs.Flagged.{flagged-in, flagged-out, cleared-out, cleared-in}
 
 -- What the links say of the arrays.
 pub links-set : (sheet figure : form.Normal) (to : List ℕ) → LinksIn sheet figure to → (x y : ℕ) → x < figure .«class_count» → figure .«class_count» ≤ sheetLinks → Range (suc (sheet .«class_count»)) y

@@ -1,5 +1,5 @@
 -- The loops that try unsettled links at sheet links.
-use Prim.Native.Nat.{ℕ, suc, _+_, _-_, _≤_, _<_}
+use Prim.Native.Nat.{ℕ, suc, _+_, _≤_, _<_}
 use mathlib.Core.Path.{_≡_, refl, sym, subst}
 use mathlib.Core.List.{List}
 use mathlib.Core.Bool.{Bool, true, false}
@@ -16,11 +16,11 @@ use Rattle.completing.specs.Completion.{Partial}
 use Rattle.completing.specs.Fault.{Torn}
 use Rattle.completing.proofs.Completing.{no-fault-completable, torn-refused}
 use Rattle.faults.specs.Finds.{Finds}
-use Rattle.settling.specs.Kinds.{KindsIn}
+use Rattle.deciding.specs.Kinds.{KindsIn}
 use Rattle.faults.specs.declared.fault.Fault.{Fault}
 use Rattle.settling.specs.Completes.{unsettled, Tables, Working, CompletableIn, CompletableAt, Completes, CompletesAt, Hinders, FirstFor, FirstOfKind}
-use Rattle.settling.proofs.Sets.{below-cases}
-use Rattle.settling.proofs.Flagged.{flagged-out}
+use Rattle.deciding.proofs.Sets.{below-cases}
+use Rattle.deciding.proofs.Flagged.{flagged-out}
 use Rattle.settling.proofs.States.{links-set, working-put, put-back, way-out, earlier-refused}
 
 -- what the finder says of every state with these arrays

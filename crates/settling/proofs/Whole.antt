@@ -22,8 +22,8 @@ use Rattle.completing.proofs.Leaf.{leaf-none, leaf-some, not-completable}
 use Rattle.settling.specs.Completed.{completedIn}
 use Rattle.faults.specs.declared.fault.Fault.{Fault}
 use Rattle.settling.specs.declared.complete.Completed.{Completed}
-use Rattle.settling.specs.Flags.{Different, Opens}
-use Rattle.settling.specs.Agrees.{Agrees}
+use Rattle.deciding.specs.Flags.{Different, Opens}
+use Rattle.deciding.specs.Agrees.{Agrees}
 use Rattle.settling.specs.Completes.{unsettled, Working, Completes, Settles, LeastIn}
 use Rattle.settling.proofs.States.{taken-in-same}
 use Rattle.settling.proofs.Trying.{FindsAll}

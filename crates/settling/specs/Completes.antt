@@ -12,8 +12,8 @@ use Rattle.completing.specs.Completion.{Partial, Completable}
 use Rattle.completing.specs.Fault.{completed}
 use Rattle.completing.specs.Leaf.{LeastCompletion, Settling}
 use Rattle.faults.specs.declared.fault.Fault.{Fault}
-use Rattle.settling.specs.Flags.{flagged}
-use Rattle.settling.specs.Kinds.{KindsIn}
+use Rattle.deciding.specs.Flags.{flagged}
+use Rattle.deciding.specs.Kinds.{KindsIn}
 use Rattle.settling.specs.declared.complete.Completed.{Completed}
 
 -- the arrays that every function of the search over open links reads

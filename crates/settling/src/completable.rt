@@ -1,8 +1,8 @@
 // Whether the unsettled links, those with a flag, can be placed so that nothing stands in the way.
 use crate::obstacle::obstacle;
-use faults::TOUCHES;
 use rows::Sheet;
 use sheet::normal::Normal;
+use stepping::TOUCHES;
 ghost use Prim.Native.Nat.{_<_, _≤_};
 ghost use mathlib.Core.Path.{_≡_};
 ghost use lib.ListN.{getD};

@@ -1,14 +1,14 @@
 // The least completion of placed atoms.
 use crate::completable::completable;
-use crate::decided::links_of;
-use crate::kinds::kinds;
-use crate::opening::open_links;
 use crate::settle::settled;
-use crate::taken::taken_by;
+use deciding::decided::links_of;
+use deciding::kinds::kinds;
+use deciding::opening::open_links;
+use deciding::taken::taken_by;
 use faults::fault::find;
-use faults::lookup::touches;
 use rows::Sheet;
 use sheet::normal::Normal;
+use stepping::lookup::touches;
 ghost use mathlib.Core.Path.{_≡_};
 ghost use mathlib.Core.Bool.{false};
 ghost use lib.ListN.{take};

@@ -1,10 +1,10 @@
 // What stands in the way of completing once one more link is settled.
-use faults::TOUCHES;
 use faults::fault::Fault;
 use faults::fault::find;
-use faults::torn::torn;
 use rows::Sheet;
 use sheet::normal::Normal;
+use stepping::TOUCHES;
+use stepping::torn::torn;
 ghost use Prim.Native.Nat.{_≤_};
 ghost use Rattle.network.specs.Ready.{Ready, LinksIn, TouchesIn};
 ghost use Rattle.settling.specs.Completes.{Hinders};

@@ -1,8 +1,8 @@
 // The open links settled one by one, each at the first sheet link with which the rest can be completed.
 use crate::completable::completable;
-use faults::TOUCHES;
 use rows::Sheet;
 use sheet::normal::Normal;
+use stepping::TOUCHES;
 ghost use Prim.Native.Nat.{_<_};
 ghost use mathlib.Core.Path.{_≡_};
 ghost use lib.ListN.{getD};

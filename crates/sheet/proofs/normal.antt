@@ -9,7 +9,6 @@ pub mod Marks
 pub mod NormalNodes
 pub mod TextGraph
 pub mod NormalBounds
-pub mod Numbered
 pub mod Sorting
 pub mod ClassNumbers
 pub mod NormalMade

@@ -6,3 +6,4 @@ pub mod Room
 pub mod Walk
 pub mod Clashes
 pub mod Judged
+pub mod Answered

@@ -1,5 +1,6 @@
 pub mod Kinds
 pub mod Reading
+pub mod Steps
 pub mod Answer
 pub mod Filling
 pub mod Graph
@@ -9,4 +10,3 @@ pub mod Agrees
 pub mod NormalText
 pub mod NormalSheet
 pub mod NormalRows
-pub mod Numbering

@@ -2,9 +2,10 @@
 use rows::Sheet;
 ghost use mathlib.Core.Path.{_≡_};
 ghost use lib.Dec.{eqb};
-ghost use Rattle.rows.specs.Pick.{and, or, not};
+ghost use Rattle.rows.specs.Pick.{and, not};
 ghost use Rattle.sheet.specs.Reading.{clashOf};
-ghost use Rattle.sheet.specs.Kinds.{isFigure, isList, atomLimit, linkLimit, allowed};
+ghost use Rattle.sheet.specs.Kinds.{isFigure, isList, atomLimit, linkLimit};
+ghost use Rattle.sheet.specs.Steps.{strangeBy};
 
 // A sheet; a figure as a pattern, as a replacement, or in any other place; a list of fillings.
 pub enum Kind {
@@ -63,7 +64,7 @@ pub(crate) fn most_links(kind: Kind) -> usize
 
 // Whether a row of this letter may not stand after so many heads.
 pub(crate) fn is_strange(kind: Kind, letter: usize, heads: usize) -> bool
-    ensures { λ r. ⌜ r ≡ or (not (allowed kind letter)) (and (isList kind) (and (not (eqb letter 4)) (eqb heads 0))) ⌝ }
+    ensures { λ r. ⌜ r ≡ strangeBy kind letter heads ⌝ }
 {
     if letter == 4 {
         return !is_list(kind);

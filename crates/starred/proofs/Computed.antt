@@ -8,11 +8,11 @@ use Rattle.sheet.specs.Reading.{outcomeOf, noPorts}
 use Rattle.sheet.specs.declared.kind.Kind.the-variants.{Plain, Pattern, Figure, Fillings}
 use Rattle.sheet.specs.declared.answer.Answer.{Answer}
 use Rattle.sheet.specs.declared.answer.Answer.the-variants.{Passed}
-use Rattle.matching.specs.Compare.{compareAnswer}
+use Rattle.comparing.specs.Compare.{compareAnswer}
 use Rattle.filling.specs.Fill.{filledAnswer, filledText}
 use Rattle.filling.specs.declared.done.Done.{Done}
 use Rattle.filling.specs.declared.done.Done.the-variants as done
-use Rattle.tasks.specs.Passed.{PlacePassed}
+use Rattle.finding.specs.Passed.{PlacePassed}
 use Rattle.starred.specs.Case.{Verdict, Filling, Placed, Case, compares, normalises, places, nowhere, prints, bytesOf, listBytes, compareVerdict, claimVerdict, NormalFilling, Every, all, _&_, Holds}
 use Rattle.starred.proofs.Ending.{normalise-ends, fill-ends}
 use Rattle.starred.proofs.Placing.{foundIn, outputOf, place-prints, nowhere-ends, place-ends, claim-holds}

@@ -15,11 +15,11 @@ use Rattle.placing.proofs.Narrowed.{narrowed, narrowed-same}
 use Rattle.filling.specs.Done.{doneNumber, doneInput, doneRow, doneBytes, slipAfter}
 use Rattle.filling.specs.declared.done.Done.{Done}
 use Rattle.filling.specs.declared.done.Done.the-variants as done
-use Rattle.tasks.specs.Place.{fillingsIn, placedFillings, placedAnswer, placedText, placeAnswer, placeSlip}
-use Rattle.tasks.specs.Claim.{claimAnswer}
-use Rattle.tasks.specs.Passed.{PlacePassed}
-use Rattle.tasks.specs.Demand.{sheetNet, patternNet, placeWritten}
-use Rattle.tasks.specs.declared.claim.Claimed.the-variants as claim
+use Rattle.finding.specs.Place.{fillingsIn, placedFillings, placedAnswer, placedText, placeAnswer, placeSlip, sheetNet, patternNet}
+use Rattle.finding.specs.Passed.{PlacePassed}
+use Rattle.claiming.specs.Claim.{claimAnswer}
+use Rattle.claiming.specs.declared.claim.Claimed.the-variants as claim
+use Rattle.tasks.specs.Demand.{placeWritten}
 use Rattle.tasks.proofs.Places.{place-answer, place-claim}
 use Rattle.starred.specs.Case.{doneAnswer, PlaceEnds, printed, Prints}
 

@@ -19,7 +19,7 @@ use Rattle.placing.specs.First.{firstFrom, firstList}
 use Rattle.placing.specs.Smallest.{labelsBy, smallest}
 use Rattle.placing.proofs.FirstLaws.{firstMay}
 use Rattle.placing.proofs.Narrowed.{narrowed}
-use Rattle.matching.specs.Compare.{sameTest, compareAnswer}
+use Rattle.comparing.specs.Compare.{sameTest, compareAnswer}
 use Rattle.filling.specs.Fill.{firstLacking, firstDiffering, filledAnswer}
 use Rattle.starred.specs.Case.{Every, all, _&_, Holds}
 use Rattle.starred.specs.Table.{table}

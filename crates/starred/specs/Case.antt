@@ -12,14 +12,14 @@ use Rattle.rows.specs.RowText.{rowBytes}
 use Rattle.sheet.specs.NormalText.{slipLength, normalText, normalisedAnswer, normalisedSlip, normalisedNumber, normalisedInput, normalisedRow, normalisedBytes}
 use Rattle.sheet.specs.declared.kind.Kind.the-variants.{Plain, Pattern}
 use Rattle.sheet.specs.declared.normalise.Normalised.{Normalised}
-use Rattle.matching.specs.Compare.{compareAnswer, comparedNumber, comparedInput, comparedRow, comparedYes}
-use Rattle.matching.specs.declared.compare.Compared.{Compared}
+use Rattle.comparing.specs.Compare.{compareAnswer, comparedNumber, comparedInput, comparedRow, comparedYes}
+use Rattle.comparing.specs.declared.compare.Compared.{Compared}
 use Rattle.filling.specs.Done.{doneNumber, doneInput, doneRow, doneBytes}
 use Rattle.filling.specs.declared.done.Done.{Done}
 use Rattle.filling.specs.Fill.{fillAnswer, fillSlip}
-use Rattle.tasks.specs.Place.{placeAnswer, placeSlip}
-use Rattle.tasks.specs.Claim.{claimAnswer, claimedNumber, claimedInput, claimedRow, claimedYes}
-use Rattle.tasks.specs.declared.claim.Claimed.{Claimed}
+use Rattle.finding.specs.Place.{placeAnswer, placeSlip}
+use Rattle.claiming.specs.Claim.{claimAnswer, claimedNumber, claimedInput, claimedRow, claimedYes}
+use Rattle.claiming.specs.declared.claim.Claimed.{Claimed}
 
 -- a filling: its H row, and its own rows
 pub record Filling : Type 0 where

@@ -24,7 +24,7 @@ pub fn compare_files(k: usize, name: &[u8], l: usize, other_name: &[u8]) {
     }
     let mut other = [0u8; Sheet::TEXT];
     let m = read_input(second, &mut other);
-    let verdict = of_compared(matching::compare::compare(&text[..n], &other[..m]));
+    let verdict = of_compared(comparing::compare::compare(&text[..n], &other[..m]));
     let line = verdict_row(verdict.number, verdict.input, verdict.row, verdict.yes);
     io::write_all(STDOUT_FILENO, &line);
 }
@@ -64,7 +64,7 @@ pub fn place_files(k: usize, name: &[u8], l: usize, pattern_name: &[u8]) {
     let mut pattern = [0u8; Sheet::TEXT];
     let m = read_input(second, &mut pattern);
     let mut out = io::buffer();
-    let done = tasks::place::place(&text[..n], &pattern[..m], &mut out);
+    let done = finding::place::place(&text[..n], &pattern[..m], &mut out);
     print_answer(of_done(done), &out);
 }
 
@@ -95,7 +95,7 @@ pub fn claim_files(
     }
     let mut list = [0u8; Sheet::TEXT];
     let p = read_input(third, &mut list);
-    let verdict = of_claimed(tasks::claim::claim(&text[..n], &figure[..m], &list[..p]));
+    let verdict = of_claimed(claiming::claim::claim(&text[..n], &figure[..m], &list[..p]));
     let line = verdict_row(verdict.number, verdict.input, verdict.row, verdict.yes);
     io::write_all(STDOUT_FILENO, &line);
 }
@@ -128,6 +128,6 @@ pub fn swap_files(
     let mut replacement = [0u8; Sheet::TEXT];
     let p = read_input(third, &mut replacement);
     let mut out = io::buffer();
-    let done = tasks::swap::swap(&text[..n], &pattern[..m], &replacement[..p], &mut out);
+    let done = swapping::swap::swap(&text[..n], &pattern[..m], &replacement[..p], &mut out);
     print_answer(of_done(done), &out);
 }

@@ -1,20 +1,17 @@
 -- A claim holds exactly when the filled figure is the same as the sheet.
-use Prim.Native.Nat.{ℕ, suc}
+use Prim.Native.Nat.{ℕ}
 use mathlib.Core.Path.{_≡_, refl, sym, _∙_, subst}
 use mathlib.Core.Logic.{_⊎_, inl, inr, _↔_}
-use mathlib.Core.List.{List, [], _∷_, Memᴰ·map}
+use mathlib.Core.List.{List}
 use mathlib.Core.Bool.{Bool, true, false}
 use mathlib.Core.Option.{Option, none, some}
 use native.Mathlib.Omega.{arith}
 use Rattle.hyperlmntal.specs.Congruence.{_≅_, ≅-sym, ≅-trans}
 use Rattle.hyperlmntal.specs.Hypergraph.{Flat}
 use Rattle.rows.specs.Pick.{pick}
-use Rattle.rows.specs.Packed.{portsOf}
-use Rattle.rows.specs.declared.Context.{Context}
 use Rattle.sheet.specs.Graph.{graphOf, termOfText}
 use Rattle.sheet.specs.Reading.{noPorts}
-use Rattle.sheet.specs.declared.kind.Kind.the-variants.{Figure, Fillings}
-use Rattle.sheet.proofs.read.Ranges.{Every}
+use Rattle.sheet.specs.declared.kind.Kind.the-variants.{Fillings}
 use Rattle.sheet.proofs.read.HeldLimits.{held-within}
 use Rattle.placing.specs.Net.{Net, normalNet, NormalSheet}
 use Rattle.placing.specs.Placing.{Placing, Good}
@@ -27,32 +24,18 @@ use Rattle.placing.proofs.FilledText.{AllExactMarks, filled-same}
 use Rattle.placing.proofs.Sheets.{sheets-placing}
 use Rattle.placing.proofs.SmallestLaws.{smallest-good, smallest-none}
 use Rattle.placing.proofs.PlacedText.{text-small}
-use Rattle.filling.specs.Read.{listHeld, fillingRead, fillingsRead}
-use Rattle.filling.specs.Fill.{figureHeld, firstLacking, tooLarge}
-use Rattle.filling.proofs.Exact.{all-exact, none-lacking}
+use Rattle.filling.specs.Read.{listHeld, fillingsRead}
+use Rattle.filling.specs.Fill.{figureHeld, tooLarge}
+use Rattle.filling.proofs.Exact.{all-exact}
 use Rattle.filling.proofs.ResultNet.{Atoms, result-sheet, result-term}
 use Rattle.filling.proofs.Answers.{rowed}
-use Rattle.tasks.specs.Place.{sheetHeld}
-use Rattle.tasks.specs.Claim.{filledNet, placedClaim, claimedAnswer, claimAnswer}
+use Rattle.finding.specs.Place.{sheetHeld}
+use Rattle.claiming.specs.Claim.{filledNet, placedClaim, claimedAnswer, claimAnswer}
+use Rattle.claiming.specs.declared.claim.Claimed.the-variants.{Holds, Differs}
+use Rattle.claiming.proofs.Listed.{listed-atoms}
 use Rattle.tasks.specs.Passed.{ClaimPassed}
-use Rattle.tasks.specs.declared.claim.Claimed.the-variants.{Holds, Differs}
 use Rattle.tasks.proofs.GoodSize.{good-atoms, good-links}
-use Rattle.tasks.proofs.FilledAtoms.{Covering, filled-atoms}
-use Rattle.tasks.proofs.Blanks.{ports-found}
 use Rattle.tasks.proofs.Large.{not-large}
-
-covers : (list : List ℕ) (l : List Context) → Every (λ (c : Context). portsOf (listHeld list .contexts) (c .number) ≡ suc (c .count)) l → Every (Covering (fillingsRead list)) l
-covers list [] p = tt
-covers list (c ∷ l) p =
-    let t = ports-found (listHeld list .contexts) (c .number) (c .count) (p .0) in
-    ((fillingRead list (t .0), Memᴰ·map (fillingRead list) (t .1), t .2, t .3), covers list l (p .1))
-
--- A filled figure with a filling for each context has atoms only.
-pub listed-atoms : (figure list : List ℕ) → firstLacking (listHeld list .contexts) (figureHeld figure .contexts) ≡ 0 → Atoms (filledGraph (graphOf (figureHeld figure)) (fillingsRead list) .atoms)
-listed-atoms figure list full =
-    let r = held-within Figure noPorts figure .ranges .contexts in
-    filled-atoms Figure (figureHeld figure) (fillingsRead list) r
-    (covers list (figureHeld figure .contexts) (none-lacking (listHeld list .contexts) (figureHeld figure .contexts) (rowed Figure (figureHeld figure .contexts) r) full))
 
 module _ (sheet figure list : List ℕ) (ok : ClaimPassed sheet figure list) where
   abbrev S : Net

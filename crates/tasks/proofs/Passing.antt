@@ -16,12 +16,13 @@ use Rattle.filling.specs.Fill.{unless, figureHeld, firstLacking, firstDiffering
 use Rattle.filling.specs.Done.{doneInput}
 use Rattle.filling.specs.declared.done.Done.{Done}
 use Rattle.filling.specs.declared.done.Done.the-variants as done
-use Rattle.tasks.specs.Place.{patternHeld, placeAnswer}
-use Rattle.tasks.specs.Claim.{claimUnless, claimedInput, claimedAnswer, claimAnswer}
-use Rattle.tasks.specs.Swap.{replacementHeld, sameMarks, swapAnswer}
-use Rattle.tasks.specs.Passed.{PlacePassed, SwapPassed, ClaimPassed}
-use Rattle.tasks.specs.declared.claim.Claimed.{Claimed}
-use Rattle.tasks.specs.declared.claim.Claimed.the-variants as claimed
+use Rattle.finding.specs.Place.{patternHeld, placeAnswer}
+use Rattle.finding.specs.Passed.{PlacePassed}
+use Rattle.claiming.specs.Claim.{claimUnless, claimedInput, claimedAnswer, claimAnswer}
+use Rattle.claiming.specs.declared.claim.Claimed.{Claimed}
+use Rattle.claiming.specs.declared.claim.Claimed.the-variants as claimed
+use Rattle.swapping.specs.Swap.{replacementHeld, sameMarks, swapAnswer}
+use Rattle.tasks.specs.Passed.{SwapPassed, ClaimPassed}
 use Rattle.tasks.proofs.Places.{place-ends}
 use Rattle.tasks.proofs.Swapping.{swap-ends}
 use Rattle.tasks.proofs.Claims.{claim-ends}

@@ -31,14 +31,14 @@ use Rattle.filling.specs.Fill.{figureHeld, firstLacking}
 use Rattle.filling.specs.declared.done.Done.the-variants as done
 use Rattle.filling.proofs.Back.{placed-back}
 use Rattle.filling.proofs.ReadAsFigure.{pattern-figure}
-use Rattle.tasks.specs.Place.{sheetHeld, patternHeld, fillingsIn, placedFillings, placedAnswer, placedText, placeAnswer, placeSlip}
-use Rattle.tasks.specs.Claim.{claimAnswer}
-use Rattle.tasks.specs.Passed.{PlacePassed, ClaimPassed}
-use Rattle.tasks.specs.Demand.{sheetNet, patternNet, Turning, placeWritten, blankOf, headOf, HandsOut}
-use Rattle.tasks.specs.declared.claim.Claimed.the-variants.{Holds}
-use Rattle.tasks.proofs.FilledAtoms.{Covering}
-use Rattle.tasks.proofs.Blanks.{pattern-covered}
-use Rattle.tasks.proofs.ListWhole.{written-lacks, written-exact}
+use Rattle.finding.specs.Place.{sheetHeld, patternHeld, fillingsIn, placedFillings, placedAnswer, placedText, placeAnswer, placeSlip, sheetNet, patternNet}
+use Rattle.finding.specs.Passed.{PlacePassed}
+use Rattle.finding.proofs.Blanks.{Covering, pattern-covered}
+use Rattle.claiming.specs.Claim.{claimAnswer}
+use Rattle.claiming.specs.declared.claim.Claimed.the-variants.{Holds}
+use Rattle.swapping.proofs.ListWhole.{written-lacks, written-exact}
+use Rattle.tasks.specs.Passed.{ClaimPassed}
+use Rattle.tasks.specs.Demand.{Turning, placeWritten, blankOf, headOf, HandsOut}
 use Rattle.tasks.proofs.Room.{list-room}
 use Rattle.tasks.proofs.Claims.{claim-congruent}
 

@@ -40,7 +40,8 @@ use Rattle.placing.proofs.FilledText.{AllExactMarks, filled-numbered}
 use Rattle.placing.proofs.ListBack.{ListFits}
 use Rattle.placing.proofs.NormalRowsFit.{symbol-row}
 use Rattle.filling.proofs.ResultNet.{Atoms, result-sheet, result-graph}
-use Rattle.tasks.proofs.FilledAtoms.{Covering, Each, filled-each, filled-atoms}
+use Rattle.finding.proofs.Blanks.{Covering}
+use Rattle.claiming.proofs.FilledAtoms.{Each, filled-each, filled-atoms}
 
 -- An atom of a sheet: its name and link count in range.
 abbrev Sized : Label → ℕ → Type 0
@@ -63,7 +64,7 @@ module _ (kind : Kind) (h : Held) (w : WithinLimits kind h) (A : Agrees h) (θ :
       filling : (f : Filling) → f ∈ θ → (c : NetCell) → c ∈ symbolsIn (f .rows) → Sized (symbol (c .0)) (length (map inner (c .1)))
       filling f m c i =
           let r = fits .fillings f m .each (symbolRow (c .0) (c .1)) (symbol-row (f .rows) c i) in
-          (c .0, refl, r .0, omega (arith, r .1, length-map (c .1) inner))
+          (c .0, refl, r .name, omega (arith, r .count, length-map (c .1) inner))
 
       own : (a : Atom) → a ∈ h .atoms → Sized (symbol (a .name)) (length (map inner (take (a .count) (a .links))))
       own a i =
@@ -122,10 +123,10 @@ module _ (kind : Kind) (h : Held) (w : WithinLimits kind h) (A : Agrees h) (θ :
     readable : Readable Plain noPorts (N .atoms) [] (N .marks)
     readable =
         record {
+          single = refl;
           joints = upTo (N .links);
           marks = h .wiring .marks;
           stock = record {
-            single = refl;
             joint-range = λ x i. let t = upTo-of (N .links) x i in (t .0, omega (arith, t .1, short));
             mark-range = λ m i. every-member MarkRange (h .wiring .marks) m (w .ranges .marks) i;
             few-joints = omega (arith, upTo-length (N .links), short);

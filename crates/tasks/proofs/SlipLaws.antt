@@ -20,8 +20,8 @@ use Rattle.filling.specs.Done.{doneNumber, doneInput, slipAfter}
 use Rattle.filling.specs.Fill.{filledText, fillAnswer, fillSlip}
 use Rattle.filling.specs.declared.done.Done.{Done}
 use Rattle.filling.specs.declared.done.Done.the-variants as done
-use Rattle.tasks.specs.Place.{placedFillings, placedText, placeAnswer, placeSlip}
-use Rattle.tasks.specs.Swap.{replacementHeld, swappedText, swapAnswer, swapSlip}
+use Rattle.finding.specs.Place.{placedFillings, placedText, placeAnswer, placeSlip}
+use Rattle.swapping.specs.Swap.{replacementHeld, swappedText, swapAnswer, swapSlip}
 use Rattle.tasks.specs.Demand.{swapped}
 use Rattle.tasks.proofs.Places.{place-writes}
 use Rattle.tasks.proofs.Swapping.{swap-none, swap-writes}

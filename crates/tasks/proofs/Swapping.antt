@@ -33,12 +33,12 @@ use Rattle.filling.specs.Fill.{tooLarge, figureHeld, firstLacking, filledText, 
 use Rattle.filling.specs.declared.done.Done.the-variants as done
 use Rattle.filling.proofs.ResultNet.{Atoms, result-atoms}
 use Rattle.filling.proofs.ReadAsFigure.{replacement-figure}
-use Rattle.tasks.specs.Place.{patternHeld, placedFillings, placedAnswer, placeAnswer}
-use Rattle.tasks.specs.Swap.{replacementHeld, swappedAnswer, swappedText, swapAnswer, swapSlip}
+use Rattle.finding.specs.Place.{patternHeld, placedFillings, placedAnswer, placeAnswer}
+use Rattle.claiming.proofs.FilledAtoms.{filled-atoms}
+use Rattle.swapping.specs.Swap.{replacementHeld, swappedAnswer, swappedText, swapAnswer, swapSlip}
+use Rattle.swapping.proofs.ReplacementBlanks.{replacement-covered}
 use Rattle.tasks.specs.Passed.{SwapPassed}
 use Rattle.tasks.specs.Demand.{placeWritten, HandsOut, OverLimits, swapped, Swaps}
-use Rattle.tasks.proofs.FilledAtoms.{filled-atoms}
-use Rattle.tasks.proofs.Blanks.{replacement-covered}
 use Rattle.tasks.proofs.Large.{too-large}
 use Rattle.tasks.proofs.ResultText.{few-marks, result-passes, result-held}
 use Rattle.tasks.proofs.Room.{text-room}

@@ -14,12 +14,13 @@ use Rattle.filling.specs.Read.{fillingsRead}
 use Rattle.filling.specs.Done.{doneNumber, doneInput}
 use Rattle.filling.specs.Fill.{figureHeld, fillAnswer, fillSlip}
 use Rattle.filling.specs.declared.done.Done.the-variants as done
-use Rattle.tasks.specs.Place.{sheetHeld, placeAnswer, placeSlip}
-use Rattle.tasks.specs.Claim.{claimedInput, claimAnswer}
-use Rattle.tasks.specs.Swap.{swapAnswer, swapSlip}
-use Rattle.tasks.specs.Passed.{PlacePassed, SwapPassed, ClaimPassed}
+use Rattle.finding.specs.Place.{sheetHeld, placeAnswer, placeSlip}
+use Rattle.finding.specs.Passed.{PlacePassed}
+use Rattle.claiming.specs.Claim.{claimedInput, claimAnswer}
+use Rattle.claiming.specs.declared.claim.Claimed.the-variants.{Holds, Differs}
+use Rattle.swapping.specs.Swap.{swapAnswer, swapSlip}
+use Rattle.tasks.specs.Passed.{SwapPassed, ClaimPassed}
 use Rattle.tasks.specs.Demand.{Turning, placeWritten, HandsOut, Swaps}
-use Rattle.tasks.specs.declared.claim.Claimed.the-variants.{Holds, Differs}
 use Rattle.tasks.proofs.Places as Places
 use Rattle.tasks.proofs.Claims as Claims
 use Rattle.tasks.proofs.Swapping as Swapping

@@ -13,7 +13,7 @@ use Rattle.sheet.specs.NormalText.{textOf, slipLength}
 use Rattle.sheet.specs.Reading.{outcomeOf, noPorts}
 use Rattle.sheet.specs.declared.kind.Kind.the-variants.{Plain, Fillings}
 use Rattle.sheet.specs.declared.answer.Answer.the-variants.{Passed}
-use Rattle.placing.specs.Net.{NetCell, Net, netOf, normalNet}
+use Rattle.placing.specs.Net.{NetCell, netOf}
 use Rattle.placing.specs.Placing.{Placing}
 use Rattle.placing.specs.Fillings.{Filling, Fits, byNumber, normalFillingsOf}
 use Rattle.placing.specs.Holding.{holdingTerm}
@@ -23,15 +23,8 @@ use Rattle.placing.specs.Smallest.{smallest}
 use Rattle.filling.specs.Done.{doneBytes}
 use Rattle.filling.specs.Read.{fillingsRead}
 use Rattle.filling.specs.declared.done.Done.the-variants as done
-use Rattle.tasks.specs.Place.{sheetHeld, patternHeld, placeAnswer, placeSlip}
-use Rattle.tasks.specs.Swap.{replacementHeld, swapAnswer, swapSlip}
-
--- the normal nets of the two texts
-abbrev pub sheetNet : List ℕ → Net
-sheetNet sheet = normalNet (sheetHeld sheet)
-
-abbrev pub patternNet : List ℕ → Net
-patternNet pattern = normalNet (patternHeld pattern)
+use Rattle.finding.specs.Place.{sheetHeld, patternHeld, sheetNet, patternNet, placeAnswer, placeSlip}
+use Rattle.swapping.specs.Swap.{replacementHeld, swapAnswer, swapSlip}
 
 -- 'fillings of any size, each with exactly its blank's ports as marks, that turn the figure into that sheet under E1 to E10'
 abbrev pub Turning : List ℕ → List ℕ → List Filling → Type 0

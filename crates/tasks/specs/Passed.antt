@@ -4,16 +4,13 @@ use mathlib.Core.Path.{_≡_}
 use mathlib.Core.List.{List}
 use mathlib.Core.Bool.{true}
 use Rattle.sheet.specs.Reading.{outcomeOf, noPorts}
-use Rattle.sheet.specs.declared.kind.Kind.the-variants.{Plain, Pattern, Figure, Fillings}
+use Rattle.sheet.specs.declared.kind.Kind.the-variants.{Plain, Figure, Fillings}
 use Rattle.sheet.specs.declared.answer.Answer.the-variants.{Passed}
 use Rattle.filling.specs.Read.{listHeld}
 use Rattle.filling.specs.Fill.{figureHeld, firstLacking, firstDiffering}
-use Rattle.tasks.specs.Place.{patternHeld}
-use Rattle.tasks.specs.Swap.{replacementRead, replacementHeld, sameMarks}
-
-pub record PlacePassed (sheet pattern : List ℕ) : Type 0 where
-  pub sheet-passes : outcomeOf Plain noPorts sheet .answer ≡ Passed
-  pub pattern-passes : outcomeOf Pattern noPorts pattern .answer ≡ Passed
+use Rattle.finding.specs.Place.{patternHeld}
+use Rattle.finding.specs.Passed.{PlacePassed}
+use Rattle.swapping.specs.Swap.{replacementRead, replacementHeld, sameMarks}
 
 pub record SwapPassed (sheet pattern replacement : List ℕ) : Type 0 where
   pub placed : PlacePassed sheet pattern

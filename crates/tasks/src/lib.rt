@@ -1,4 +1,1 @@
-// The tasks that place a figure in a sheet: place, claim and swap.
-pub mod claim;
-pub mod place;
-pub mod swap;
+// Laws of the tasks place, claim and swap: what demand 3 asks of them, and how they join. No code.

@@ -7,6 +7,8 @@ pub mod NormalIso
 pub mod NormalTwice
 pub mod WorkedNormal
 pub mod OneFilling
+pub mod Went
+pub mod Few
 pub mod BuiltRows
 pub mod ReadBack
 pub mod NormalFits

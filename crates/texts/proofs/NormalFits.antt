@@ -162,7 +162,6 @@ module _ (kind : Kind) (pattern : List ℕ) (single : isList kind ≡ false) (h 
   stock : Stock kind (upTo (classCount (graphOf h))) (normalMarks h)
   stock =
       record {
-        single = single;
         joint-range = λ x i. let t = upTo-of (classCount (graphOf h)) x i in (t .0, omega (arith, few-classes, small));
         mark-range = mark-in-range;
         few-joints = rw upTo-length few-classes;
@@ -203,6 +202,7 @@ module _ (kind : Kind) (pattern : List ℕ) (single : isList kind ≡ false) (h 
   pub normal-readable : Readable kind pattern (map (normalSymbol h) (h .atoms)) (map (normalBlank h) (h .contexts)) (map (normalEdge h) (normalMarks h))
   normal-readable =
       record {
+        single = single;
         joints = upTo (classCount (graphOf h));
         marks = normalMarks h;
         stock = stock;

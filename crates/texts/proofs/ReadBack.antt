@@ -1,8 +1,8 @@
 -- Reading back a text of S rows, then B rows, then E rows: it passes, and what is held is what was written.
 use Prim.Native.Nat.{ℕ, suc, _+_, _-_, _≤_}
 use mathlib.Core.Path.{_≡_, refl, sym, ap, ap₂, _∙_}
-use mathlib.Core.List.{List, [], _∷_, _++_, map, map-append, append-nil, append-assoc, List·Memᴰ·not-nil}
-use mathlib.Core.Bool.{true, false}
+use mathlib.Core.List.{List, [], _∷_, _++_, map, map-append, append-nil, append-assoc}
+use mathlib.Core.Bool.{true, false, true≢false}
 use native.Mathlib.Omega.{arith}
 use lib.Dec.{eqb}
 use lib.ListN.{length, getD, length-append, length-map}
@@ -16,7 +16,7 @@ use Rattle.rows.specs.Held.{Held, nothing, withAtom, withContext, withEdgeRow}
 use Rattle.rows.specs.Packed.{portsOf}
 use Rattle.rows.specs.declared.Context.{Context}
 use Rattle.rows.proofs.Padding.{take-padded}
-use Rattle.sheet.specs.Kinds.{isFigure, atomLimit}
+use Rattle.sheet.specs.Kinds.{isFigure, isList, atomLimit}
 use Rattle.sheet.specs.Graph.{atomCell, contextCell, fusionOf, edgeOf, graphOf}
 use Rattle.sheet.specs.NormalText.{cellBytes, edgeBytes, joined, textOf}
 use Rattle.sheet.specs.Reading.{clashOf, Outcome, passed, readFrom, outcomeOf}
@@ -25,7 +25,8 @@ use Rattle.sheet.specs.declared.answer.Answer.the-variants.{Passed}
 use Rattle.sheet.proofs.read.Ranges.{Every}
 use Rattle.sheet.proofs.read.ReadingLaws.{read-none}
 use Rattle.sheet.proofs.normal_text.NormalRows.{joined-append}
-use Rattle.texts.proofs.BuiltRows.{Vertex, symbolCell, blankCell, vertexNums, heldAtom, heldContext, Stock, Fitting, Stocked, Went, went-none, went-then, went-symbol, went-blank, went-edge}
+use Rattle.texts.proofs.BuiltRows.{Vertex, symbolCell, blankCell, vertexNums, heldAtom, heldContext, symbol-bytes, blank-bytes, Stock, Fitting, Stocked, Led, led-none, led-then, led-symbol, led-blank, led-edge}
+use Rattle.texts.proofs.Few.{few-none}
 
 -- The port count and 1 of the first of these numbers and port counts with number k, 0 where there is none.
 abbrev pub portsBy : List (ℕ × ℕ) → ℕ → ℕ
@@ -63,43 +64,47 @@ abbrev pub Known : List ℕ → List ℕ → ℕ × ℕ → Type 0
 Known joints marks e = (e .0 ∈ joints) × (e .1 ∈ marks)
 
 module _ (kind : Kind) (pattern joints marks : List ℕ) (stock : Stock kind joints marks) where
-  pub went-symbols : (l : List Vertex) (g : Held) → Stocked kind pattern joints marks stock g → Every (Fitting joints 999) l
+  led-symbols : (l : List Vertex) (g : Held) → Stocked kind joints marks g → Every (Fitting joints 999) l
       → length (g .atoms) + length l ≤ atomLimit kind → length (g .contexts) ≤ figureContexts → g .rows + length l ≤ rowLimit
-      → (h : Held) × Went kind pattern joints marks stock g h (length l) (joined (map cellBytes (map symbolCell l))) (map heldAtom l) [] []
+      → (h : Held) × Led kind pattern joints marks g h (length l) (joined (map cellBytes (map symbolCell l))) (map heldAtom l) [] [] []
   unfolding joined
-  went-symbols [] g s p atoms contexts rows = (g, went-none kind pattern joints marks stock g s)
-  went-symbols (v ∷ l) g s p atoms contexts rows =
-      let w = went-symbol kind pattern joints marks stock g s (omega arith) v (p .0) (omega arith) contexts in
+  led-symbols [] g s p atoms contexts rows = (g, led-none kind pattern joints marks g s)
+  led-symbols (v ∷ l) g s p atoms contexts rows =
       let h = withAtom g (vertexNums v) in
-      let t = went-symbols l h (w .stocked) (p .1) (rw (w .atoms) (simp length-append (omega arith))) (rw (w .contexts) (simp append-nil contexts)) (omega (arith, w .rows)) in
-      (t .0, went-then kind pattern joints marks stock g h (t .0) 1 (length l) (suc (length l)) _ _ _ _ _ _ _ _ (omega arith) w (t .1))
+      let w : Led kind pattern joints marks g h 1 (cellBytes (symbolCell v)) (heldAtom v ∷ []) [] [] [] =
+      rw (symbol-bytes v) (led-symbol kind pattern joints marks stock g s (omega arith) contexts v (p .0) (omega arith)) in
+      let t = led-symbols l h (w .stocked) (p .1) (rw (w .went .atoms) (simp length-append (omega arith))) (rw (w .went .contexts) (simp append-nil contexts)) (omega (arith, w .went .rows)) in
+      (t .0, led-then kind pattern joints marks g h (t .0) 1 (length l) (suc (length l)) _ _ _ _ _ _ _ _ _ _ (omega arith) w (t .1))
 
-  pub went-blanks : (l : List Vertex) (g : Held) → Stocked kind pattern joints marks stock g → Every (Fitting joints 4) l → Every (λ v. isFigure kind ≡ true) l
+  led-blanks : (l : List Vertex) (g : Held) → Stocked kind joints marks g → Every (Fitting joints 4) l → Every (λ v. isFigure kind ≡ true) l
       → length (g .atoms) ≤ atomLimit kind → length (g .contexts) + length l ≤ figureContexts → g .rows + length l ≤ rowLimit
       → Clear kind pattern (map portsIn (g .contexts)) (map portsAt l)
-      → (h : Held) × Went kind pattern joints marks stock g h (length l) (joined (map cellBytes (map blankCell l))) [] (heldContexts (g .rows) l) []
+      → (h : Held) × Led kind pattern joints marks g h (length l) (joined (map cellBytes (map blankCell l))) [] (heldContexts (g .rows) l) [] []
   unfolding joined withContext
-  went-blanks [] g s p figure atoms contexts rows clear = (g, went-none kind pattern joints marks stock g s)
-  went-blanks (v ∷ l) g s p figure atoms contexts rows clear =
-      let w = went-blank kind pattern joints marks stock g s (omega arith) v (p .0) (figure .0) atoms (omega arith) (rw (ports-by (g .contexts) (v .0)) (clear .0)) in
+  led-blanks [] g s p figure atoms contexts rows clear = (g, led-none kind pattern joints marks g s)
+  led-blanks (v ∷ l) g s p figure atoms contexts rows clear =
       let h = withContext g (vertexNums v) in
-      let c : Clear kind pattern (map portsIn (h .contexts)) (map portsAt l) = rw (w .contexts, map-append portsIn (g .contexts) (heldContext v (g .rows + 1) ∷ [])) (clear .1) in
-      let t = went-blanks l h (w .stocked) (p .1) (figure .1) (rw (w .atoms) (simp append-nil atoms)) (rw (w .contexts) (simp length-append (omega arith))) (omega (arith, w .rows)) c in
-      (t .0, went-then kind pattern joints marks stock g h (t .0) 1 (length l) (suc (length l)) _ _ _ _ _ _ _ _ (omega arith) w (t .1))
+      let w : Led kind pattern joints marks g h 1 (cellBytes (blankCell v)) [] (heldContext v (g .rows + 1) ∷ []) [] [] =
+      rw (blank-bytes v)
+      (led-blank kind pattern joints marks stock g s (omega arith) (omega arith) v (p .0) (figure .0) atoms (omega arith) (rw (ports-by (g .contexts) (v .0)) (clear .0))) in
+      let c : Clear kind pattern (map portsIn (h .contexts)) (map portsAt l) = rw (w .went .contexts, map-append portsIn (g .contexts) (heldContext v (g .rows + 1) ∷ [])) (clear .1) in
+      let t = led-blanks l h (w .stocked) (p .1) (figure .1) (rw (w .went .atoms) (simp append-nil atoms)) (rw (w .went .contexts) (simp length-append (omega arith))) (omega (arith, w .went .rows)) c in
+      (t .0, led-then kind pattern joints marks g h (t .0) 1 (length l) (suc (length l)) _ _ _ _ _ _ _ _ _ _ (omega arith) w (t .1))
 
-  pub went-edges : (l : List (ℕ × ℕ)) (g : Held) → Stocked kind pattern joints marks stock g → Every (Known joints marks) l
+  led-edges : (l : List (ℕ × ℕ)) (g : Held) → Stocked kind joints marks g → Every (Known joints marks) l
       → length (g .atoms) ≤ atomLimit kind → length (g .contexts) ≤ figureContexts → g .rows + length l ≤ rowLimit
-      → (h : Held) × Went kind pattern joints marks stock g h (length l) (joined (map edgeBytes (map edgeOf l))) [] [] l
+      → (h : Held) × Led kind pattern joints marks g h (length l) (joined (map edgeBytes (map edgeOf l))) [] [] [] l
   unfolding joined
-  went-edges [] g s p atoms contexts rows = (g, went-none kind pattern joints marks stock g s)
-  went-edges (e ∷ l) g s p atoms contexts rows =
-      let w = went-edge kind pattern joints marks stock g s (omega arith) e (p .0 .0) (p .0 .1) atoms contexts in
+  led-edges [] g s p atoms contexts rows = (g, led-none kind pattern joints marks g s)
+  led-edges (e ∷ l) g s p atoms contexts rows =
+      let w = led-edge kind pattern joints marks stock g s (omega arith) contexts (e .0) (e .1) (p .0 .0) (p .0 .1) atoms in
       let h = withEdgeRow g (e .0) (e .1) in
-      let t = went-edges l h (w .stocked) (p .1) (rw (w .atoms) (simp append-nil atoms)) (rw (w .contexts) (simp append-nil contexts)) (omega (arith, w .rows)) in
-      (t .0, went-then kind pattern joints marks stock g h (t .0) 1 (length l) (suc (length l)) _ _ _ _ _ _ _ _ (omega arith) w (t .1))
+      let t = led-edges l h (w .stocked) (p .1) (rw (w .went .atoms) (simp append-nil atoms)) (rw (w .went .contexts) (simp append-nil contexts)) (omega (arith, w .went .rows)) in
+      (t .0, led-then kind pattern joints marks g h (t .0) 1 (length l) (suc (length l)) _ _ _ _ _ _ _ _ _ _ (omega arith) w (t .1))
 
--- What can be written and read back: numbers in range, within the limits of the kind, and no clash.
+-- What can be written and read back: no list, numbers in range, within the limits of the kind, and no clash.
 pub record Readable (kind : Kind) (pattern : List ℕ) (symbols blanks : List Vertex) (edges : List (ℕ × ℕ)) : Type 0 where
+  pub single : isList kind ≡ false
   pub joints : List ℕ
   pub marks : List ℕ
   pub stock : Stock kind joints marks
@@ -143,36 +148,35 @@ module _ (kind : Kind) (pattern : List ℕ) (symbols blanks : List Vertex) (edge
   outcome =
       let J = p .joints in
       let M = p .marks in
-      let s : Stocked kind pattern J M (p .stock) nothing =
-      record { own-joints = record { once = tt; within = λ x i. absurd (List·Memᴰ·not-nil i) }; own-marks = record { once = tt; within = λ x i. absurd (List·Memᴰ·not-nil i) } } in
-      let a = went-symbols kind pattern J M (p .stock) symbols nothing s (p .symbol-rows) (omega (arith, p .few-symbols)) (omega arith) (omega (arith, p .few-rows)) in
-      let atoms : a .0 .atoms ≡ map heldAtom symbols = a .1 .atoms in
-      let contexts : a .0 .contexts ≡ [] = a .1 .contexts in
+      let s : Stocked kind J M nothing = record { own-joints = few-none J; own-marks = few-none M; headed = λ e. absurd (true≢false (sym e ∙ p .single)) } in
+      let a = led-symbols kind pattern J M (p .stock) symbols nothing s (p .symbol-rows) (omega (arith, p .few-symbols)) (omega arith) (omega (arith, p .few-rows)) in
+      let atoms : a .0 .atoms ≡ map heldAtom symbols = a .1 .went .atoms in
+      let contexts : a .0 .contexts ≡ [] = a .1 .went .contexts in
       let few : length (a .0 .atoms) ≤ atomLimit kind = rw atoms (simp length-map (p .few-symbols)) in
-      let rows : a .0 .rows ≡ length symbols = omega (arith, a .1 .rows) in
-      let b = went-blanks kind pattern J M (p .stock) blanks (a .0) (a .1 .stocked) (p .blank-rows) (p .figure) few (rw contexts (omega (arith, p .few-blanks)))
+      let rows : a .0 .rows ≡ length symbols = omega (arith, a .1 .went .rows) in
+      let b = led-blanks kind pattern J M (p .stock) blanks (a .0) (a .1 .stocked) (p .blank-rows) (p .figure) few (rw contexts (omega (arith, p .few-blanks)))
       (omega (arith, rows, p .few-rows)) (rw contexts (p .clear)) in
-      let same-atoms : b .0 .atoms ≡ map heldAtom symbols = b .1 .atoms ∙ append-nil (a .0 .atoms) ∙ atoms in
-      let more : b .0 .contexts ≡ heldContexts (length symbols) blanks = b .1 .contexts ∙ rw (contexts, rows) in
-      let c = went-edges kind pattern J M (p .stock) edges (b .0) (b .1 .stocked) (p .edge-rows) (rw same-atoms (simp length-map (p .few-symbols)))
-      (rw more (omega (arith, length-contexts (length symbols) blanks, p .few-blanks))) (omega (arith, rows, b .1 .rows, p .few-rows)) in
+      let same-atoms : b .0 .atoms ≡ map heldAtom symbols = b .1 .went .atoms ∙ append-nil (a .0 .atoms) ∙ atoms in
+      let more : b .0 .contexts ≡ heldContexts (length symbols) blanks = b .1 .went .contexts ∙ rw (contexts, rows) in
+      let c = led-edges kind pattern J M (p .stock) edges (b .0) (b .1 .stocked) (p .edge-rows) (rw same-atoms (simp length-map (p .few-symbols)))
+      (rw more (omega (arith, length-contexts (length symbols) blanks, p .few-blanks))) (omega (arith, rows, b .1 .went .rows, p .few-rows)) in
       let k = length symbols + length blanks + length edges in
       let t = joined (map cellBytes (map symbolCell symbols)) in
       let u = joined (map cellBytes (map blankCell blanks)) in
       let e = joined (map edgeBytes (map edgeOf edges)) in
       let whole : readFrom (rowLimit + 1) kind pattern nothing (textOf (builtGraph symbols blanks edges)) ≡ passed (c .0) =
       ap (readFrom (rowLimit + 1) kind pattern nothing) (built-text symbols blanks edges ∙ append-assoc t u e ∙ sym (ap (λ l. t ++ (u ++ l)) (append-nil e)))
-      ∙ a .1 .read (rowLimit + 1) (rowLimit + 1 - length symbols) (u ++ (e ++ [])) (omega (arith, p .few-rows))
-      ∙ b .1 .read (rowLimit + 1 - length symbols) (rowLimit + 1 - length symbols - length blanks) (e ++ []) (omega (arith, p .few-rows))
-      ∙ c .1 .read (rowLimit + 1 - length symbols - length blanks) (rowLimit + 1 - k) [] (omega (arith, p .few-rows))
+      ∙ a .1 .went .read (rowLimit + 1) (rowLimit + 1 - length symbols) (u ++ (e ++ [])) (omega (arith, p .few-rows))
+      ∙ b .1 .went .read (rowLimit + 1 - length symbols) (rowLimit + 1 - length symbols - length blanks) (e ++ []) (omega (arith, p .few-rows))
+      ∙ c .1 .went .read (rowLimit + 1 - length symbols - length blanks) (rowLimit + 1 - k) [] (omega (arith, p .few-rows))
       ∙ read-none (rowLimit + 1 - k) kind pattern (c .0) in (
         c .0,
         whole,
         record {
           answer = refl;
-          atoms = c .1 .atoms ∙ append-nil (b .0 .atoms) ∙ same-atoms;
-          contexts = c .1 .contexts ∙ append-nil (b .0 .contexts) ∙ more;
-          fusions = c .1 .fusions ∙ b .1 .fusions ∙ a .1 .fusions;
+          atoms = c .1 .went .atoms ∙ append-nil (b .0 .atoms) ∙ same-atoms;
+          contexts = c .1 .went .contexts ∙ append-nil (b .0 .contexts) ∙ more;
+          fusions = c .1 .fusions ∙ rw (b .1 .fusions, a .1 .fusions);
           edges-held = c .1 .edges ∙ rw (b .1 .edges, a .1 .edges);
         },
       )

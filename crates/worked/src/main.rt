@@ -35,9 +35,9 @@ fn run_task(task: &[u8], first: &[u8], second: &[u8], third: &[u8], out: &mut [u
     } else if check::same(task, b"fill") {
         of_done(filling::fill::fill(first, second, out))
     } else if check::same(task, b"place") {
-        of_done(tasks::place::place(first, second, out))
+        of_done(finding::place::place(first, second, out))
     } else {
-        of_done(tasks::swap::swap(first, second, third, out))
+        of_done(swapping::swap::swap(first, second, third, out))
     }
 }
 

@@ -2,10 +2,10 @@
 use Prim.Native.Nat.{_+_, _≤_}
 use native.Mathlib.Omega.{arith}
 use lib.ListN.{length, take}
+use Rattle.numbering.specs.Numbering.{noNumbers}
+use Rattle.numbering.proofs.Turns.{with-classes-count}
 use Rattle.placing.specs.Net.{cellLinks}
-use Rattle.listing.specs.Numbers.{noNumbers}
 use Rattle.listing.specs.Writing.{givenCells}
-use Rattle.listing.proofs.Appearing.{with-links-count}
 use Rattle.listing.proofs.Filled.{chained, few-cells, filling-size, port-low, numbers-low, filling-put}
 use borrow.Author.Needs.{needs}
 use Rattle.listing.proofs.put_filling.Statement.{statement}
@@ -32,7 +32,7 @@ with-links-requires c κs = let s = c .before .before .before .before .before .b
     let ports = c .before .before .ports-of in (
       u .few,
       rw (c .with-given .ensures, c .before .none .ensures)
-          (omega (arith, with-links-count noNumbers (cellLinks (givenCells (a .sheet) (a .given) (x .number))), few-cells (a .sheet) (s .pre .0 .0) (a .links-to) (a .given) x u, s .pre .0 .0 .atom-count, u .few)),
+          (omega (arith, with-classes-count noNumbers (cellLinks (givenCells (a .sheet) (a .given) (x .number))), few-cells (a .sheet) (s .pre .0 .0) (a .links-to) (a .given) x u, s .pre .0 .0 .atom-count, u .few)),
       port-low (a .sheet) (s .pre .0 .0) (a .links-to) (a .given) x u (s .pre .1 .0) (ports .result) (ports .ensures),
     )
 

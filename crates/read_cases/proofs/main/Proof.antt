@@ -1,7 +1,6 @@
 -- The loop ends: each turn passes one argument or two.
 use borrow.Author.Needs.{needs}
-use Prim.Native.Nat.{_≤_, _<_, _+_, _-_, _^_}
-use native.Mathlib.Omega.{arith}
+use Prim.Native.Nat.{_<_, _-_, _^_}
 use Rattle.read_cases.proofs.main.Statement.{statement}
 use Rattle.read_cases.proofs.main.Tie as tie
 

@@ -104,7 +104,7 @@ head-whole (suc n) number text = go (ltb (length text) rowWidth) (and (headFirst
     go false true rest e w = inr (ltb-false _ _ e)
     go false false rest e w = w
 
-before-nil : (n : ℕ) → beforeHead n [] ≡ []
+pub before-nil : (n : ℕ) → beforeHead n [] ≡ []
 unfolding beforeHead
 before-nil zero = refl
 before-nil (suc n) = refl

@@ -9,11 +9,8 @@ use borrow.Author.Tests.{eq-eqb, ne-eqb, le-leb, lt-leb, ltb-true, ltb-false}
 use Rattle.rows.specs.Pick.{pick, and, or, not}
 use Rattle.rows.proofs.Bools.{not-not, or-true, or-none}
 use Rattle.sheet.specs.Kinds.{isFigure, isList, allowed}
+use Rattle.sheet.specs.Steps.{strangeBy}
 use Rattle.sheet.specs.declared.kind.Kind.{Kind}
-
--- refusal 2, by the number of heads
-abbrev pub strangeBy : Kind → ℕ → ℕ → Bool
-strangeBy kind letter heads = or (not (allowed kind letter)) (and (isList kind) (and (not (eqb letter 4)) (eqb heads 0)))
 
 module _ (kind : Kind) (letter heads : ℕ) where
   pub strange-head : letter ≡ 4 → Core.not (isList kind) ≡ strangeBy kind letter heads

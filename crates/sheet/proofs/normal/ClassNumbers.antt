@@ -1,24 +1,22 @@
 -- Classes numbered one after the other get the numbers of a list with each label once, in the order in which they first appear.
-use Prim.Native.Nat.{ℕ, suc, _+_, _<_}
+use Prim.Native.Nat.{ℕ, suc, _+_, _<_, _≤_}
 use mathlib.Core.Path.{_≡_, refl, sym, ap, _∙_}
 use mathlib.Core.List.{List, [], _∷_, _++_, append-nil, append-assoc, List·Memᴰ·head, List·Memᴰ·tail}
 use mathlib.Core.Bool.{Bool, true, false}
 use native.Mathlib.Omega.{arith}
-use borrow.Author.Tests.{eqb-true, eqb-false, eq-eqb, ne-eqb}
-use lib.Dec.{eqb}
-use lib.ListN.{length, getD, set, length-set, length-append, length-replicate, getD-replicate}
+use borrow.Author.Tests.{eqb-true, eqb-false, eq-eqb, ne-eqb, ltb-true, ltb-false}
+use lib.Dec.{eqb, ltb}
+use lib.ListN.{length, getD, set, length-set, length-append, length-replicate, getD-replicate, List·getD-eq-default}
 use lib.Seq.{getD-set-same, getD-set-other}
 use Rattle.hyperlmntal.specs.Link.{_∈_}
 use Rattle.rows.specs.Pick.{pick}
-use Rattle.rows.specs.Format.{mostLinks}
-use Rattle.rows.specs.Limits.{fillingLinks}
 use Rattle.rows.specs.Held.{indexOf}
 use Rattle.rows.proofs.Wired.{indexOf-append, indexOf-added}
 use Rattle.sheet.specs.Normal.{others, distinct}
-use Rattle.sheet.specs.Numbering.{noNumbers, withClass, withClasses}
-use Rattle.sheet.specs.declared.normal.Numbering.{Numbering}
+use Rattle.numbering.specs.Numbering.{linkRoom, noNumbers, withClass, withClasses}
+use Rattle.numbering.specs.declared.classes.Numbering.{Numbering}
 use Rattle.sheet.proofs.normal.Distinct.{index-below, distinct-in}
-use Rattle.sheet.proofs.normal.Numbered.{with-class-new, with-class-old}
+use Rattle.numbering.proofs.Turns.{with-class-new, with-class-old, with-classes-count}
 
 -- Whether a number is in a list.
 abbrev has : ℕ → List ℕ → Bool
@@ -71,7 +69,7 @@ has-others x y (z ∷ l) n = go (eqb z y) refl (has-others x y l n)
     go true e ih = let d : z ≡ x → ⊥ = λ q. n (sym (eqb-true z y e) ∙ q) in rw (ne-eqb z x d) ih
     go false e ih = rw ih
 
-pub others-append : (y x : ℕ) (l : List ℕ) → others y (l ++ (x ∷ [])) ≡ others y l ++ pick (eqb x y) [] (x ∷ [])
+others-append : (y x : ℕ) (l : List ℕ) → others y (l ++ (x ∷ [])) ≡ others y l ++ pick (eqb x y) [] (x ∷ [])
 unfolding others
 others-append y x [] = refl
 others-append y x (z ∷ l) = go (eqb z y) (others-append y x l)
@@ -122,11 +120,11 @@ number-stays d x c n = rw (has-append c x d) (rw (ne-eqb x c n) (go (has c d) re
 
 -- The labels d have their numbers, and no other has one.
 record Numbers (d : List ℕ) (n : Numbering) : Type 0 where
-  width : length (n .numbers) ≡ fillingLinks + mostLinks
+  width : length (n .numbers) ≡ linkRoom
   count : n .count ≡ length d
-  at : (c : ℕ) → c < fillingLinks + mostLinks → getD (n .numbers) c 0 ≡ number d c
+  at : (c : ℕ) → c < linkRoom → getD (n .numbers) c 0 ≡ number d c
 
-numbers-class : (d : List ℕ) (n : Numbering) (c : ℕ) → Numbers d n → c < fillingLinks + mostLinks → Numbers (added d c) (withClass n c)
+numbers-class : (d : List ℕ) (n : Numbering) (c : ℕ) → Numbers d n → c < linkRoom → Numbers (added d c) (withClass n c)
 numbers-class d n c N low = go (has c d) refl
   where
     old : has c d ≡ true → getD (n .numbers) c 0 ≡ 0 → ⊥
@@ -135,7 +133,7 @@ numbers-class d n c N low = go (has c d) refl
     new : has c d ≡ false → getD (n .numbers) c 0 ≡ 0
     new e = N .at c low ∙ rw e
 
-    others-at : has c d ≡ false → (x : ℕ) → x < fillingLinks + mostLinks → (t : Bool) → eqb c x ≡ t → getD (set (n .numbers) c (n .count + 1)) x 0 ≡ number (d ++ (c ∷ [])) x
+    others-at : has c d ≡ false → (x : ℕ) → x < linkRoom → (t : Bool) → eqb c x ≡ t → getD (set (n .numbers) c (n .count + 1)) x 0 ≡ number (d ++ (c ∷ [])) x
     others-at e x h true q =
         let s : c ≡ x = eqb-true c x q in
         rw (← s) (getD-set-same (n .numbers) c (n .count + 1) 0 (omega (arith, N .width)) ∙ rw (number-new d c e) (omega (arith, N .count)))
@@ -153,7 +151,7 @@ numbers-class d n c N low = go (has c d) refl
           at = λ x h. others-at e x h (eqb c x) refl;
         })
 
-numbers-classes : (l a : List ℕ) (n : Numbering) → Numbers (distinct a) n → ((c : ℕ) → c ∈ l → c < fillingLinks + mostLinks) → Numbers (distinct (a ++ l)) (withClasses n l)
+numbers-classes : (l a : List ℕ) (n : Numbering) → Numbers (distinct a) n → ((c : ℕ) → c ∈ l → c < linkRoom) → Numbers (distinct (a ++ l)) (withClasses n l)
 unfolding withClasses
 numbers-classes [] a n N low = rw (append-nil a) N
 numbers-classes (c ∷ l) a n N low =
@@ -161,11 +159,33 @@ numbers-classes (c ∷ l) a n N low =
 
 none-numbered : Numbers (distinct []) noNumbers
 unfolding distinct
-none-numbered = record { width = length-replicate {A = ℕ} (fillingLinks + mostLinks) 0; count = refl; at = λ c h. getD-replicate {A = ℕ} (fillingLinks + mostLinks) c 0 0 h }
+none-numbered = record { width = length-replicate {A = ℕ} linkRoom 0; count = refl; at = λ c h. getD-replicate {A = ℕ} linkRoom c 0 0 h }
 
-module _ (l : List ℕ) (low : (c : ℕ) → c ∈ l → c < fillingLinks + mostLinks) where
+-- The table after all classes of a list.
+module _ (l : List ℕ) (low : (c : ℕ) → c ∈ l → c < linkRoom) where
+  all-numbered : Numbers (distinct l) (withClasses noNumbers l)
+  all-numbered = numbers-classes l [] noNumbers none-numbered low
+
   pub classes-count : withClasses noNumbers l .count ≡ length (distinct l)
-  classes-count = numbers-classes l [] noNumbers none-numbered low .count
+  classes-count = all-numbered .count
 
   pub classes-number : (c : ℕ) → c ∈ l → getD (withClasses noNumbers l .numbers) c 0 ≡ suc (indexOf c (distinct l))
-  classes-number c m = numbers-classes l [] noNumbers none-numbered low .at c (low c m) ∙ rw (has-in c (distinct l) (distinct-in c l m))
+  classes-number c m = all-numbered .at c (low c m) ∙ rw (has-in c (distinct l) (distinct-in c l m))
+
+  -- No number is above the length of the list.
+  pub number-low : (c : ℕ) → getD (withClasses noNumbers l .numbers) c 0 ≤ length l
+  number-low c = within (ltb c linkRoom) refl
+    where
+      few : length (distinct l) ≤ length l
+      few = omega (arith, classes-count, with-classes-count noNumbers l)
+
+      known : (t : Bool) → has c (distinct l) ≡ t → pick t (suc (indexOf c (distinct l))) 0 ≤ length l
+      known true e = omega (arith, has-place c (distinct l) e, few)
+      known false e = omega arith
+
+      within : (t : Bool) → ltb c linkRoom ≡ t → getD (withClasses noNumbers l .numbers) c 0 ≤ length l
+      within true e = rw (all-numbered .at c (ltb-true _ _ e)) (known (has c (distinct l)) refl)
+      within false e =
+          let q = ltb-false c linkRoom e in
+          let z : getD (withClasses noNumbers l .numbers) c 0 ≡ 0 = List·getD-eq-default (withClasses noNumbers l .numbers) 0 {n = c} (omega (arith, all-numbered .width)) in
+          omega arith

@@ -4,7 +4,7 @@ use Prim.Native.Nat.{ℕ, _<_}
 use mathlib.Core.Path.{_≡_, refl, _∙_, sym, subst}
 use mathlib.Core.List.{List, [], map, List·Memᴰ·head, List·Memᴰ·tail, List·Memᴰ·not-nil, Memᴰ·append-left, Memᴰ·append-right, Memᴰ·map}
 use mathlib.Core.Bool.{Bool, true, false, true≢false}
-use mathlib.Core.Logic.{_⊎_, ⊎-elim, _↔_}
+use mathlib.Core.Logic.{⊎-elim, _↔_}
 use native.Mathlib.Omega.{arith}
 use lib.Dec.{ltb}
 use lib.ListN.{length, getD, take, length-take}
@@ -63,7 +63,7 @@ pub agrees-read : (kind : Kind) (pattern text : List ℕ) → isList kind ≡ fa
 agrees-read kind pattern text plain =
     outcome-keeps kind pattern Agrees (λ h rest t A. agrees-row h (rowAt rest) (no-head kind pattern h rest plain t) A) text agrees-nothing
 
--- Nodes of cells and of fusions.
+-- Nodes of cells.
 pub ports-in : (c : Cell ℕ) (n : Node ℕ) {l : List (Cell ℕ)} → c ∈ l → n ∈ c .ports → n ∈ portNodes l
 ports-in c n (List·Memᴰ·head {xs} e) m = Memᴰ·append-left (portNodes xs) (subst (λ d. n ∈ d .ports) e m)
 ports-in c n (List·Memᴰ·tail {x} p) m = Memᴰ·append-right (x .ports) (ports-in c n p m)

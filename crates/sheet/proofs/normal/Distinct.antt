@@ -13,6 +13,7 @@ use Rattle.hyperlmntal.proofs.Lists.{Each, done, more, each-maps}
 use Rattle.rows.specs.Pick.{pick}
 use Rattle.rows.specs.Held.{indexOf}
 use Rattle.sheet.specs.Normal.{others, distinct}
+use Rattle.hyperlmntal.proofs.Equivalence.{each-length}
 
 -- The place of a number that is there.
 pub index-below : (x : ℕ) (l : List ℕ) → x ∈ l → indexOf x l < length l
@@ -156,10 +157,6 @@ module _ (R : ℕ → ℕ → Type 0) (same : (a b c d : ℕ) → R a b → R c 
   unfolding distinct
   distinct-each done = done
   distinct-each (more {a = a} {b = b} r e) = more r (others-each a b r (distinct-each e))
-
-each-length : {A B : Type 0} {R : A → B → Type 0} {l : List A} {k : List B} → Each R l k → length l ≡ length k
-each-length done = refl
-each-length (more r e) = ap suc (each-length e)
 
 -- Two labellings of a list that are equal on the same pairs number it in the same way.
 abbrev pub Agree : {A : Type 0} → List A → (A → ℕ) → (A → ℕ) → Type 0

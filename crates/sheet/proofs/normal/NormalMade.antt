@@ -26,19 +26,20 @@ use Rattle.sheet.specs.Graph.{atomCell, contextCell, graphOf}
 use Rattle.sheet.specs.Labels.{labelIn}
 use Rattle.sheet.specs.Agrees.{Agrees, Once as Placed}
 use Rattle.sheet.specs.Normal.{classOf, markNode, marksOf, shown, classesBy, numberBy}
-use Rattle.sheet.specs.Numbering.{Numberable, labelAt, markLabelAt, noNumbers, withClasses, linkLabels, atomLabels, contextLabels, atomBy, contextBy, marksBy, sortedInto}
+use Rattle.numbering.specs.Numbering.{Numberable, labelAt, markLabelAt, linkRoom, noNumbers, withClasses, linkLabels, atomLabels, contextLabels, atomBy, contextBy, marksBy, sortedInto}
 use Rattle.sheet.specs.NormalSheet.{numberIn, normalAtom, normalContext, packedNormal}
 use Rattle.sheet.specs.declared.normal.Normal.{Normal}
-use Rattle.sheet.specs.declared.normal.Numbering.{Numbering}
+use Rattle.numbering.specs.declared.classes.Numbering.{Numbering}
 use Rattle.sheet.proofs.normal.Merging.{at-indexOf, among-in}
 use Rattle.sheet.proofs.normal.Classes.{class-connected}
 use Rattle.sheet.proofs.normal.Distinct.{Once, Agree, index-below, length-agree}
 use Rattle.sheet.proofs.normal.Marks.{marks-in, marks-of, marks-ascending, ascending-same}
 use Rattle.sheet.proofs.normal.NormalBy.{port-shown, mark-shown, number-agree}
 use Rattle.sheet.proofs.normal.Connected.{ports-in, node-connected}
-use Rattle.sheet.proofs.normal.Numbered.{with-classes-append}
+use Rattle.numbering.proofs.Turns.{with-classes-append}
+use Rattle.numbering.proofs.Carrying.{sorted-length}
 use Rattle.sheet.proofs.normal.ClassNumbers.{classes-count, classes-number}
-use Rattle.sheet.proofs.normal.Sorting.{sorted-length, sorted-ascending}
+use Rattle.sheet.proofs.normal.Sorting.{sorted-ascending}
 
 -- What is made of a sheet.
 abbrev pub sortedMarks : Sheet → List ℕ
@@ -150,10 +151,10 @@ normal-≡ n k ea ec em ep ei ej t = record { atoms = ea t; «atom_count» = n; 
 
 -- Each node that is shown gets the number of its class.
 module _ (h : Held) (A : Agrees h) (N : Numberable (packed h)) where
-  class-low : (k : ℕ) → getD (h .wiring .classes) k 0 < fillingLinks + mostLinks
+  class-low : (k : ℕ) → getD (h .wiring .classes) k 0 < linkRoom
   class-low k = omega (arith, N .labels k, getD-padding (fillingLinks + mostLinks) 0 (h .wiring .classes) k)
 
-  label-low : (x : Node ℕ) → labelIn (h .wiring) x < fillingLinks + mostLinks
+  label-low : (x : Node ℕ) → labelIn (h .wiring) x < linkRoom
   label-low (inner x) = class-low (indexOf x (h .wiring .links))
   label-low (name (free m)) = class-low (getD (h .wiring .marked) (indexOf m (h .wiring .marks)) 0)
   label-low (name (local n)) = omega arith
@@ -169,8 +170,8 @@ module _ (h : Held) (A : Agrees h) (N : Numberable (packed h)) where
       let c = class-connected (graphOf h .fusions) x y in
       (λ e. c .1 (n .0 e), λ e. n .1 (c .0 e))
 
-  low : (c : ℕ) → c ∈ map (labelIn (h .wiring)) (shown (graphOf h)) → c < fillingLinks + mostLinks
-  low = all-map (labelIn (h .wiring)) (shown (graphOf h)) (λ c. c < fillingLinks + mostLinks) (λ x i. label-low x)
+  low : (c : ℕ) → c ∈ map (labelIn (h .wiring)) (shown (graphOf h)) → c < linkRoom
+  low = all-map (labelIn (h .wiring)) (shown (graphOf h)) (λ c. c < linkRoom) (λ x i. label-low x)
 
   number-made : (x : Node ℕ) → x ∈ shown (graphOf h) → getD (numberingOf (packed h) .numbers) (labelIn (h .wiring) x) 0 ≡ numberIn h x
   unfolding numberBy classesBy

@@ -14,7 +14,7 @@ use Rattle.sheet.specs.Kinds.{isList}
 use Rattle.sheet.specs.Graph.{graphOf}
 use Rattle.sheet.specs.Agrees.{Labels, Agrees}
 use Rattle.sheet.specs.Reading.{outcomeOf, readingOf}
-use Rattle.sheet.specs.Numbering.{Numberable}
+use Rattle.numbering.specs.Numbering.{Numberable}
 use Rattle.sheet.specs.NormalSheet.{packedNormal}
 use Rattle.sheet.specs.declared.kind.Kind.{Kind}
 use Rattle.sheet.specs.declared.normal.Normal.{Normal}

@@ -1,6 +1,6 @@
 -- Refusal 8 in a row, by the row's letter.
 use Prim.Native.Nat.{ℕ, suc, _+_, _-_, _<_}
-use mathlib.Core.Path.{_≡_, refl, ap, _∙_, sym}
+use mathlib.Core.Path.{_≡_, refl, _∙_}
 use mathlib.Core.List.{List, [], _∷_}
 use mathlib.Core.Bool.{false}
 use native.Mathlib.Numerals.{add-one}
@@ -8,28 +8,26 @@ use native.Mathlib.Omega.{arith}
 use lib.Dec.{leb}
 use lib.ListN.{length, getD}
 use borrow.Author.Tests.{eq-eqb, ne-eqb}
-use Rattle.rows.specs.Held.{Held}
 use Rattle.rows.specs.Limits.{figureContexts}
-use Rattle.rows.specs.Packed.{noContext, packed}
+use Rattle.rows.specs.Packed.{padded, noContext, portTable}
 use Rattle.rows.specs.declared.Context.{Context}
-use Rattle.rows.specs.declared.Sheet.{Sheet}
 use Rattle.rows.specs.declared.row.Row.{Row}
 use Rattle.rows.proofs.Padding.{getD-padded}
 use Rattle.rows.proofs.Ports.{table-at}
 use Rattle.sheet.specs.Reading.{lastNumber, clashOf, clashes}
 use Rattle.sheet.specs.declared.kind.Kind.{Kind}
 
-module _ (kind : Kind) (pattern : List ℕ) (r : Row) (s : Sheet) (h : Held) (e : s ≡ packed h) where
-  pub clash-head : (last : ℕ) → last ≡ lastNumber (h .contexts) → r .letter ≡ 4 → leb (getD (r .nums) 0 0) last ≡ clashes kind pattern (h .contexts) r
+module _ (kind : Kind) (pattern : List ℕ) (r : Row) (l : List Context) where
+  pub clash-head : (last : ℕ) → last ≡ lastNumber l → r .letter ≡ 4 → leb (getD (r .nums) 0 0) last ≡ clashes kind pattern l r
   unfolding clashes
-  clash-head last q l = rw q (rw (eq-eqb _ _ l))
+  clash-head last q e = rw q (rw (eq-eqb _ _ e))
 
-  pub clash-blank : (r .letter ≡ 4 → ⊥) → r .letter ≡ 1 → getD (r .nums) 0 0 < 5
-      → clashOf kind (getD (s .ports) (getD (r .nums) 0 0) 0) (getD pattern (getD (r .nums) 0 0) 0) (getD (r .nums) 1 0 + 1) ≡ clashes kind pattern (h .contexts) r
+  pub clash-blank : (ports : List ℕ) → ports ≡ portTable l → (r .letter ≡ 4 → ⊥) → r .letter ≡ 1 → getD (r .nums) 0 0 < 5
+      → clashOf kind (getD ports (getD (r .nums) 0 0) 0) (getD pattern (getD (r .nums) 0 0) 0) (getD (r .nums) 1 0 + 1) ≡ clashes kind pattern l r
   unfolding clashes
-  clash-blank n l small = rw e (rw (table-at (h .contexts) (getD (r .nums) 0 0) small) (rw (ne-eqb _ _ n) (rw (eq-eqb _ _ l) (rw (add-one (getD (r .nums) 1 0))))))
+  clash-blank ports q n e small = rw q (rw (table-at l (getD (r .nums) 0 0) small) (rw (ne-eqb _ _ n) (rw (eq-eqb _ _ e) (rw (add-one (getD (r .nums) 1 0))))))
 
-  pub clash-none : (r .letter ≡ 4 → ⊥) → (r .letter ≡ 1 → ⊥) → false ≡ clashes kind pattern (h .contexts) r
+  pub clash-none : (r .letter ≡ 4 → ⊥) → (r .letter ≡ 1 → ⊥) → false ≡ clashes kind pattern l r
   unfolding clashes
   clash-none n m = rw (ne-eqb _ _ n) (rw (ne-eqb _ _ m))
 
@@ -43,17 +41,14 @@ last-number (c ∷ b ∷ l) d n = rw e (last-number (b ∷ l) d (λ z. omega ari
     e : suc (suc (length l)) - 1 ≡ suc (suc (length l) - 1)
     e = omega arith
 
-pub last-none : (s : Sheet) (h : Held) → s ≡ packed h → s .«context_count» ≡ 0 → 0 ≡ lastNumber (h .contexts)
+pub last-none : (l : List Context) → length l ≡ 0 → 0 ≡ lastNumber l
 unfolding lastNumber
-last-none s h e z = go (h .contexts) (ap (λ (s : Sheet). s .«context_count») (sym e) ∙ z)
-  where
-    go : (l : List Context) → length l ≡ 0 → 0 ≡ lastNumber l
-    go [] q = refl
-    go (c ∷ l) q = absurd (omega arith)
+last-none [] q = refl
+last-none (c ∷ l) q = absurd (omega arith)
 
-pub last-at : (s : Sheet) (h : Held) → s ≡ packed h → (s .«context_count» ≡ 0 → ⊥)
-    → getD (s .contexts) (s .«context_count» - 1) (record { number = 0; count = 0; links = []; row = 0 }) .number ≡ lastNumber (h .contexts)
-last-at s h e n =
-    let some : length (h .contexts) ≡ 0 → ⊥ = λ z. n (ap (λ (s : Sheet). s .«context_count») e ∙ z) in
-    rw e (rw (getD-padded (figureContexts + 1) noContext (h .contexts) (length (h .contexts) - 1) (record { number = 0; count = 0; links = []; row = 0 }) (omega (arith, some)))
-    (last-number (h .contexts) (record { number = 0; count = 0; links = []; row = 0 }) some))
+pub last-at : (contexts l : List Context) (n : ℕ) → contexts ≡ padded (figureContexts + 1) noContext l → n ≡ length l → (n ≡ 0 → ⊥)
+    → getD contexts (n - 1) (record { number = 0; count = 0; links = []; row = 0 }) .number ≡ lastNumber l
+last-at contexts l n e q some =
+    let none : length l ≡ 0 → ⊥ = λ z. some (q ∙ z) in
+    rw e (rw q (rw (getD-padded (figureContexts + 1) noContext l (length l - 1) (record { number = 0; count = 0; links = []; row = 0 }) (omega (arith, none)))
+    (last-number l (record { number = 0; count = 0; links = []; row = 0 }) none)))

@@ -5,7 +5,7 @@ use mathlib.Core.Path.{subst}
 use lib.ListN.{replicate}
 use Rattle.faults.proofs.Finding.{to-within, none-room, apart-room, apart-found, tables-in, taken-flags, served-found}
 use Rattle.network.specs.Ready.{stateIn}
-use Rattle.faults.specs.Labels.{Apart}
+use Rattle.stepping.specs.Labels.{Apart}
 use Rattle.faults.proofs.fault.find.Statement.{statement}
 use Rattle.faults.proofs.fault.find.Tie as tie
 

@@ -11,7 +11,7 @@ use Rattle.network.specs.NetIn.{netIn}
 use Rattle.faults.specs.Grows.{Tables}
 use Rattle.faults.specs.Gives.{TakenFlags, GivenAt}
 use Rattle.faults.specs.declared.fault.Given.{Given}
-use Rattle.faults.proofs.Tables.{below-next}
+use Rattle.stepping.proofs.Tables.{below-next}
 use Rattle.faults.proofs.Serving.{given-start, given-more, done-more, other-at, none-left, cut-gives, all-given, rows-in}
 use Rattle.faults.proofs.fault.served.Statement.{statement}
 use Rattle.faults.proofs.fault.served.Tie as tie

@@ -11,7 +11,7 @@ use Rattle.network.specs.NetIn.{netIn}
 use Rattle.completing.specs.Fault.{Other}
 use Rattle.faults.specs.Grows.{Sized, Tables, Grows}
 use Rattle.faults.specs.declared.growth.Growth.{Growth}
-use Rattle.faults.proofs.Rows.{atom-row}
+use Rattle.stepping.proofs.Rows.{atom-row}
 use Rattle.faults.proofs.Whole.{LinksSeen, sized-start, grows-start, seen-next, grows-next, whole-at}
 use Rattle.faults.proofs.growth.grown.Statement.{statement}
 use Rattle.faults.proofs.growth.grown.Tie as tie

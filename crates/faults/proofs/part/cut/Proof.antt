@@ -4,7 +4,7 @@ use Prim.Native.Nat.{ℕ, _-_, _≤_, _<_}
 use mathlib.Core.Path.{_≡_}
 use native.Mathlib.Omega.{arith}
 use Rattle.faults.specs.Parts.{Cut}
-use Rattle.faults.proofs.Tables.{below-next}
+use Rattle.stepping.proofs.Tables.{below-next}
 use Rattle.faults.proofs.part.cut.Statement.{statement}
 use Rattle.faults.proofs.part.cut.Tie as tie
 

@@ -3,8 +3,8 @@ use borrow.Author.Needs.{needs}
 use Prim.Native.Nat.{suc}
 use mathlib.Core.Path.{refl}
 use Rattle.network.specs.NetIn.{netIn}
-use Rattle.faults.proofs.Rows.{atom-row}
-use Rattle.faults.proofs.Reading.{atom-on}
+use Rattle.stepping.proofs.Rows.{atom-row}
+use Rattle.stepping.proofs.Reading.{atom-on}
 use Rattle.faults.proofs.part.with_marked.Statement.{statement}
 use Rattle.faults.proofs.part.with_marked.Tie as tie
 

@@ -3,7 +3,7 @@ use borrow.Author.Needs.{needs}
 use Prim.Native.Nat.{_-_, _≤_}
 use native.Mathlib.Omega.{arith}
 use lib.ListN.{getD}
-use Rattle.faults.proofs.Rows.{atom-row}
+use Rattle.stepping.proofs.Rows.{atom-row}
 use Rattle.faults.proofs.ways.mark_all.Statement.{statement}
 use Rattle.faults.proofs.ways.mark_all.Tie as tie
 

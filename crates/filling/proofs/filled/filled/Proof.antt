@@ -21,15 +21,15 @@ mark-labels-requires : tie.Need-mark-labels-requires
 mark-labels-requires c κs = search needs
 
 numbered-requires : tie.Need-numbered-requires
-numbered-requires c κs = let w = c .before in
-    let g = w .before in
+numbered-requires c κs = let w = c .before .before in
+    let g = w .before .before in
     let s = g .before .before in
     (s .pre .marks, w .whole-of .ensures .1, λ i. subst (λ (l : List Atom). getD l i pastAtoms .count ≤ mostLinks) (sym (w .whole-of .ensures .0)) (shown-linked (s .args .list .now) (g .glued .result) (s .args .figure) (s .pre) i))
 
 returns : tie.Need-returns
 returns c = let k = c .before in
-    let w = k .before in
-    let g = w .before in
+    let w = k .before .before in
+    let g = w .before .before in
     let s = g .before .before in (
       g .glued .result,
       (

@@ -1,9 +1,9 @@
 -- The arrays that `filled` makes of the figure's normal form.
 use borrow.Author.Needs.{needs}
 use mathlib.Core.Path.{sym, subst}
-use Rattle.sheet.specs.Numbering.{Numberable}
+use Rattle.numbering.specs.Numbering.{Numberable}
 use Rattle.sheet.specs.declared.kind.Kind.the-variants.{Figure}
-use Rattle.sheet.proofs.normal.Numbered.{unmapped}
+use Rattle.numbering.proofs.Turns.{unmapped}
 use Rattle.sheet.proofs.normal.NormalReady.{numberable-held}
 use Rattle.filling.specs.Fill.{figureHeld}
 use Rattle.filling.specs.Parts.{Low}

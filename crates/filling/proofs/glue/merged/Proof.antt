@@ -2,8 +2,9 @@
 use borrow.Author.Needs.{needs}
 use native.Mathlib.Omega.{arith}
 use Prim.Native.Nat.{_≤_, _<_, _-_}
-use mathlib.Core.Path.{_≡_, _∙_}
-use lib.ListN.{length, getD, length-set}
+use mathlib.Core.Path.{_≡_, refl, _∙_, ap}
+use lib.ListN.{length, getD, set, length-set}
+use lib.Seq.{set-getD}
 use mathlib.Core.Logic.{⊎-elim}
 use Rattle.rows.specs.Held.{relabelled}
 use Rattle.rows.proofs.Lists.{mapped, relabel-hit, relabel-miss}
@@ -13,37 +14,37 @@ use Rattle.filling.proofs.glue.merged.Statement.{statement}
 use Rattle.filling.proofs.glue.merged.Tie as tie
 
 abbrev Inv-loop : tie.InvT-loop
-Inv-loop a b from to more₀ k₀ more k = (k ≤ places) × (length more₀ ≡ places) × (length more ≡ places) × (more ≡ mapped (relabelled from to) k more₀)
+Inv-loop labels₀ a b from to k₀ labels k = (k ≤ places) × (length labels ≡ places) × (labels ≡ mapped (relabelled from to) k labels₀)
 
 abbrev μ-loop : tie.MeasureT-loop
-μ-loop a b from to more₀ k₀ more k = places - k
+μ-loop labels₀ a b from to k₀ labels k = places - k
 
 mul-from : tie.Need-mul-from Inv-loop μ-loop
 mul-from c = search needs
 
-array-read-from : tie.Need-array-read-from Inv-loop μ-loop
-array-read-from c = search needs
+element-copy-out-from : tie.Need-element-copy-out-from Inv-loop μ-loop
+element-copy-out-from c = search needs
 
 mul-to : tie.Need-mul-to Inv-loop μ-loop
 mul-to c = search needs
 
-array-read-to : tie.Need-array-read-to Inv-loop μ-loop
-array-read-to c = search needs
+element-copy-out-to : tie.Need-element-copy-out-to Inv-loop μ-loop
+element-copy-out-to c = search needs
 
 loop-holds : tie.Need-loop-holds Inv-loop μ-loop
-loop-holds c = search needs
+loop-holds c = (search needs, c .before .before .pre .2, refl)
 
-mul-if1 : tie.Need-mul-if1 Inv-loop μ-loop
-mul-if1 c = search needs
+mul-label : tie.Need-mul-label Inv-loop μ-loop
+mul-label c = search needs
 
-array-read-if1 : tie.Need-array-read-if1 Inv-loop μ-loop
-array-read-if1 c = search needs
+element-copy-out-label : tie.Need-element-copy-out-label Inv-loop μ-loop
+element-copy-out-label c = search needs
 
-mul-more : tie.Need-mul-more Inv-loop μ-loop
-mul-more c = search needs
+mul-labels : tie.Need-mul-labels Inv-loop μ-loop
+mul-labels c = search needs
 
-array-write-more : tie.Need-array-write-more Inv-loop μ-loop
-array-write-more c = search needs
+element-write-labels : tie.Need-element-write-labels Inv-loop μ-loop
+element-write-labels c = search needs
 
 add-k : tie.Need-add-k Inv-loop μ-loop
 add-k c = search needs
@@ -52,31 +53,26 @@ loop-less : tie.Need-loop-less Inv-loop μ-loop
 loop-less c = search needs
 
 loop-again : tie.Need-loop-again Inv-loop μ-loop
-loop-again c = let l = c .before .before in
-    let a = l .before .args in
-    let from = getD (a .t1) (a .b) 0 in
-    let to = getD (a .t1) (a .a) 0 in
-    let h : l .loop .k < length (a .t1) = omega (arith, l .loop .inv .1) in
-    ⊎-elim
-    (λ w. (
+loop-again c = let l = c .before .before .before in
+    let s = l .before .before .before in
+    let L = s .args .labels .now in
+    let from = getD L (s .args .b) 0 in
+    let to = getD L (s .args .a) 0 in
+    let h : l .loop .k < length L = omega (arith, s .pre .2) in (
       search needs,
-      l .loop .inv .1,
-      rw (w .1) (simp length-set (l .loop .inv .2)),
-      w .1 ∙ relabel-hit from to (a .t1) (l .loop .more) (l .loop .k) h (l .loop .inv .3) (w .0 .taken),
-    ))
-    (λ w. (
-      search needs,
-      l .loop .inv .1,
-      rw (w .1) (l .loop .inv .2),
-      w .1 ∙ relabel-miss from to (a .t1) (l .loop .more) (l .loop .k) h (l .loop .inv .3) (w .0 .left),
-    ))
-    (c .if1 .came)
+      simp length-set (l .loop .inv .1),
+      ⊎-elim
+          (λ w. ap (set (l .loop .labels) (l .loop .k)) (w .1) ∙ relabel-hit from to L (l .loop .labels) (l .loop .k) h (l .loop .inv .2) (w .0 .taken))
+          (λ w. ap (set (l .loop .labels) (l .loop .k)) (w .1) ∙ set-getD (l .loop .labels) (l .loop .k) 0 ∙ relabel-miss from to L (l .loop .labels) (l .loop .k) h (l .loop .inv .2) (w .0 .left))
+          (c .if1 .came),
+    )
 
 returns : tie.Need-returns Inv-loop μ-loop
 returns c = let l = c .before in
-    let a = l .before .args in
+    let s = l .before .before .before in
+    let L = s .args .labels .now in
     let e : l .loop .k ≡ places = omega arith in
-    (rw e at (l .loop .inv .3)) ∙ mapped-whole (relabelled (getD (a .t1) (a .b) 0) (getD (a .t1) (a .a) 0)) (a .t1) places (l .loop .inv .1)
+    (rw e at (l .loop .inv .2)) ∙ mapped-whole (relabelled (getD L (s .args .b) 0) (getD L (s .args .a) 0)) L places (s .pre .2)
 
 pub merged-spec : {M : Type 1} → statement M
 merged-spec =
@@ -85,14 +81,14 @@ merged-spec =
     Inv-loop
     μ-loop
     mul-from
-    array-read-from
+    element-copy-out-from
     mul-to
-    array-read-to
+    element-copy-out-to
     loop-holds
-    mul-if1
-    array-read-if1
-    mul-more
-    array-write-more
+    mul-label
+    element-copy-out-label
+    mul-labels
+    element-write-labels
     add-k
     loop-less
     loop-again

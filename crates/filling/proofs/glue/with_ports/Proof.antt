@@ -14,50 +14,50 @@ use Rattle.filling.proofs.glue.with_ports.Statement.{statement}
 use Rattle.filling.proofs.glue.with_ports.Tie as tie
 
 abbrev Inv-loop : tie.InvT-loop
-Inv-loop p count links marked more₀ k₀ more k = (k ≤ count) × (length links ≡ mostLinks) × (length marked ≡ sheetMarks + 1) × (length more ≡ places) × (joinedAll more (portPairs p (drop k (take count links)) (drop k (take count marked))) ≡ joinedAll more₀ (portPairs p (take count links) (take count marked)))
+Inv-loop labels₀ p count links marked k₀ labels k = (k ≤ count) × (length links ≡ mostLinks) × (length marked ≡ sheetMarks + 1) × (length labels ≡ places) × (joinedAll labels (portPairs p (drop k (take count links)) (drop k (take count marked))) ≡ joinedAll labels₀ (portPairs p (take count links) (take count marked)))
 
 abbrev μ-loop : tie.MeasureT-loop
-μ-loop p count links marked more₀ k₀ more k = count - k
+μ-loop labels₀ p count links marked k₀ labels k = count - k
 
 loop-holds : tie.Need-loop-holds Inv-loop μ-loop
-loop-holds c = (search needs, search needs, search needs, search needs, refl)
+loop-holds c = (search needs, search needs, search needs, c .pre .0 .2, refl)
 
 mul-merged : tie.Need-mul-merged Inv-loop μ-loop
-mul-merged c = let l = c .before in
+mul-merged c = let l = c .before .before in
     omega (arith, l .before .pre .0 .0, l .before .pre .0 .1, l .before .pre .1 (l .loop .k) .0, l .before .pre .1 (l .loop .k) .1)
 
 array-read-merged : tie.Need-array-read-merged Inv-loop μ-loop
-array-read-merged c = let l = c .before in
+array-read-merged c = let l = c .before .before in
     omega (arith, l .before .pre .0 .0, l .before .pre .0 .1, l .before .pre .1 (l .loop .k) .0, l .before .pre .1 (l .loop .k) .1)
 
 cast-merged : tie.Need-cast-merged Inv-loop μ-loop
-cast-merged c = let l = c .before in
+cast-merged c = let l = c .before .before in
     omega (arith, l .before .pre .0 .0, l .before .pre .0 .1, l .before .pre .1 (l .loop .k) .0, l .before .pre .1 (l .loop .k) .1)
 
 mul-merged-2 : tie.Need-mul-merged-2 Inv-loop μ-loop
-mul-merged-2 c = let l = c .before in
+mul-merged-2 c = let l = c .before .before in
     omega (arith, l .before .pre .0 .0, l .before .pre .0 .1, l .before .pre .1 (l .loop .k) .0, l .before .pre .1 (l .loop .k) .1)
 
 mul-merged-3 : tie.Need-mul-merged-3 Inv-loop μ-loop
-mul-merged-3 c = let l = c .before in
+mul-merged-3 c = let l = c .before .before in
     omega (arith, l .before .pre .0 .0, l .before .pre .0 .1, l .before .pre .1 (l .loop .k) .0, l .before .pre .1 (l .loop .k) .1)
 
 array-read-merged-2 : tie.Need-array-read-merged-2 Inv-loop μ-loop
-array-read-merged-2 c = let l = c .before in
+array-read-merged-2 c = let l = c .before .before in
     omega (arith, l .before .pre .0 .0, l .before .pre .0 .1, l .before .pre .1 (l .loop .k) .0, l .before .pre .1 (l .loop .k) .1)
 
 cast-merged-2 : tie.Need-cast-merged-2 Inv-loop μ-loop
-cast-merged-2 c = let l = c .before in
+cast-merged-2 c = let l = c .before .before in
     omega (arith, l .before .pre .0 .0, l .before .pre .0 .1, l .before .pre .1 (l .loop .k) .0, l .before .pre .1 (l .loop .k) .1)
 
 add-merged : tie.Need-add-merged Inv-loop μ-loop
-add-merged c = let l = c .before in
+add-merged c = let l = c .before .before in
     omega (arith, l .before .pre .0 .0, l .before .pre .0 .1, l .before .pre .1 (l .loop .k) .0, l .before .pre .1 (l .loop .k) .1)
 
 merged-requires : tie.Need-merged-requires Inv-loop μ-loop
-merged-requires c κs = let l = c .before in
+merged-requires c κs = let l = c .before .before in
     let h = l .before .pre in
-    (omega (arith, h .1 (l .loop .k) .0), omega (arith, h .0 .0, h .1 (l .loop .k) .1))
+    (omega (arith, h .1 (l .loop .k) .0), omega (arith, h .0 .0, h .1 (l .loop .k) .1), l .loop .inv .3)
 
 add-k : tie.Need-add-k Inv-loop μ-loop
 add-k c = search needs
@@ -66,22 +66,22 @@ loop-less : tie.Need-loop-less Inv-loop μ-loop
 loop-less c = search needs
 
 loop-again : tie.Need-loop-again Inv-loop μ-loop
-loop-again c = let l = c .before .before in
+loop-again c = let l = c .before .before .before in
     let a = l .before .args in
     let h = l .before .pre in
     let e : ℕ × ℕ = (getD (a .t3) (l .loop .k) 0, placeOf (a .p) (getD (a .t5) (l .loop .k) 0)) in (
       search needs,
       l .loop .inv .1,
       l .loop .inv .2,
-      ap length (c .merged .ensures) ∙ joined-length (l .loop .more) e ∙ l .loop .inv .3,
+      ap length (c .merged .ensures) ∙ joined-length (l .loop .labels) e ∙ l .loop .inv .3,
       ap (λ m. joinedAll m (portPairs (a .p) (drop (l .loop .k + 1) (take (a .count) (a .t3))) (drop (l .loop .k + 1) (take (a .count) (a .t5))))) (c .merged .ensures)
-          ∙ sym (ports-next (a .p) (a .count) (l .loop .k) (a .t3) (a .t5) (l .loop .more) (omega (arith, l .loop .inv .1, h .0 .1)) (omega (arith, l .loop .inv .2, h .0 .1)) (c .before .loop-test .taken)) ∙ l .loop .inv .4,
+          ∙ sym (ports-next (a .p) (a .count) (l .loop .k) (a .t3) (a .t5) (l .loop .labels) (omega (arith, l .loop .inv .1, h .0 .1)) (omega (arith, l .loop .inv .2, h .0 .1)) (c .before .before .loop-test .taken)) ∙ l .loop .inv .4,
     )
 
 returns : tie.Need-returns Inv-loop μ-loop
 returns c = let l = c .before in
     let a = l .before .args in
-    sym (ports-end (a .p) (a .count) (l .loop .k) (a .t3) (a .t5) (l .loop .more) (c .loop-test .left)) ∙ l .loop .inv .4
+    sym (ports-end (a .p) (a .count) (l .loop .k) (a .t3) (a .t5) (l .loop .labels) (c .loop-test .left)) ∙ l .loop .inv .4
 
 pub with-ports-spec : {M : Type 1} → statement M
 with-ports-spec =

@@ -9,7 +9,7 @@ use mathlib.Core.Bool.{true, false}
 use Rattle.rows.specs.Limits.{figureContexts, sheetMarks}
 use Rattle.sheet.specs.NormalRows.{pastContexts}
 use Rattle.sheet.specs.declared.normal.Normal.{Normal}
-use Rattle.sheet.proofs.normal.Numbered.{unmapped}
+use Rattle.numbering.proofs.Turns.{unmapped}
 use Rattle.placing.specs.Smallest.{sameList, numbersTo}
 use Rattle.filling.specs.Read.{fillingRead}
 use Rattle.filling.specs.Fill.{firstDiffering, isExact}

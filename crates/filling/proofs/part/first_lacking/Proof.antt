@@ -9,7 +9,7 @@ use mathlib.Core.Bool.{true, false}
 use borrow.Author.Tests.{eq-eqb, ne-eqb}
 use Rattle.rows.specs.Limits.{figureContexts}
 use Rattle.sheet.specs.NormalRows.{pastContexts}
-use Rattle.sheet.proofs.normal.Numbered.{unmapped}
+use Rattle.numbering.proofs.Turns.{unmapped}
 use Rattle.filling.specs.Parts.{firstUnported}
 use Rattle.filling.proofs.Loops.{lacking-next, lacking-end}
 use Rattle.filling.proofs.part.first_lacking.Statement.{statement}

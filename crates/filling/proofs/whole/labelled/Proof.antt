@@ -8,20 +8,19 @@ use lib.ListN.{length, getD, take, length-set}
 use Rattle.rows.specs.Format.{mostLinks}
 use Rattle.rows.specs.Packed.{padded}
 use Rattle.rows.proofs.Padding.{stored-next}
-use Rattle.filling.specs.Parts.{places}
 use Rattle.filling.specs.Glued.{placeOf}
 use Rattle.filling.proofs.whole.labelled.Statement.{statement}
 use Rattle.filling.proofs.whole.labelled.Tie as tie
 
 abbrev Inv-loop : tie.InvT-loop
-Inv-loop p count labels links more₀ k₀ more k = (k ≤ count) × (length links ≡ mostLinks) × (length labels ≡ places) × (length more ≡ mostLinks) × (more ≡ padded mostLinks 0 (map (λ x. getD labels (placeOf p x) 0) (take k links)))
+Inv-loop labels p count links more₀ k₀ more k = (k ≤ count) × (length links ≡ mostLinks) × (length more ≡ mostLinks) × (more ≡ padded mostLinks 0 (map (λ x. getD labels (placeOf p x) 0) (take k links)))
 
 abbrev μ-loop : tie.MeasureT-loop
-μ-loop p count labels links more₀ k₀ more k = count - k
+μ-loop labels p count links more₀ k₀ more k = count - k
 
 loop-holds : tie.Need-loop-holds Inv-loop μ-loop
 unfolding padded
-loop-holds c = (search needs, search needs, search needs, search needs, refl)
+loop-holds c = (search needs, search needs, search needs, refl)
 
 mul-more : tie.Need-mul-more Inv-loop μ-loop
 mul-more c = search needs
@@ -41,8 +40,8 @@ add-more c = omega (arith, c .before .before .pre .0, c .before .before .pre .2 
 mul-more-3 : tie.Need-mul-more-3 Inv-loop μ-loop
 mul-more-3 c = omega (arith, c .before .before .pre .0, c .before .before .pre .2 (c .before .loop .k))
 
-array-read-more-2 : tie.Need-array-read-more-2 Inv-loop μ-loop
-array-read-more-2 c = omega (arith, c .before .before .pre .0, c .before .before .pre .2 (c .before .loop .k))
+element-copy-out-more : tie.Need-element-copy-out-more Inv-loop μ-loop
+element-copy-out-more c = omega (arith, c .before .before .pre .0, c .before .before .pre .2 (c .before .loop .k))
 
 mul-more-4 : tie.Need-mul-more-4 Inv-loop μ-loop
 mul-more-4 c = search needs
@@ -57,19 +56,18 @@ loop-less : tie.Need-loop-less Inv-loop μ-loop
 loop-less c = search needs
 
 loop-again : tie.Need-loop-again Inv-loop μ-loop
-loop-again c = let l = c .before in
+loop-again c = let l = c .before .before in
     let a = l .before .args in (
       search needs,
       l .loop .inv .1,
-      l .loop .inv .2,
-      simp length-set (l .loop .inv .3),
-      stored-next mostLinks (λ x. getD (a .t1) (placeOf (a .p) x) 0) (a .t3) (l .loop .more) (l .loop .k) (l .loop .inv .4) (omega (arith, l .loop .inv .1)) (omega arith),
+      simp length-set (l .loop .inv .2),
+      stored-next mostLinks (λ x. getD (a .labels .now) (placeOf (a .p) x) 0) (a .t3) (l .loop .more) (l .loop .k) (l .loop .inv .3) (omega (arith, l .loop .inv .1)) (omega arith),
     )
 
 returns : tie.Need-returns Inv-loop μ-loop
 returns c = let l = c .before in
     let e : l .loop .k ≡ l .before .args .count = omega arith in
-    rw e at (l .loop .inv .4)
+    rw e at (l .loop .inv .3)
 
 pub labelled-spec : {M : Type 1} → statement M
 labelled-spec =
@@ -84,7 +82,7 @@ labelled-spec =
     cast-more
     add-more
     mul-more-3
-    array-read-more-2
+    element-copy-out-more
     mul-more-4
     array-write-more
     add-k

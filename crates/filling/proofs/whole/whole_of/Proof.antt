@@ -11,7 +11,7 @@ use Rattle.rows.specs.Limits.{sheetAtoms, figureContexts}
 use Rattle.rows.specs.declared.Atom.{Atom}
 use Rattle.sheet.specs.NormalRows.{pastContexts}
 use Rattle.sheet.specs.declared.normal.Normal.{Normal}
-use Rattle.sheet.proofs.normal.Numbered.{unmapped}
+use Rattle.numbering.proofs.Turns.{unmapped}
 use Rattle.filling.specs.Parts.{partNormal, Low}
 use Rattle.filling.specs.Whole.{partAtoms, contextAtoms, roomFor, wholeAtoms}
 use Rattle.filling.proofs.Parts.{part-low}
@@ -64,15 +64,15 @@ loop-again c = let p = c .before in
     let s = l .before .before .before .before in
     let a = s .args in
     let x = getD (a .t1 .contexts) (l .loop .i) pastContexts in
-    let rest = contextAtoms (a .list .now) (a .labels) (l .loop .i + 1 + 1) (drop (l .loop .i + 1) (take (a .t1 .«context_count») (a .t1 .contexts))) in
+    let rest = contextAtoms (a .list .now) (a .labels .now) (l .loop .i + 1 + 1) (drop (l .loop .i + 1) (take (a .t1 .«context_count») (a .t1 .contexts))) in
     let W = wholeAtoms (l .loop .whole) in
-    let P = partAtoms (a .labels) (l .loop .i + 1) (partNormal (a .list .now) (x .number)) in
-    let g : wholeAtoms (c .with-part2 .result) ≡ roomFor (W ++ P) = c .with-part2 .ensures .atoms ∙ ap (λ (n : Normal). roomFor (W ++ partAtoms (a .labels) (l .loop .i + 1) n)) (p .part-of .ensures) in (
+    let P = partAtoms (a .labels .now) (l .loop .i + 1) (partNormal (a .list .now) (x .number)) in
+    let g : wholeAtoms (c .with-part2 .result) ≡ roomFor (W ++ P) = c .with-part2 .ensures .atoms ∙ ap (λ (n : Normal). roomFor (W ++ partAtoms (a .labels .now) (l .loop .i + 1) n)) (p .part-of .ensures) in (
       search needs,
       l .loop .inv .1,
       c .with-part2 .ensures .few,
       ap (λ (w : List Atom). roomFor (w ++ rest)) g ∙ room-twice (W ++ P) rest ∙ ap roomFor (append-assoc W P rest)
-          ∙ ap (λ (t : List Atom). roomFor (W ++ t)) (sym (atoms-next (a .list .now) (a .t1 .contexts) (a .t1 .«context_count») (l .loop .i) pastContexts (a .labels) (l .loop .i + 1) (omega (arith, l .loop .inv .1, s .pre .contexts)) (p .before .before .loop-test .taken)))
+          ∙ ap (λ (t : List Atom). roomFor (W ++ t)) (sym (atoms-next (a .list .now) (a .t1 .contexts) (a .t1 .«context_count») (l .loop .i) pastContexts (a .labels .now) (l .loop .i + 1) (omega (arith, l .loop .inv .1, s .pre .contexts)) (p .before .before .loop-test .taken)))
           ∙ l .loop .inv .3,
     )
 
@@ -81,11 +81,11 @@ returns c = let l = c .before in
     let w = l .before in
     let a = w .before .before .before .args in
     let W = wholeAtoms (l .loop .whole) in
-    let P = partAtoms (a .labels) 0 (a .t1) in
-    let rest = contextAtoms (a .list .now) (a .labels) 1 (take (a .t1 .«context_count») (a .t1 .contexts)) in
+    let P = partAtoms (a .labels .now) 0 (a .t1) in
+    let rest = contextAtoms (a .list .now) (a .labels .now) 1 (take (a .t1 .«context_count») (a .t1 .contexts)) in
     let g : wholeAtoms (w .with-part .result) ≡ roomFor P = w .with-part .ensures .atoms ∙ ap (λ (t : List Atom). roomFor (t ++ P)) (w .before .none .ensures .0) in (
       sym (room-all W (omega (arith, length-take (l .loop .whole .count) (l .loop .whole .atoms), l .loop .inv .2))) ∙ ap roomFor (sym (append-nil W))
-          ∙ ap (λ (t : List Atom). roomFor (W ++ t)) (sym (atoms-end (a .list .now) (a .t1 .contexts) (a .t1 .«context_count») (l .loop .i) pastContexts (a .labels) (l .loop .i + 1) (c .loop-test .left)))
+          ∙ ap (λ (t : List Atom). roomFor (W ++ t)) (sym (atoms-end (a .list .now) (a .t1 .contexts) (a .t1 .«context_count») (l .loop .i) pastContexts (a .labels .now) (l .loop .i + 1) (c .loop-test .left)))
           ∙ l .loop .inv .3 ∙ ap (λ (t : List Atom). roomFor (t ++ rest)) g ∙ room-twice P rest,
       l .loop .inv .2,
     )

@@ -6,8 +6,7 @@ use native.Mathlib.Omega.{arith}
 use lib.ListN.{length, take, getD}
 use Rattle.rows.specs.Format.{mostLinks, rowWidth}
 use Rattle.rows.proofs.RowBytes.{over, over-none}
-use Rattle.listing.specs.Numbers.{numberIn}
-use Rattle.listing.specs.Writing.{portsBytes}
+use Rattle.listing.specs.Writing.{numberIn, portsBytes}
 use Rattle.listing.proofs.Steps.{ports-put}
 use Rattle.listing.proofs.put_rows.put_ports.Statement.{statement}
 use Rattle.listing.proofs.put_rows.put_ports.Tie as tie

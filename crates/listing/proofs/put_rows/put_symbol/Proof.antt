@@ -7,8 +7,7 @@ use lib.ListN.{length}
 use Rattle.rows.specs.Format.{rowWidth}
 use Rattle.rows.proofs.RowBytes.{over-none}
 use Rattle.network.specs.NetIn.{atomAt}
-use Rattle.listing.specs.Numbers.{numberIn}
-use Rattle.listing.specs.Writing.{givenAt, symbolsBytes}
+use Rattle.listing.specs.Writing.{numberIn, givenAt, symbolsBytes}
 use Rattle.listing.proofs.Atoms.{given-none, given-one, atom-low, row-low, row-taken, one-symbol}
 use Rattle.listing.proofs.put_rows.put_symbol.Statement.{statement}
 use Rattle.listing.proofs.put_rows.put_symbol.Tie as tie

@@ -6,8 +6,7 @@ use native.Mathlib.Omega.{arith}
 use lib.ListN.{length}
 use Rattle.rows.specs.Format.{rowWidth}
 use Rattle.rows.proofs.RowBytes.{over, over-none}
-use Rattle.listing.specs.Numbers.{numberIn}
-use Rattle.listing.specs.Writing.{givenBelow, symbolsBytes}
+use Rattle.listing.specs.Writing.{numberIn, givenBelow, symbolsBytes}
 use Rattle.listing.proofs.Atoms.{below-grows}
 use Rattle.listing.proofs.Steps.{below-length, symbols-put}
 use Rattle.listing.proofs.put_rows.put_symbols.Statement.{statement}

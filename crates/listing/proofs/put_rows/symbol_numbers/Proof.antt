@@ -7,7 +7,7 @@ use native.Mathlib.Omega.{arith}
 use lib.ListN.{length, take}
 use Rattle.rows.specs.Format.{mostLinks, fieldCount}
 use Rattle.rows.specs.Packed.{padded}
-use Rattle.listing.specs.Numbers.{numberIn}
+use Rattle.listing.specs.Writing.{numberIn}
 use Rattle.listing.proofs.Steps.{numbers-next}
 use Rattle.listing.proofs.put_rows.symbol_numbers.Statement.{statement}
 use Rattle.listing.proofs.put_rows.symbol_numbers.Tie as tie

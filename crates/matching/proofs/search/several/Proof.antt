@@ -1,7 +1,6 @@
 -- `search::several` meets its contract: it looks at one row. Assumes nothing.
 use borrow.Author.Needs.{needs}
-use Prim.Native.Nat.{ℕ, _≤_, _-_}
-use native.Mathlib.Omega.{arith}
+use Prim.Native.Nat.{_≤_, _-_}
 use Rattle.rows.specs.Limits.{sheetAtoms}
 use Rattle.matching.proofs.search.several.Statement.{statement}
 use Rattle.matching.proofs.search.several.Tie as tie

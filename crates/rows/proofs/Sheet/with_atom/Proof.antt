@@ -1,6 +1,6 @@
--- The atom is stored after the others, and then its links are taken in.
+-- The atom is stored after the others.
 use borrow.Author.Needs.{needs}
-use Rattle.rows.proofs.Rows.{with-atom}
+use Rattle.rows.proofs.Rows.{with-symbol}
 use Rattle.rows.proofs.Sheet.with_atom.Statement.{statement}
 use Rattle.rows.proofs.Sheet.with_atom.Tie as tie
 
@@ -22,12 +22,9 @@ element-set-from-self c = search needs
 add-self : tie.Need-add-self
 add-self c = search needs
 
-with-links-requires : tie.Need-with-links-requires
-with-links-requires c κs = search needs
-
 returns : tie.Need-returns
-returns c = let s = c .before .before in
-    λ h wired e. with-atom (s .args .t1) h e (s .args .t2) (c .with-links .result) wired (s .pre .0 .atoms) (rw (c .before .row-links .ensures) at (c .with-links .ensures))
+returns c = let s = c .before in
+    λ h wired e. rw (c .row-links .ensures) (with-symbol (s .args .t1) h e (s .args .t2) (s .pre))
 
 pub with-atom-spec : {M : Type 1} → statement M
 with-atom-spec =
@@ -39,5 +36,4 @@ with-atom-spec =
     mul-t15
     element-set-from-self
     add-self
-    with-links-requires
     returns)

@@ -1,8 +1,10 @@
 -- A known mark merges two links; a new one is stored with its link's place.
 use borrow.Author.Needs.{needs}
+use mathlib.Core.Path.{_≡_}
 use native.Mathlib.Omega.{arith}
+use lib.ListN.{length}
 use Rattle.rows.proofs.Lists.{index-below}
-use Rattle.rows.proofs.Arrays.{with-mark-known, with-mark-new}
+use Rattle.rows.proofs.Arrays.{mark-merged, with-mark-new}
 use Rattle.rows.proofs.Sheet.with_mark.Statement.{statement}
 use Rattle.rows.proofs.Sheet.with_mark.Tie as tie
 
@@ -21,19 +23,20 @@ element-copy-out-place c = search needs
 cast-place : tie.Need-cast-place
 cast-place c = search needs
 
+slice-aggregate-merge : tie.Need-slice-aggregate-merge
+slice-aggregate-merge c = search needs
+
 merge-requires : tie.Need-merge-requires
-merge-requires c κs = let s = c .before .before .before .before .before .before .before .before .before .before in
-    let i = c .before .before .before .before .before .before .index-of in
+merge-requires c κs = let s = c .before .before .before .before .before .before .before .before .before .before .before .before in
     let a = s .args in
-    (search needs, omega (arith, s .pre .2 (c .before .before .index-of2 .result)), omega (arith, i .ensures, index-below (a .a) (a .t1 .«link_count») (a .t1 .links), s .pre .0))
+    let wide : length (a .t1 .classes) ≡ 108 = search needs in
+    (omega (arith, wide, s .pre .0), omega (arith, wide, s .pre .2 (c .before .before .before .before .index-of2 .result)), omega (arith, wide, s .pre .0, c .before .before .before .before .before .before .before .before .index-of .ensures, index-below (a .a) (a .t1 .«link_count») (a .t1 .links)))
 
 returns : tie.Need-returns
-returns c = let d = c .before in
-    let s = d .before .before .before .before .before .before .before .before .before .before in
-    let i = d .before .before .before .before .before .before .index-of in
-    let p = d .before .before .index-of2 in
-    let a = s .args in
-    λ h wired e. with-mark-known (a .t1) h wired e (a .a) (a .m) (c .merge .result) (rw (p .ensures) at (d .before .if1 .taken)) (rw (i .ensures, p .ensures) at (c .merge .ensures))
+returns c = let a = c .before .before .before .before .before .before .before .before .before .before .before .before .before .before .args in
+    let i = c .before .before .before .before .before .before .before .before .before .before .index-of in
+    let p = c .before .before .before .before .before .before .index-of2 in
+    λ h wired e. mark-merged (a .t1) h wired e (a .a) (a .m) (i .result) (p .result) (c .before .merge .last .0) (i .ensures) (p .ensures) (c .before .before .before .before .before .if1 .taken) (c .before .merge .ensures)
 
 mul-self : tie.Need-mul-self
 mul-self c = search needs
@@ -70,6 +73,7 @@ with-mark-spec =
     mul-place
     element-copy-out-place
     cast-place
+    slice-aggregate-merge
     merge-requires
     returns
     mul-self

@@ -12,7 +12,7 @@ use borrow.Fn.PlainCycle.{Measures, is, falls, and}
 use denote.Ref.{now}
 use Rattle.rows.specs.Limits.{sheetLinks}
 use Rattle.settling.specs.Completes.{unsettled, CompletesAt}
-use Rattle.settling.proofs.Flagged.{flagged-fewer}
+use Rattle.deciding.proofs.Flagged.{flagged-fewer}
 use Rattle.settling.proofs.Trying.{TriedTo, TriedAt, tables-put, tried-next, tried-skip, at-found, at-none, link-refused, link-skipped, found-none, found-tried, found-refused}
 use Rattle.settling.proofs.completable.completable.Reads as completable
 use Rattle.settling.proofs.completable.completable.Kinds as completable-kinds

@@ -13,7 +13,7 @@ use lib.Seq.{getD-take, length-take-le}
 use Rattle.rows.specs.declared.Atom.{Atom}
 use Rattle.rows.proofs.Lists.{mapped, mapped-next}
 use Rattle.sheet.specs.NormalRows.{pastAtoms}
-use Rattle.sheet.proofs.normal.Numbered.{unmapped}
+use Rattle.numbering.proofs.Turns.{unmapped}
 use Rattle.filling.proofs.classes.Classes.atoms.Statement.{statement}
 use Rattle.filling.proofs.classes.Classes.atoms.Tie as tie
 

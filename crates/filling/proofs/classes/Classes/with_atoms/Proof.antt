@@ -11,7 +11,7 @@ use mathlib.Core.Path.{subst}
 use lib.Seq.{getD-take}
 use Rattle.rows.specs.declared.Atom.{Atom}
 use Rattle.sheet.specs.NormalRows.{pastAtoms}
-use Rattle.sheet.proofs.normal.Numbered.{unmapped}
+use Rattle.numbering.proofs.Turns.{unmapped}
 use Rattle.filling.specs.Whole.{wholeAtoms}
 use Rattle.filling.proofs.Loops.{links-next, links-end}
 use Rattle.filling.proofs.classes.Classes.with_atoms.Statement.{statement}

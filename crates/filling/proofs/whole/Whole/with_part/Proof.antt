@@ -2,28 +2,30 @@
 use borrow.Author.Needs.{needs}
 use native.Mathlib.Omega.{arith}
 use Prim.Native.Nat.{ℕ, _≤_, _+_, _-_}
-use mathlib.Core.Path.{_≡_}
+use mathlib.Core.Path.{_≡_, _∙_, ap}
+use mathlib.Core.Logic.{⊎-elim}
 use mathlib.Core.List.{[], _∷_, map}
-use lib.ListN.{length, getD, take}
+use lib.ListN.{length, getD, take, length-set}
 use mathlib.Core.Path.{subst}
 use mathlib.Core.List.{List}
 use Rattle.rows.specs.Limits.{sheetAtoms}
 use Rattle.rows.specs.declared.Atom.{Atom}
 use Rattle.sheet.specs.NormalRows.{pastAtoms}
-use Rattle.sheet.proofs.normal.Numbered.{unmapped}
+use Rattle.numbering.proofs.Turns.{unmapped}
 use Rattle.filling.specs.Whole.{labelledAtom, Grown}
-use Rattle.filling.proofs.Loops.{grown-none, grown-then, mapped-next}
+use Rattle.filling.specs.declared.whole.Whole.{Whole}
+use Rattle.filling.proofs.Loops.{grown-none, grown-one, grown-full, grown-then, mapped-next}
 use Rattle.filling.proofs.whole.Whole.with_part.Statement.{statement}
 use Rattle.filling.proofs.whole.Whole.with_part.Tie as tie
 
 abbrev Inv-loop : tie.InvT-loop
-Inv-loop labels p part whole₀ i₀ whole i = (i ≤ part .«atom_count») × (length (part .atoms) ≡ sheetAtoms + 1) × Grown whole₀ whole (map (labelledAtom labels p) (take i (part .atoms)))
+Inv-loop labels p part whole₀ i₀ whole i = (i ≤ part .«atom_count») × (length (part .atoms) ≡ sheetAtoms + 1) × (length (whole .atoms) ≡ sheetAtoms + 1) × Grown whole₀ whole (map (labelledAtom labels p) (take i (part .atoms)))
 
 abbrev μ-loop : tie.MeasureT-loop
 μ-loop labels p part whole₀ i₀ whole i = part .«atom_count» - i
 
 loop-holds : tie.Need-loop-holds Inv-loop μ-loop
-loop-holds c = (search needs, search (needs, unmapped), grown-none (c .args .self) (c .pre .0))
+loop-holds c = (search needs, search (needs, unmapped), search (needs, unmapped), grown-none (c .args .self) (c .pre .0))
 
 mul-atom : tie.Need-mul-atom Inv-loop μ-loop
 mul-atom c = omega (arith, c .before .before .pre .2 .atoms)
@@ -39,8 +41,14 @@ labelled-requires c κs = let l = c .before .before .before .before in
     let h = l .before .pre in
     (h .1, h .2 .atomCounts (l .loop .i), λ k. h .2 .atomLinks (l .loop .i) k)
 
-with-atom-requires : tie.Need-with-atom-requires Inv-loop μ-loop
-with-atom-requires c κs = c .before .before .before .before .before .loop .inv .2 .few
+mul-t18 : tie.Need-mul-t18 Inv-loop μ-loop
+mul-t18 c = search needs
+
+element-set-from-whole : tie.Need-element-set-from-whole Inv-loop μ-loop
+element-set-from-whole c = search needs
+
+add-whole : tie.Need-add-whole Inv-loop μ-loop
+add-whole c = search needs
 
 add-i : tie.Need-add-i Inv-loop μ-loop
 add-i c = search needs
@@ -52,20 +60,28 @@ loop-again : tie.Need-loop-again Inv-loop μ-loop
 loop-again c = let l = c .before .before .before .before .before .before in
     let a = l .before .args in
     let x = getD (a .t4 .atoms) (l .loop .i) pastAtoms in
-    let f = labelledAtom (a .labels) (a .p) in
-    let g : Grown (l .loop .whole) (c .with-atom .result) (f x ∷ []) =
-    subst (λ (w : List ℕ). Grown (l .loop .whole) (c .with-atom .result) (record { name = x .name; count = x .count; links = w } ∷ [])) (c .before .labelled .ensures) (c .with-atom .ensures) in (
+    let f = labelledAtom (a .labels .now) (a .p) in
+    let y : Atom = record { name = x .name; count = x .count; links = c .before .labelled .result } in
+    let w = l .loop .whole in
+    let r = c .if1 .whole in
+    let n = l .loop .inv .2 in
+    let g : (length (r .atoms) ≡ sheetAtoms + 1) × Grown w r (y ∷ []) = ⊎-elim
+    (λ t. (ap (λ (u : Whole). length (u .atoms)) (t .1) ∙ simp length-set n, grown-one w r y n (t .0 .taken) (t .1)))
+    (λ t. (ap (λ (u : Whole). length (u .atoms)) (t .1) ∙ n, grown-full w r y n (l .loop .inv .3 .few) (t .0 .left) (t .1)))
+    (c .if1 .came) in
+    let h : Grown w r (f x ∷ []) = subst (λ (k : List ℕ). Grown w r (record { name = x .name; count = x .count; links = k } ∷ [])) (c .before .labelled .ensures) (g .1) in (
       search needs,
       l .loop .inv .1,
-      subst (λ (w : List Atom). Grown (a .self) (c .with-atom .result) w) (mapped-next f (a .t4 .atoms) (l .loop .i) pastAtoms (omega (arith, l .loop .inv .1, l .before .pre .2 .atoms)))
-          (grown-then (a .self) (l .loop .whole) (c .with-atom .result) (map f (take (l .loop .i) (a .t4 .atoms))) (f x ∷ []) (l .loop .inv .2) g),
+      g .0,
+      subst (λ (k : List Atom). Grown (a .self) r k) (mapped-next f (a .t4 .atoms) (l .loop .i) pastAtoms (omega (arith, l .loop .inv .1, l .before .pre .2 .atoms)))
+          (grown-then (a .self) w r (map f (take (l .loop .i) (a .t4 .atoms))) (f x ∷ []) (l .loop .inv .3) h),
     )
 
 returns : tie.Need-returns Inv-loop μ-loop
 returns c = let l = c .before in
     let a = l .before .args in
     let e : l .loop .i ≡ a .t4 .«atom_count» = omega arith in
-    rw e at (l .loop .inv .2)
+    rw e at (l .loop .inv .3)
 
 pub with-part-spec : {M : Type 1} → statement M
 with-part-spec =
@@ -78,7 +94,9 @@ with-part-spec =
     element-copy-out-atom
     cast-labelled
     labelled-requires
-    with-atom-requires
+    mul-t18
+    element-set-from-whole
+    add-whole
     add-i
     loop-less
     loop-again

@@ -1,0 +1,95 @@
+// The task claim: whether a figure, filled from a list, is the same as a sheet.
+use filling::filled::normal_filled;
+use filling::part::first_differing;
+use filling::part::first_lacking;
+use matching::search::smallest_placing;
+use rows::Sheet;
+use sheet::answer::Answer;
+use sheet::answer::Refusal;
+use sheet::normal::Normal;
+use sheet::normal::normal_of;
+use sheet::read::read_figure;
+use sheet::read::read_list;
+use sheet::read::read_sheet;
+ghost use mathlib.Core.Path.{_≡_};
+ghost use mathlib.Core.List.{List};
+ghost use Prim.Native.Nat.{ℕ};
+ghost use Rattle.rows.specs.Packed.{packed};
+ghost use Rattle.placing.specs.Smallest.{smallest};
+ghost use Rattle.network.specs.NetIn.{netIn};
+ghost use Rattle.network.specs.Ready.{Ready};
+ghost use Rattle.filling.specs.Read.{listHeld};
+ghost use Rattle.claiming.specs.Claim.{placedClaim, claimedAnswer, claimAnswer};
+ghost use Rattle.claiming.specs.Inputs.{ClaimInputs};
+
+// The filled figure is the same as the sheet, or not; an input is refused at a row; over whole texts, an
+// input's row with a context that has no filling, or with a filling whose marks are not its ports.
+pub enum Claimed {
+    Holds,
+    Differs,
+    Refused(u16, Refusal, usize),
+    BlankClash(u16, usize),
+    EdgeDiffers(u16, usize),
+}
+
+// Whether the filled figure can be placed in the sheet.
+fn claim_filled(sheet: Normal, filled: Normal) -> Claimed
+    requires { ⌜ Ready sheet filled ⌝ }
+    ensures { λ r. ⌜ r ≡ placedClaim (smallest (netIn sheet) (netIn filled)) ⌝ }
+{
+    let found = smallest_placing(sheet, filled);
+    if found.ok {
+        return Claimed::Holds;
+    }
+    Claimed::Differs
+}
+
+// Texts that passed row by row. Too large a filled figure is no sheet.
+fn claim_read(sheet: Normal, figure: Sheet, heads: Sheet, list: &[u8]) -> Claimed
+    requires { ⌜ ((s : List ℕ) × ((f : List ℕ) × ClaimInputs sheet figure s f)) × (heads ≡ packed (listHeld (now list))) ⌝ }
+    ensures { λ r. ⌜ ((s f : List ℕ) → ClaimInputs sheet figure s f → r ≡ claimedAnswer s f (now (list .entry))) ⌝ }
+{
+    let clash = first_lacking(figure, heads);
+    if clash != 0 {
+        return Claimed::BlankClash(2, clash);
+    }
+    let other = first_differing(heads, list);
+    if other != 0 {
+        return Claimed::EdgeDiffers(3, other);
+    }
+    let filled = normal_filled(figure, list);
+    if Sheet::ATOMS < filled.atom_count {
+        return Claimed::Differs;
+    }
+    if Sheet::LINKS < filled.class_count {
+        return Claimed::Differs;
+    }
+    claim_filled(sheet, filled)
+}
+
+// The texts in task order, each row by row.
+pub fn claim(sheet: &[u8], figure: &[u8], list: &[u8]) -> Claimed
+    ensures { λ r. ⌜ r ≡ claimAnswer (now (sheet .entry)) (now (figure .entry)) (now (list .entry)) ⌝ }
+{
+    let first = read_sheet(sheet);
+    let one = first.answer;
+    let second = read_figure(figure);
+    let two = second.answer;
+    let third = read_list(list);
+    let three = third.answer;
+    match one {
+        Answer::Refused(why, row) => Claimed::Refused(1, why, row),
+        Answer::Passed => match two {
+            Answer::Refused(why, row) => Claimed::Refused(2, why, row),
+            Answer::Passed => match three {
+                Answer::Refused(why, row) => Claimed::Refused(3, why, row),
+                Answer::Passed => {
+                    let whole = first.sheet;
+                    let part = second.sheet;
+                    let heads = third.sheet;
+                    claim_read(normal_of(whole), part, heads, list)
+                }
+            },
+        },
+    }
+}

@@ -1,0 +1,56 @@
+// The task compare: whether two sheets are the same.
+use matching::search::smallest_placing;
+use sheet::answer::Answer;
+use sheet::answer::Refusal;
+use sheet::normal::Normal;
+use sheet::normal::normal_of;
+use sheet::read::read_sheet;
+ghost use mathlib.Core.Path.{_≡_};
+ghost use Rattle.rows.specs.Pick.{pick};
+ghost use Rattle.placing.specs.Smallest.{smallest};
+ghost use Rattle.network.specs.NetIn.{netIn};
+ghost use Rattle.network.specs.Ready.{Ready};
+ghost use Rattle.comparing.specs.Compare.{isPlaced, compareAnswer};
+
+// The two sheets are the same, or not; or an input, the first or the second, is refused at a row.
+pub enum Compared {
+    Same,
+    Differs,
+    Refused(u16, Refusal, usize),
+}
+
+// Whether the second can be placed in the first.
+fn compare_normals(sheet: Normal, other: Normal) -> Compared
+    requires { ⌜ Ready sheet other ⌝ }
+    ensures { λ r. ⌜ r ≡ pick (isPlaced (smallest (netIn sheet) (netIn other))) Compared.Same Compared.Differs ⌝ }
+{
+    let found = smallest_placing(sheet, other);
+    if found.ok {
+        return Compared::Same;
+    }
+    Compared::Differs
+}
+
+// The sheets in task order; a text that is refused is named with its row.
+pub fn compare(a: &[u8], b: &[u8]) -> Compared
+    ensures { λ r. ⌜ r ≡ compareAnswer (now (a .entry)) (now (b .entry)) ⌝ }
+{
+    let first = read_sheet(a);
+    let one = first.answer;
+    match one {
+        Answer::Refused(why, row) => Compared::Refused(1, why, row),
+        Answer::Passed => {
+            let second = read_sheet(b);
+            let two = second.answer;
+            match two {
+                Answer::Refused(why, row) => Compared::Refused(2, why, row),
+                Answer::Passed => {
+                    let sheet = first.sheet;
+                    let other = second.sheet;
+                    let normal = normal_of(sheet);
+                    compare_normals(normal, normal_of(other))
+                }
+            }
+        }
+    }
+}

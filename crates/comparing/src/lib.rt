@@ -1,0 +1,2 @@
+// Comparing two sheets.
+pub mod compare;

@@ -1,0 +1,173 @@
+-- The loops that set flags.
+use Prim.Native.Nat.{ℕ, suc, _+_, _-_, _≤_, _<_}
+use mathlib.Core.Path.{_≡_, refl, sym, _∙_, ap, subst}
+use mathlib.Core.Logic.{_≢_}
+use mathlib.Core.List.{List}
+use native.Mathlib.Decide.{decLt}
+use native.Mathlib.Omega.{arith}
+use native.Mathlib.Numerals.{add-one}
+use lib.ListN.{length, getD, set, replicate, length-set, length-replicate}
+use Rattle.rows.specs.Limits.{sheetAtoms, sheetLinks}
+use Rattle.rows.proofs.Padding.{getD-filled}
+use Rattle.sheet.specs.declared.normal.Normal as form
+use Rattle.placing.specs.Net.{Range}
+use Rattle.placing.specs.Placing.{numberAt}
+use Rattle.network.specs.NetIn.{Fit}
+use Rattle.network.specs.Ready.{Flag, AtomsIn}
+use Rattle.deciding.specs.Flags.{Among, Twice, Different, Opens}
+use Rattle.deciding.specs.Links.{Places}
+use Rattle.deciding.specs.Kinds.{StandingIn}
+use Rattle.deciding.proofs.Sets.{set-cases, below-cases}
+
+among-more : (l : List ℕ) (n j : ℕ) → Among l n j → Among l (n + 1) j
+among-more l n j t = (t .0, (let h : t .0 < n = t .1 in omega arith), t .2)
+
+-- a flag that no zero is
+no-flag : {A : Type 0} (n x : ℕ) → _≡_ {A = ℕ} (getD (replicate n 0) x 0) 1 → A
+no-flag n x e = absurd (omega (arith, getD-filled {A = ℕ} 0 n x))
+
+-- where a figure atom goes is the number of an atom
+pub atom-range : (sheet figure : form.Normal) → Fit sheet → (l : List ℕ) → AtomsIn sheet (figure .«atom_count») l → (i : ℕ) → i < figure .«atom_count» → Range sheetAtoms (getD l i 0)
+atom-range sheet figure f l a i h = let r = a .within i h in (r .0, omega (arith, r .1, f .atom-count))
+
+-- which atoms are taken
+module _ (l : List ℕ) where
+  pub different-start : (flags : List ℕ) → flags ≡ replicate sheetAtoms 0 → Different l 0 flags
+  different-start flags e = record {
+    room = ap length e ∙ length-replicate {A = ℕ} sheetAtoms 0;
+    apart = λ i j h k f. absurd (omega arith);
+    flag-of = λ i h. absurd (omega arith);
+    of-flag = λ j f. no-flag sheetAtoms j (ap (λ (k : List ℕ). getD k j 0) (sym e) ∙ f);
+  }
+
+  module _ (n : ℕ) (flags : List ℕ) (d : Different l n flags) (r : Range sheetAtoms (getD l n 0)) where
+    abbrev t : ℕ
+    t = getD l n 0 - 1
+
+    number : getD l n 0 ≡ suc t
+    number = omega (arith, r .0)
+
+    pub taken-twice : (m : ℕ) → n < m → getD flags t 0 ≡ 1 → Twice l m
+    taken-twice m h f = let w = d .of-flag t f in
+        record { one = w .0; two = n; one-in = (let u : w .0 < n = w .1 in omega arith); two-in = h; apart = λ e. (let u : w .0 < n = w .1 in omega arith); same = w .2 ∙ sym number }
+
+    pub different-next : getD flags t 0 ≢ 1 → Different l (n + 1) (set flags t 1)
+    different-next free = record {
+      room = length-set flags t 1 ∙ d .room;
+      apart = λ i j h k e. both i j (omega (arith, add-one n)) (omega (arith, add-one n)) e (decLt i n) (decLt j n);
+      flag-of = λ i h. below-cases (λ (k : ℕ). Flag (set flags t 1) (getD l k 0)) n i (omega (arith, add-one n)) (λ w. old (getD l i 0) (d .flag-of i w)) here;
+      of-flag = λ j. set-cases (λ (v : ℕ). v ≡ 1 → Among l (n + 1) (suc j)) flags t 1 j fits (λ e w. (n, omega arith, number ∙ ap suc (sym e))) (λ e w. among-more l n (suc j) (d .of-flag j w));
+    }
+      where
+        fits : t < length flags
+        fits = omega (arith, r .0, r .1, d .room)
+
+        old : (j : ℕ) → Flag flags j → Flag (set flags t 1) j
+        old j f = set-cases (λ (v : ℕ). v ≡ 1) flags t 1 (j - 1) fits (λ e. refl) (λ e. f)
+
+        here : Flag (set flags t 1) (getD l n 0)
+        here = set-cases (λ (v : ℕ). v ≡ 1) flags t 1 t fits (λ e. refl) (λ e. absurd (e refl))
+
+        new : (i : ℕ) → i < n → getD l i 0 ≢ getD l n 0
+        new i h e = free (ap (λ (k : ℕ). numberAt flags k) (sym e) ∙ d .flag-of i h)
+
+        both : (i j : ℕ) → i < suc n → j < suc n → getD l i 0 ≡ getD l j 0 → Dec (i < n) → Dec (j < n) → i ≡ j
+        both i j h k e (yes a) (yes b) = d .apart i j a b e
+        both i j h k e (yes a) (no b) = let f : j ≡ n = omega arith in absurd (new i a (e ∙ ap (λ (z : ℕ). getD l z 0) f))
+        both i j h k e (no a) (yes b) = let f : i ≡ n = omega arith in absurd (new j b (sym e ∙ ap (λ (z : ℕ). getD l z 0) f))
+        both i j h k e (no a) (no b) = omega arith
+
+-- which links stand in a row
+module _ (links : List ℕ) where
+  pub standing-start : (flags : List ℕ) → flags ≡ replicate sheetLinks 0 → StandingIn links 0 flags
+  standing-start flags e = record {
+    room = ap length e ∙ length-replicate {A = ℕ} sheetLinks 0;
+    small = λ x. omega (arith, ap (λ (k : List ℕ). getD k x 0) e, getD-filled {A = ℕ} 0 sheetLinks x);
+    flag-of = λ k x h f. absurd (omega arith);
+    of-flag = λ x f. no-flag sheetLinks x (ap (λ (k : List ℕ). getD k x 0) (sym e) ∙ f);
+  }
+
+  pub standing-next : (count : ℕ) → Places count links → (k : ℕ) → k < count → (flags : List ℕ) → StandingIn links k flags → StandingIn links (k + 1) (set flags (getD links k 0 - 1) 1)
+  standing-next count p k h flags s = record {
+    room = length-set flags x 1 ∙ s .room;
+    small = λ z. set-cases (λ (v : ℕ). v ≤ 1) flags x 1 z fits (λ e. omega arith) (λ e. s .small z);
+    flag-of = λ i z u f. set-cases (λ (v : ℕ). v ≡ 1) flags x 1 z fits (λ e. refl) (λ e. s .flag-of i z (before i z u f e (decLt i k)) f);
+    of-flag = λ z. set-cases (λ (v : ℕ). v ≡ 1 → Among links (k + 1) (suc z)) flags x 1 z fits (λ e w. (k, omega arith, number ∙ ap suc (sym e))) (λ e w. among-more links k (suc z) (s .of-flag z w));
+  }
+    where
+      x : ℕ
+      x = getD links k 0 - 1
+
+      number : getD links k 0 ≡ suc (getD links k 0 - 1)
+      number = omega (arith, p .numbered k h)
+
+      fits : getD links k 0 - 1 < length flags
+      fits = omega (arith, p .numbered k h, s .room)
+
+      before : (i z : ℕ) → i < k + 1 → getD links i 0 ≡ suc z → z ≢ getD links k 0 - 1 → Dec (i < k) → i < k
+      before i z u f d (yes w) = w
+      before i z u f d (no w) = let e : i ≡ k = omega arith in absurd (d (let g : getD links k 0 ≡ suc z = ap (λ (j : ℕ). getD links j 0) (sym e) ∙ f in omega arith))
+
+-- which links are open: those up to n are done
+pub record Opening (l : List ℕ) (none n : ℕ) (to flags : List ℕ) : Type 0 where
+  pub opens : Opens l none n to flags
+  pub rest : (z : ℕ) → n ≤ z → (getD to z 0 ≡ getD l z 0) × (getD flags z 0 ≡ 0)
+
+pub opening-same : {l to to′ flags flags′ : List ℕ} {none n : ℕ} → to′ ≡ to → flags′ ≡ flags → Opening l none n to flags → Opening l none n to′ flags′
+opening-same {l} {to} {to′} {flags} {flags′} {none} {n} e f o = subst (λ (k : List ℕ). Opening l none n to′ k) (sym f) (subst (λ (k : List ℕ). Opening l none n k flags) (sym e) o)
+
+module _ (l : List ℕ) (none : ℕ) (room : length l ≡ sheetLinks) where
+  pub opening-start : (flags : List ℕ) → flags ≡ replicate sheetLinks 0 → Opening l none 0 l flags
+  opening-start flags e = record {
+    opens = record { to-room = room; flags-room = ap length e ∙ length-replicate {A = ℕ} sheetLinks 0; kept = λ x h n. absurd (omega arith); opened = λ x h n. absurd (omega arith) };
+    rest = λ z h. (refl, ap (λ (k : List ℕ). getD k z 0) e ∙ getD-filled {A = ℕ} 0 sheetLinks z);
+  }
+
+  module _ (n : ℕ) (to flags : List ℕ) (o : Opening l none n to flags) (small : n < sheetLinks) where
+    -- an open link
+    pub opening-open : getD to n 0 ≡ 0 → Opening l none (n + 1) (set to n none) (set flags n 1)
+    opening-open e = record {
+      opens = record {
+        to-room = length-set to n none ∙ o .opens .to-room;
+        flags-room = length-set flags n 1 ∙ o .opens .flags-room;
+        kept = λ x h d. below-cases (λ (i : ℕ). getD l i 0 ≢ 0 → (getD (set to n none) i 0 ≡ getD l i 0) × (getD (set flags n 1) i 0 ≡ 0)) n x (omega (arith, add-one n))
+            (λ w c. (other x w (o .opens .kept x w c .0), unflagged x w (o .opens .kept x w c .1))) (λ c. absurd (c (sym (o .rest n (omega arith) .0) ∙ e))) d;
+        opened = λ x h d. below-cases (λ (i : ℕ). getD l i 0 ≡ 0 → (getD (set to n none) i 0 ≡ none) × (getD (set flags n 1) i 0 ≡ 1)) n x (omega (arith, add-one n))
+            (λ w c. (other′ x w (o .opens .opened x w c .0), unflagged′ x w (o .opens .opened x w c .1)))
+            (λ c. (set-cases (λ (v : ℕ). v ≡ none) to n none n fits (λ f. refl) (λ f. absurd (f refl)), set-cases (λ (v : ℕ). v ≡ 1) flags n 1 n fits′ (λ f. refl) (λ f. absurd (f refl)))) d;
+      };
+      rest = λ z h. (
+        set-cases (λ (v : ℕ). v ≡ getD l z 0) to n none z fits (λ f. absurd (omega arith)) (λ f. o .rest z (omega arith) .0),
+        set-cases (λ (v : ℕ). v ≡ 0) flags n 1 z fits′ (λ f. absurd (omega arith)) (λ f. o .rest z (omega arith) .1),
+      );
+    }
+      where
+        fits : n < length to
+        fits = omega (arith, o .opens .to-room)
+
+        fits′ : n < length flags
+        fits′ = omega (arith, o .opens .flags-room)
+
+        other : (x : ℕ) → x < n → getD to x 0 ≡ getD l x 0 → getD (set to n none) x 0 ≡ getD l x 0
+        other x w f = set-cases (λ (v : ℕ). v ≡ getD l x 0) to n none x fits (λ g. absurd (omega arith)) (λ g. f)
+
+        other′ : (x : ℕ) → x < n → getD to x 0 ≡ none → getD (set to n none) x 0 ≡ none
+        other′ x w f = set-cases (λ (v : ℕ). v ≡ none) to n none x fits (λ g. refl) (λ g. f)
+
+        unflagged : (x : ℕ) → x < n → getD flags x 0 ≡ 0 → getD (set flags n 1) x 0 ≡ 0
+        unflagged x w f = set-cases (λ (v : ℕ). v ≡ 0) flags n 1 x fits′ (λ g. absurd (omega arith)) (λ g. f)
+
+        unflagged′ : (x : ℕ) → x < n → getD flags x 0 ≡ 1 → getD (set flags n 1) x 0 ≡ 1
+        unflagged′ x w f = set-cases (λ (v : ℕ). v ≡ 1) flags n 1 x fits′ (λ g. refl) (λ g. f)
+
+    -- a link that is decided
+    pub opening-keep : getD to n 0 ≢ 0 → Opening l none (n + 1) to flags
+    opening-keep d = record {
+      opens = record {
+        to-room = o .opens .to-room;
+        flags-room = o .opens .flags-room;
+        kept = λ x h. below-cases (λ (i : ℕ). getD l i 0 ≢ 0 → (getD to i 0 ≡ getD l i 0) × (getD flags i 0 ≡ 0)) n x (omega (arith, add-one n)) (λ w. o .opens .kept x w) (λ c. o .rest n (omega arith));
+        opened = λ x h. below-cases (λ (i : ℕ). getD l i 0 ≡ 0 → (getD to i 0 ≡ none) × (getD flags i 0 ≡ 1)) n x (omega (arith, add-one n)) (λ w. o .opens .opened x w) (λ c. absurd (d (o .rest n (omega arith) .0 ∙ c)));
+      };
+      rest = λ z h. o .rest z (omega arith);
+    }

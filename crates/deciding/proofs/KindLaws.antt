@@ -1,0 +1,102 @@
+-- Links with the same number are on the same contexts.
+use Prim.Native.Nat.{ℕ, zero, suc, _+_, _≤_, _<_}
+use mathlib.Core.Path.{_≡_, sym, _∙_, ap, subst}
+use mathlib.Core.List.{List}
+use native.Mathlib.Decide.{decLt}
+use native.Mathlib.Omega.{arith}
+use lib.ListN.{length, getD, take, set, replicate, length-set, length-replicate}
+use Rattle.hyperlmntal.specs.Link.{_∈_}
+use Rattle.rows.specs.Limits.{sheetLinks, figureContexts}
+use Rattle.rows.proofs.Padding.{getD-filled}
+use Rattle.sheet.specs.declared.normal.Normal as form
+use Rattle.placing.specs.Net.{NetCell}
+use Rattle.placing.proofs.Lists.{member-at, getD-of}
+use Rattle.network.specs.NetIn.{contextIn, contextAt, Used, Fit}
+use Rattle.network.proofs.NetIn.{used-length, used-at, used-in, context-of}
+use Rattle.deciding.specs.Flags.{Among}
+use Rattle.deciding.specs.Links.{Places}
+use Rattle.deciding.specs.Kinds.{StandingIn, doubledBy, Doubled, twoTo, KindsTo, KindsIn}
+use Rattle.deciding.proofs.Sets.{set-cases}
+
+pub doubled-next : (kinds flags next : List ℕ) → length next ≡ sheetLinks → (x : ℕ) → x < sheetLinks → ((z : ℕ) → z < x → getD next z 0 ≡ doubledBy kinds flags z)
+    → (v : ℕ) → v ≡ getD flags x 0
+    → (length (set next x (getD kinds x 0 + getD kinds x 0 + v)) ≡ sheetLinks) × ((z : ℕ) → z < x + 1 → getD (set next x (getD kinds x 0 + getD kinds x 0 + v)) z 0 ≡ doubledBy kinds flags z)
+doubled-next kinds flags next room x h below v e = (
+  length-set next x w ∙ room,
+  λ z k. set-cases (λ (u : ℕ). u ≡ doubledBy kinds flags z) next x w z (omega arith)
+      (λ f. ap (λ (u : ℕ). getD kinds x 0 + getD kinds x 0 + u) e ∙ ap (λ (i : ℕ). doubledBy kinds flags i) (sym f)) (λ f. below z (apart z k f (decLt z x))),
+)
+  where
+    w : ℕ
+    w = getD kinds x 0 + getD kinds x 0 + v
+
+    apart : (z : ℕ) → z < x + 1 → ¬ (z ≡ x) → Dec (z < x) → z < x
+    apart z k f (yes u) = u
+    apart z k f (no u) = absurd (f (omega arith))
+
+-- two to the power of c grows
+pub two-more : (c d : ℕ) → c ≤ d → twoTo c ≤ twoTo d
+two-more c zero h = let e : 0 ≡ c = omega arith in subst (λ (i : ℕ). twoTo i ≤ 1) e (omega arith)
+two-more c (suc d) h = go (decLt c (suc d)) (λ k. two-more c d k)
+  where
+    go : Dec (c < suc d) → (c ≤ d → twoTo c ≤ twoTo d) → twoTo c ≤ twoTo d + twoTo d
+    go (yes k) r = let u : twoTo c ≤ twoTo d = r (omega arith) in omega arith
+    go (no k) r = let e : suc d ≡ c = omega arith in subst (λ (i : ℕ). twoTo i ≤ twoTo d + twoTo d) e (omega arith)
+
+-- the links of a context that are used
+pub places-of : (n count : ℕ) (links : List ℕ) → n ≤ sheetLinks → Used n count links → Places count links
+places-of n count links few u = record { few = u .few; numbered = λ k h. let r = u .numbered k h in (r .0, omega (arith, r .1)) }
+
+module _ (figure : form.Normal) (fit : Fit figure) where
+  pub kinds-start : (l : List ℕ) → l ≡ replicate sheetLinks 0 → KindsTo figure 0 l
+  kinds-start l e = record {
+    room = ap length e ∙ length-replicate {A = ℕ} sheetLinks 0;
+    small = λ x h. omega (arith, ap (λ (k : List ℕ). getD k x 0) e, getD-filled {A = ℕ} 0 sheetLinks x);
+    same = λ x z i h k f u. absurd (omega arith);
+  }
+
+  pub row-places : (c : ℕ) → c < figure .«context_count» → Places (contextAt figure c .count) (contextAt figure c .links)
+  row-places c h = places-of (figure .«class_count») (contextAt figure c .count) (contextAt figure c .links) (fit .class-count) (fit .contexts c h)
+
+  module _ (c : ℕ) (l flags : List ℕ) (k : KindsTo figure c l) (s : StandingIn (contextAt figure c .links) (contextAt figure c .count) flags) (less : c < figure .«context_count») where
+    pub kinds-small : (x : ℕ) → x < sheetLinks → (getD l x 0 < 256) × (getD flags x 0 ≤ 1)
+    kinds-small x h = (omega (arith, k .small x h, two-more c figureContexts (omega (arith, fit .context-count))), s .small x)
+
+    pub kinds-next : (r : List ℕ) → Doubled l flags r → KindsTo figure (suc c) r
+    kinds-next r d = record {
+      room = d .room;
+      small = λ x h. omega (arith, d .each x h, k .small x h, s .small x);
+      same = λ x z i h u e w m. go x z i h u e m (decLt i c) w;
+    }
+      where
+        parts : (x z : ℕ) → x < sheetLinks → z < sheetLinks → getD r x 0 ≡ getD r z 0 → (getD l x 0 ≡ getD l z 0) × (getD flags x 0 ≡ getD flags z 0)
+        parts x z h u e = let a = d .each x h in let b = d .each z u in let v = s .small x in let w = s .small z in (omega arith, omega arith)
+
+        go : (x z i : ℕ) → x < sheetLinks → z < sheetLinks → getD r x 0 ≡ getD r z 0
+            → Among (contextAt figure i .links) (contextAt figure i .count) (suc x) → Dec (i < c) → i < suc c → Among (contextAt figure i .links) (contextAt figure i .count) (suc z)
+        go x z i h u e m (yes b) w = k .same x z i h u (parts x z h u e .0) b m
+        go x z i h u e m (no b) w =
+            let q : c ≡ i = omega arith in
+            let t = subst (λ (j : ℕ). Among (contextAt figure j .links) (contextAt figure j .count) (suc x)) (sym q) m in
+            subst (λ (j : ℕ). Among (contextAt figure j .links) (contextAt figure j .count) (suc z)) q
+            (s .of-flag z (sym (parts x z h u e .1) ∙ s .flag-of (t .0) x (t .1) (t .2)))
+
+  -- a link of a context, by its place
+  among-in : (i : ℕ) → i < figure .«context_count» → (y : ℕ) → Among (contextAt figure i .links) (contextAt figure i .count) y → y ∈ contextIn (contextAt figure i) .1
+  among-in i h y t = subst (λ (z : ℕ). z ∈ contextIn (contextAt figure i) .1) (t .2) (used-in (figure .«class_count») (contextAt figure i .count) (contextAt figure i .links) (fit .contexts i h) (t .0) (t .1))
+
+  in-among : (i : ℕ) → i < figure .«context_count» → (y : ℕ) → y ∈ contextIn (contextAt figure i) .1 → Among (contextAt figure i .links) (contextAt figure i .count) y
+  in-among i h y m =
+      let links = contextAt figure i .links in
+      let count = contextAt figure i .count in
+      let u = fit .contexts i h in
+      let t = member-at (take count links) y m in
+      let k : t .0 < count = omega (arith, t .1, used-length (figure .«class_count») count links u) in
+      (t .0, k, sym (used-at (figure .«class_count») count links u (t .0) k) ∙ getD-of (take count links) (t .0) 0 y (t .2))
+
+  pub kinds-end : (l : List ℕ) → KindsTo figure (figure .«context_count») l → KindsIn figure l
+  kinds-end l k = record { room = k .room; same = λ x z h u e row m. (one x z h u e row (context-of figure fit row m), one z x u h (sym e) row (context-of figure fit row m)) }
+    where
+      one : (x z : ℕ) → x < sheetLinks → z < sheetLinks → getD l x 0 ≡ getD l z 0 → (row : NetCell) → (i : ℕ) × (i < figure .«context_count») × (contextIn (contextAt figure i) ≡ row) → suc x ∈ row .1 → suc z ∈ row .1
+      one x z h u e row (i, w, f) m = subst (λ (c : NetCell). suc z ∈ c .1) f (among-in i w (suc z)
+          (k .same x z i h u e w (in-among i w (suc x) (subst (λ (c : NetCell). suc x ∈ c .1) (sym f) m))))

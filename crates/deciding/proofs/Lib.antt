@@ -1,0 +1,7 @@
+pub mod Sets
+pub mod Places
+pub mod Flagged
+pub mod FlagLaws
+pub mod KindLaws
+pub mod Telling
+pub mod MarkLaws

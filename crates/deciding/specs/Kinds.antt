@@ -1,0 +1,40 @@
+-- A number for each figure link, such that links with the same number are on the same contexts.
+use Prim.Native.Nat.{ℕ, zero, suc, _+_, _≤_, _<_}
+use mathlib.Core.Path.{_≡_}
+use mathlib.Core.List.{List}
+use lib.ListN.{length, getD}
+use Rattle.rows.specs.Limits.{sheetLinks}
+use Rattle.sheet.specs.declared.normal.Normal as form
+use Rattle.network.specs.NetIn.{netIn, contextAt}
+use Rattle.completing.specs.Completion.{SameContexts}
+use Rattle.deciding.specs.Flags.{Among}
+
+-- 1 for each link, from 0, that is among the first `count`, else 0
+pub record StandingIn (links : List ℕ) (count : ℕ) (r : List ℕ) : Type 0 where
+  pub room : length r ≡ sheetLinks
+  pub small : (x : ℕ) → getD r x 0 ≤ 1
+  pub flag-of : (k x : ℕ) → k < count → getD links k 0 ≡ suc x → getD r x 0 ≡ 1
+  pub of-flag : (x : ℕ) → getD r x 0 ≡ 1 → Among links count (suc x)
+
+abbrev pub doubledBy : List ℕ → List ℕ → ℕ → ℕ
+doubledBy l flags x = getD l x 0 + getD l x 0 + getD flags x 0
+
+pub record Doubled (l flags r : List ℕ) : Type 0 where
+  pub room : length r ≡ sheetLinks
+  pub each : (x : ℕ) → x < sheetLinks → getD r x 0 ≡ doubledBy l flags x
+
+-- two to the power of c
+abbrev pub twoTo : ℕ → ℕ
+twoTo zero = 1
+twoTo (suc c) = twoTo c + twoTo c
+
+-- the numbers by the first c contexts
+pub record KindsTo (figure : form.Normal) (c : ℕ) (l : List ℕ) : Type 0 where
+  pub room : length l ≡ sheetLinks
+  pub small : (x : ℕ) → x < sheetLinks → getD l x 0 < twoTo c
+  pub same : (x z i : ℕ) → x < sheetLinks → z < sheetLinks → getD l x 0 ≡ getD l z 0 → i < c
+      → Among (contextAt figure i .links) (contextAt figure i .count) (suc x) → Among (contextAt figure i .links) (contextAt figure i .count) (suc z)
+
+pub record KindsIn (figure : form.Normal) (l : List ℕ) : Type 0 where
+  pub room : length l ≡ sheetLinks
+  pub same : (x z : ℕ) → x < sheetLinks → z < sheetLinks → getD l x 0 ≡ getD l z 0 → SameContexts (netIn figure) (suc x) (suc z)

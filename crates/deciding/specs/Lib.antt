@@ -1,0 +1,4 @@
+pub mod Agrees
+pub mod Flags
+pub mod Kinds
+pub mod Links

@@ -1,0 +1,45 @@
+-- Blanks that have fillings: those of a pattern have the fillings that fit it.
+use Prim.Native.Nat.{ℕ, suc}
+use mathlib.Core.Path.{_≡_, refl, ap, sym, _∙_, subst}
+use mathlib.Core.List.{List, [], _∷_, List·Memᴰ·head, List·Memᴰ·tail, Memᴰ·map, Memᴰ·of-map}
+use mathlib.Core.Bool.{Bool, true, false}
+use native.Mathlib.Omega.{arith}
+use borrow.Author.Tests.{eqb-true}
+use lib.Dec.{eqb}
+use Rattle.hyperlmntal.specs.Link.{_∈_}
+use Rattle.rows.specs.Pick.{pick}
+use Rattle.rows.specs.Packed.{portsOf}
+use Rattle.rows.specs.declared.Context.{Context}
+use Rattle.sheet.proofs.read.Ranges.{Every}
+use Rattle.texts.proofs.BuiltRows.{every-in}
+use Rattle.placing.specs.Net.{NetCell, normalNet}
+use Rattle.placing.specs.Fillings.{Filling, Fits}
+use Rattle.placing.proofs.NormalTexts.{netBlank, textBlank}
+use Rattle.placing.proofs.Theorems.{pattern-blanks}
+use Rattle.finding.specs.Place.{patternHeld}
+
+-- A filling of this blank's number and port count.
+abbrev pub Covering : List Filling → Context → Type 0
+Covering θ c = (f : Filling) × (f ∈ θ) × (f .number ≡ c .number) × (f .ports ≡ c .count)
+
+-- The first context of a number.
+pub ports-found : (l : List Context) (x n : ℕ) → portsOf l x ≡ suc n → (d : Context) × (d ∈ l) × (d .number ≡ x) × (d .count ≡ n)
+unfolding portsOf
+ports-found [] x n e = absurd (omega arith)
+ports-found (c ∷ l) x n e = go (eqb (c .number) x) refl e (ports-found l x n)
+  where
+    go : (b : Bool) → eqb (c .number) x ≡ b → pick b (suc (c .count)) (portsOf l x) ≡ suc n
+        → (portsOf l x ≡ suc n → (d : Context) × (d ∈ l) × (d .number ≡ x) × (d .count ≡ n)) → (d : Context) × (d ∈ (c ∷ l)) × (d .number ≡ x) × (d .count ≡ n)
+    go true q r ih = (c, List·Memᴰ·head refl, eqb-true (c .number) x q, omega arith)
+    go false q r ih = let t = ih r in (t .0, List·Memᴰ·tail (t .1), t .2, t .3)
+
+module _ (pattern : List ℕ) (θ : List Filling) (fit : Fits (normalNet (patternHeld pattern)) θ) where
+  pub one-covers : (c : Context) → c ∈ patternHeld pattern .contexts → Covering θ c
+  one-covers c m =
+      let t : (d : NetCell) × (d ∈ normalNet (patternHeld pattern) .contexts) × (netBlank d ≡ textBlank c) =
+      Memᴰ·of-map netBlank (normalNet (patternHeld pattern) .contexts) (subst (λ l. textBlank c ∈ l) (sym (pattern-blanks pattern)) (Memᴰ·map textBlank m)) in
+      let f = fit .for-each (t .0) (t .1) in
+      (f .0, f .1, f .2 ∙ ap (λ q. q .0) (t .2), f .3 ∙ ap (λ q. q .1) (t .2))
+
+  pub pattern-covered : Every (Covering θ) (patternHeld pattern .contexts)
+  pattern-covered = every-in (Covering θ) (patternHeld pattern .contexts) one-covers

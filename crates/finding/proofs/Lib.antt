@@ -1,0 +1,4 @@
+-- Blanks that have fillings.
+pub mod Blanks
+-- The code.
+pub mod PlaceCode

@@ -1,0 +1,2 @@
+// Finding a pattern in a sheet, and its fillings.
+pub mod place;

@@ -1,0 +1,168 @@
+-- The laws of labels that ties join.
+use Prim.Native.Nat.{ℕ, suc, _+_, _-_, _≤_, _<_}
+use mathlib.Core.Path.{_≡_, refl, sym, _∙_, ap, subst}
+use mathlib.Core.Logic.{_⊎_, inl, inr}
+use mathlib.Core.List.{List}
+use native.Mathlib.Decide.{ℕ-discrete}
+use native.Mathlib.Omega.{arith}
+use lib.ListN.{length, getD, set, length-set}
+use Rattle.rows.specs.Held.{relabelled}
+use Rattle.rows.specs.Limits.{sheetLinks}
+use Rattle.sheet.specs.declared.normal.Normal as form
+use Rattle.placing.specs.Net.{Range}
+use Rattle.placing.specs.Placing.{numberAt}
+use Rattle.placing.proofs.Joined.{relabelled-hit, relabelled-miss}
+use Rattle.completing.specs.Reach.{Reach, stay, move}
+use Rattle.completing.proofs.Reaching.{reach-then}
+use Rattle.stepping.specs.Labels.{Tie, Sound, Grew, Tied}
+use Rattle.stepping.proofs.Tables.{below-set, above-set, below-next}
+
+pub relabelled-same : (from to c : ℕ) → to ≡ from → relabelled from to c ≡ c
+relabelled-same from to c e = go (ℕ-discrete c from)
+  where
+    go : Dec (c ≡ from) → relabelled from to c ≡ c
+    go (yes q) = relabelled-hit from to c q ∙ e ∙ sym q
+    go (no q) = relabelled-miss from to c q
+
+-- a tie holds both ways
+pub tie-back : (figure : form.Normal) (to : List ℕ) (x z : ℕ) → Tie figure to x z → Tie figure to z x
+tie-back figure to x z t = record {
+  row = t .row;
+  first = t .second;
+  second = t .first;
+  row-in = t .row-in;
+  first-in = t .second-in;
+  second-in = t .first-in;
+  one = t .two;
+  two = t .one;
+  together = sym (t .together);
+}
+
+-- Links a and b, from 0, are joined.
+module _ (labels next : List ℕ) (a b : ℕ) (ra : a < sheetLinks) (rb : b < sheetLinks)
+    (new : (x : ℕ) → x < sheetLinks → getD next x 0 ≡ relabelled (getD labels b 0) (getD labels a 0) (getD labels x 0)) where
+  pub joined-kept : (x z : ℕ) → x < sheetLinks → z < sheetLinks → getD labels x 0 ≡ getD labels z 0 → getD next x 0 ≡ getD next z 0
+  joined-kept x z h k e = new x h ∙ ap (relabelled (getD labels b 0) (getD labels a 0)) e ∙ sym (new z k)
+
+  pub joined-one : getD next a 0 ≡ getD next b 0
+  joined-one = new a ra ∙ go (ℕ-discrete (getD labels a 0) (getD labels b 0)) ∙ sym (relabelled-hit (getD labels b 0) (getD labels a 0) (getD labels b 0) refl) ∙ sym (new b rb)
+    where
+      go : Dec (getD labels a 0 ≡ getD labels b 0) → relabelled (getD labels b 0) (getD labels a 0) (getD labels a 0) ≡ getD labels a 0
+      go (yes q) = relabelled-hit _ _ _ q
+      go (no q) = relabelled-miss _ _ _ q
+
+  pub joined-sound : (figure : form.Normal) (to : List ℕ) → Tie figure to (suc a) (suc b) → Sound figure to labels → Sound figure to next
+  joined-sound figure to t s x z h k e = at (ℕ-discrete (getD labels x 0) (getD labels b 0)) (ℕ-discrete (getD labels z 0) (getD labels b 0))
+    where
+      R : ℕ → ℕ → Type 0
+      R = Tie figure to
+
+      both : relabelled (getD labels b 0) (getD labels a 0) (getD labels x 0) ≡ relabelled (getD labels b 0) (getD labels a 0) (getD labels z 0)
+      both = sym (new x h) ∙ e ∙ new z k
+
+      back : Reach R (suc b) (suc a)
+      back = move (tie-back figure to (suc a) (suc b) t) stay
+
+      at : Dec (getD labels x 0 ≡ getD labels b 0) → Dec (getD labels z 0 ≡ getD labels b 0) → Reach R (suc x) (suc z)
+      at (yes i) (yes j) = s x z h k (i ∙ sym j)
+      at (yes i) (no j) = reach-then R (s x b h rb i) (reach-then R back (s a z ra k (sym (relabelled-hit _ _ _ i) ∙ both ∙ relabelled-miss _ _ _ j)))
+      at (no i) (yes j) = reach-then R (s x a h ra (sym (relabelled-miss _ _ _ i) ∙ both ∙ relabelled-hit _ _ _ j)) (reach-then R (move t stay) (s b z rb k (sym j)))
+      at (no i) (no j) = s x z h k (sym (relabelled-miss _ _ _ i) ∙ both ∙ relabelled-miss _ _ _ j)
+
+module _ (to ports : List ℕ) (count : ℕ) where
+  pub grew-same : (l : List ℕ) → Grew to ports count l l
+  grew-same l = record { kept = λ x z h k e. e; sound = λ f r i j k s. s }
+
+  pub grew-then : (l m n : List ℕ) → Grew to ports count l m → Grew to ports count m n → Grew to ports count l n
+  grew-then l m n f g = record {
+    kept = λ x z h k e. g .kept x z h k (f .kept x z h k e);
+    sound = λ figure row i j k s. g .sound figure row i j k (f .sound figure row i j k s);
+  }
+
+  -- ports that were tied stay tied
+  pub tied-kept : ((k : ℕ) → k < count → Range sheetLinks (getD ports k 0)) → (l m : List ℕ)
+      → ((x z : ℕ) → x < sheetLinks → z < sheetLinks → getD l x 0 ≡ getD l z 0 → getD m x 0 ≡ getD m z 0)
+      → (k : ℕ) → k < count → Tied to ports count l k → Tied to ports count m k
+  tied-kept r l m g k h t i n e =
+      let a = r i n in let b = r k h in
+      g (getD ports i 0 - 1) (getD ports k 0 - 1) (omega (arith, a .0, a .1)) (omega (arith, b .0, b .1)) (t i n e)
+
+  -- two ports that go to one sheet link are joined
+  pub grew-joined : (at k : ℕ) → at < count → k < count → Range sheetLinks (getD ports at 0) → Range sheetLinks (getD ports k 0)
+      → numberAt to (getD ports k 0) ≡ numberAt to (getD ports at 0) → (labels next : List ℕ)
+      → ((x : ℕ) → x < sheetLinks → getD next x 0 ≡ relabelled (numberAt labels (getD ports k 0)) (numberAt labels (getD ports at 0)) (getD labels x 0))
+      → Grew to ports count labels next
+  grew-joined at k ha hk ra rk e labels next new = record {
+    kept = joined-kept labels next (a - 1) (b - 1) ia ib new;
+    sound = λ figure row i c p. joined-sound labels next (a - 1) (b - 1) ia ib new figure to (record {
+      row = row;
+      first = at;
+      second = k;
+      row-in = i;
+      first-in = omega arith;
+      second-in = omega arith;
+      one = ap (λ (l : List ℕ). getD l at 0) p ∙ up a ra;
+      two = ap (λ (l : List ℕ). getD l k 0) p ∙ up b rk;
+      together = ap (λ (c : ℕ). getD to c 0) (down a) ∙ sym e ∙ sym (ap (λ (c : ℕ). getD to c 0) (down b));
+    });
+  }
+    where
+      a : ℕ
+      a = getD ports at 0
+
+      b : ℕ
+      b = getD ports k 0
+
+      ia : a - 1 < sheetLinks
+      ia = omega (arith, ra .0, ra .1)
+
+      ib : b - 1 < sheetLinks
+      ib = omega (arith, rk .0, rk .1)
+
+      up : (c : ℕ) → Range sheetLinks c → c ≡ suc (c - 1)
+      up c r = let h : 1 ≤ c = r .0 in omega arith
+
+      down : (c : ℕ) → suc (c - 1) - 1 ≡ c - 1
+      down c = omega arith
+
+  -- one port more
+  module _ (at k : ℕ) (ha : at < count) (hk : k < count) (r : (i : ℕ) → i < count → Range sheetLinks (getD ports i 0)) where
+    abbrev Same : List ℕ → ℕ → Type 0
+    Same l i = numberAt to (getD ports i 0) ≡ numberAt to (getD ports at 0) → numberAt l (getD ports i 0) ≡ numberAt l (getD ports at 0)
+
+    pub port-step : (labels next m : List ℕ) → Grew to ports count labels next → ((i : ℕ) → i < k → Same next i)
+        → ((numberAt to (getD ports k 0) ≡ numberAt to (getD ports at 0))
+        × ((x : ℕ) → x < sheetLinks → getD m x 0 ≡ relabelled (numberAt next (getD ports k 0)) (numberAt next (getD ports at 0)) (getD next x 0)))
+        ⊎ ((¬ (numberAt to (getD ports k 0) ≡ numberAt to (getD ports at 0))) × (m ≡ next))
+        → Grew to ports count labels m × ((i : ℕ) → i < k + 1 → Same m i)
+    port-step labels next m g f (inl w) = (
+      grew-then labels next m g new,
+      below-next (Same m) k
+          (λ i h e. let a = r i (omega arith) in let b = r at ha in new .kept (getD ports i 0 - 1) (getD ports at 0 - 1) (omega (arith, a .0, a .1)) (omega (arith, b .0, b .1)) (f i h e))
+          (λ e. let a = r at ha in let b = r k hk in sym (joined-one next m (getD ports at 0 - 1) (getD ports k 0 - 1) (omega (arith, a .0, a .1)) (omega (arith, b .0, b .1)) (w .1))),
+    )
+      where
+        new : Grew to ports count next m
+        new = grew-joined at k ha hk (r at ha) (r k hk) (w .0) next m (w .1)
+    port-step labels next m g f (inr w) = (
+      subst (Grew to ports count labels) (sym (w .1)) g,
+      below-next (Same m) k
+          (λ i h. subst (λ (l : List ℕ). Same l i) (sym (w .1)) (f i h)) (λ e. absurd (w .0 e)),
+    )
+
+-- each link its own label
+pub own-sound : (figure : form.Normal) (to labels : List ℕ) → ((x : ℕ) → x < sheetLinks → getD labels x 0 ≡ x + 1) → Sound figure to labels
+own-sound figure to labels f x z h k e =
+    let p = f x h in let q = f z k in
+    let i : suc x ≡ suc z = omega arith in
+    subst (Reach (Tie figure to) (suc x)) i stay
+
+-- one link more, whose label may change
+module _ (from to : ℕ) (start l : List ℕ) (x : ℕ) (h : x < length l)
+    (below : (i : ℕ) → i < x → getD l i 0 ≡ relabelled from to (getD start i 0)) (above : (i : ℕ) → x ≤ i → getD l i 0 ≡ getD start i 0) where
+  pub relabel-step : (m : List ℕ) → ((getD l x 0 ≡ from) × (m ≡ set l x to)) ⊎ ((¬ (getD l x 0 ≡ from)) × (m ≡ l))
+      → (length m ≡ length l) × ((i : ℕ) → i < x + 1 → getD m i 0 ≡ relabelled from to (getD start i 0)) × ((i : ℕ) → x + 1 ≤ i → getD m i 0 ≡ getD start i 0)
+  relabel-step m (inl w) = subst (λ (n : List ℕ). (length n ≡ length l) × ((i : ℕ) → i < x + 1 → getD n i 0 ≡ relabelled from to (getD start i 0)) × ((i : ℕ) → x + 1 ≤ i → getD n i 0 ≡ getD start i 0)) (sym (w .1))
+      (simp length-set, below-set (λ i v. v ≡ relabelled from to (getD start i 0)) l x to h below (sym (relabelled-hit from to (getD start x 0) (sym (above x (omega arith)) ∙ w .0))), λ i k. above-set l x to i k ∙ above i (omega arith))
+  relabel-step m (inr w) = subst (λ (n : List ℕ). (length n ≡ length l) × ((i : ℕ) → i < x + 1 → getD n i 0 ≡ relabelled from to (getD start i 0)) × ((i : ℕ) → x + 1 ≤ i → getD n i 0 ≡ getD start i 0)) (sym (w .1))
+      (refl, below-next (λ i. getD l i 0 ≡ relabelled from to (getD start i 0)) x below (above x (omega arith) ∙ sym (relabelled-miss from to (getD start x 0) (λ e. w .0 (above x (omega arith) ∙ e)))), λ i k. above i (omega arith))

@@ -1,0 +1,11 @@
+-- Arrays as flags and tables.
+pub mod Tables
+pub mod Rows
+pub mod Reading
+-- Contexts that are left.
+pub mod Least
+-- Labels of figure links.
+pub mod Labels
+pub mod Owners
+pub mod Linking
+pub mod Tearing

@@ -1,0 +1,50 @@
+-- Invariant: the ports so far have their labels.
+use borrow.Author.Needs.{needs}
+use Prim.Native.Nat.{ℕ, _-_, _≤_, _<_}
+use mathlib.Core.Path.{_≡_}
+use native.Mathlib.Omega.{arith}
+use lib.ListN.{length}
+use Rattle.rows.specs.Limits.{sheetLinks}
+use Rattle.stepping.specs.Labels.{Grew, Tied}
+use Rattle.stepping.proofs.Labels.{grew-same, grew-then, tied-kept}
+use Rattle.stepping.proofs.Tables.{below-next}
+use Rattle.stepping.proofs.steps.with_context.Statement.{statement}
+use Rattle.stepping.proofs.steps.with_context.Tie as tie
+
+abbrev Inv-loop : tie.InvT-loop
+Inv-loop labels₀ to ports count k₀ labels k = (k ≤ count) × (length labels ≡ sheetLinks) × Grew to ports count labels₀ labels × ((i : ℕ) → i < k → Tied to ports count labels i)
+
+abbrev μ-loop : tie.MeasureT-loop
+μ-loop labels₀ to ports count k₀ labels k = count - k
+
+loop-holds : tie.Need-loop-holds Inv-loop μ-loop
+loop-holds c = (omega arith, c .pre .2, grew-same _ _ _ _, λ i h. absurd (omega arith))
+
+with-port-requires : tie.Need-with-port-requires Inv-loop μ-loop
+with-port-requires c κs = let s = c .before .before .before in (c .before .loop-test .taken, s .pre .0, s .pre .1, c .before .before .loop .inv .1)
+
+add-k : tie.Need-add-k Inv-loop μ-loop
+add-k c = search needs
+
+loop-less : tie.Need-loop-less Inv-loop μ-loop
+loop-less c = search needs
+
+loop-again : tie.Need-loop-again Inv-loop μ-loop
+loop-again c = let l = c .before .before .before .loop in
+    let s = c .before .before .before .before in
+    let a = s .args in
+    let g = c .with-port .ensures in (
+      omega arith,
+      g .0,
+      grew-then _ _ _ _ _ _ (l .inv .2) (g .1),
+      below-next (Tied (a .to .now) (a .ports) (a .count) (c .with-port .last .0)) (l .k)
+          (λ i h. tied-kept (a .to .now) (a .ports) (a .count) (s .pre .1) (l .labels) (c .with-port .last .0) (g .1 .kept) i (omega arith) (l .inv .3 i h)) (g .2),
+    )
+
+returns : tie.Need-returns Inv-loop μ-loop
+returns c = let l = c .before .loop in (l .inv .1, l .inv .2, λ k h. l .inv .3 k (omega arith))
+
+pub with-context-spec : {M : Type 1} → statement M
+with-context-spec =
+    tie.close
+    (tie.spec Inv-loop μ-loop loop-holds with-port-requires add-k loop-less loop-again returns)

@@ -1,0 +1,12 @@
+// Tables over figure and sheet, and figure links that are linked by steps.
+pub mod contexts;
+pub mod lookup;
+pub mod steps;
+pub mod torn;
+
+use rows::Sheet;
+
+// Sizes of flat tables.
+pub const TOUCHES: usize = Sheet::LINKS * Sheet::ATOMS;
+
+pub const PORTS: usize = Sheet::CONTEXT_ROOM * Sheet::LINKS;

@@ -1,0 +1,115 @@
+// What is looked up while a component is grown.
+use crate::PORTS;
+use crate::TOUCHES;
+use rows::Sheet;
+use sheet::normal::Normal;
+ghost use mathlib.Core.Path.{_≡_};
+ghost use mathlib.Core.Logic.{_↔_, _⊎_};
+ghost use Prim.Native.Nat.{ℕ, _+_, _*_, _-_, _<_, _≤_};
+ghost use lib.ListN.{length, getD};
+ghost use Rattle.rows.specs.Format.{mostLinks};
+ghost use Rattle.rows.specs.Limits.{sheetAtoms, sheetLinks};
+ghost use Rattle.placing.specs.Net.{Range};
+ghost use Rattle.network.specs.NetIn.{Fit, contextAt};
+ghost use Rattle.network.specs.Ready.{TouchesIn};
+ghost use Rattle.stepping.specs.Flags.{Within, atTouch, atPort, portOf, portOfNumber, goesTo};
+
+// The links of atom j.
+fn touch(table: &mut [u8; TOUCHES], j: usize, links: [u16; Sheet::MOST_LINKS], count: usize)
+    requires { ⌜ (j < sheetAtoms) × (count ≤ mostLinks) × Within sheetLinks count links × (length (now table) ≡ sheetLinks * sheetAtoms) ⌝ }
+    ensures { λ r. ⌜ (length (now (table .exit)) ≡ sheetLinks * sheetAtoms) × ((p : ℕ) → (getD (now (table .exit)) p 0 ≡ 1) ↔ ((getD (now (table .entry)) p 0 ≡ 1) ⊎ ((k : ℕ) × (k < count) × atTouch links j k p))) ⌝ }
+{
+    let mut k = 0;
+    while k < count {
+        let y = (links[k] - 1) as usize;
+        table[y * Sheet::ATOMS + j] = 1;
+        k += 1;
+    }
+}
+
+// For link y and atom j, both from 0: 1 at y * ATOMS + j where the atom stands on the link.
+pub fn touches(sheet: Normal) -> [u8; TOUCHES]
+    requires { ⌜ Fit sheet ⌝ }
+    ensures { λ r. ⌜ TouchesIn sheet r ⌝ }
+{
+    let mut table = [0u8; TOUCHES];
+    let mut j = 0;
+    while j < sheet.atom_count {
+        let a = sheet.atoms[j];
+        let links = a.links;
+        touch(&mut table, j, links, a.count as usize);
+        j += 1;
+    }
+    table
+}
+
+// For each sheet link 1 where a figure link goes.
+pub fn used_links(count: usize, to: [u16; Sheet::LINKS], none: u16) -> [u8; Sheet::LINKS]
+    requires { ⌜ (count ≤ sheetLinks) × (none ≤ sheetLinks + 1) × Within none count to ⌝ }
+    ensures { λ r. ⌜ ((y : ℕ) → (getD r y 0 ≡ 1) ↔ ((x : ℕ) × (x < count) × goesTo to none x y)) ⌝ }
+{
+    let mut flags = [0u8; Sheet::LINKS];
+    let mut x = 0;
+    while x < count {
+        let y = to[x];
+        if y != none {
+            flags[(y - 1) as usize] = 1;
+        }
+        x += 1;
+    }
+    flags
+}
+
+// The sheet links to which ports of one row go, for context c.
+fn port_row(
+    table: &mut [u8; PORTS],
+    c: usize,
+    ports: [u16; Sheet::MOST_LINKS],
+    count: usize,
+    to: [u16; Sheet::LINKS],
+    none: u16,
+)
+    requires { ⌜ (c < 9) × (count ≤ mostLinks) × (none ≤ sheetLinks + 1) × ((k : ℕ) → k < count → Range sheetLinks (getD ports k 0) × Range none (getD to (getD ports k 0 - 1) 0)) × (length (now table) ≡ 9 * sheetLinks) ⌝ }
+    ensures { λ r. ⌜ (length (now (table .exit)) ≡ 9 * sheetLinks) × ((p : ℕ) → (getD (now (table .exit)) p 0 ≡ 1) ↔ ((getD (now (table .entry)) p 0 ≡ 1) ⊎ ((k : ℕ) × (k < count) × atPort to none ports c k p))) ⌝ }
+{
+    let mut k = 0;
+    while k < count {
+        let y = to[(ports[k] - 1) as usize];
+        if y != none {
+            table[c * Sheet::LINKS + ((y - 1) as usize)] = 1;
+        }
+        k += 1;
+    }
+}
+
+// The same for all rows with the number of context c.
+fn port_rows(table: &mut [u8; PORTS], c: usize, figure: Normal, to: [u16; Sheet::LINKS], none: u16)
+    requires { ⌜ (c < figure .«context_count») × (none ≤ sheetLinks + 1) × Fit figure × Within none (figure .«class_count») to × (length (now table) ≡ 9 * sheetLinks) ⌝ }
+    ensures { λ r. ⌜ (length (now (table .exit)) ≡ 9 * sheetLinks) × ((p : ℕ) → (getD (now (table .exit)) p 0 ≡ 1) ↔ ((getD (now (table .entry)) p 0 ≡ 1) ⊎ ((d : ℕ) × (d < figure .«context_count») × portOf figure to none c d p))) ⌝ }
+{
+    let first = figure.contexts[c];
+    let mut d = 0;
+    while d < figure.context_count {
+        let row = figure.contexts[d];
+        if row.number == first.number {
+            let ports = row.links;
+            port_row(&mut *table, c, ports, row.count as usize, to, none);
+        }
+        d += 1;
+    }
+}
+
+// For the context of row c and link y, both from 0: 1 at c * LINKS + y where a row with its number has a
+// port that goes to y.
+pub fn port_table(figure: Normal, to: [u16; Sheet::LINKS], none: u16) -> [u8; PORTS]
+    requires { ⌜ (none ≤ sheetLinks + 1) × Fit figure × Within none (figure .«class_count») to ⌝ }
+    ensures { λ r. ⌜ ((p : ℕ) → (getD r p 0 ≡ 1) ↔ ((c : ℕ) × (c < figure .«context_count») × portOfNumber figure to none c p)) ⌝ }
+{
+    let mut table = [0u8; PORTS];
+    let mut c = 0;
+    while c < figure.context_count {
+        port_rows(&mut table, c, figure, to, none);
+        c += 1;
+    }
+    table
+}

@@ -1,0 +1,121 @@
+// Figure links that go to one sheet link: are they linked by steps, each between two links of one context?
+use rows::Sheet;
+use sheet::normal::Normal;
+ghost use mathlib.Core.Path.{_≡_};
+ghost use Prim.Native.Nat.{ℕ, _+_, _<_, _≤_};
+ghost use lib.ListN.{length, getD};
+ghost use Rattle.rows.specs.Format.{mostLinks};
+ghost use Rattle.rows.specs.Limits.{sheetLinks};
+ghost use Rattle.sheet.specs.declared.normal.Normal as form;
+ghost use Rattle.placing.specs.Net.{Range};
+ghost use Rattle.network.specs.NetIn.{Fit, contextAt};
+ghost use Rattle.stepping.specs.Labels.{Relabelled, Grew, Tied, Labelled, Apart};
+
+// Each link its own label.
+pub(crate) fn own_labels() -> [u16; Sheet::LINKS]
+    ensures { λ r. ⌜ ((x : ℕ) → x < sheetLinks → getD r x 0 ≡ x + 1) ⌝ }
+{
+    let mut labels = [0u16; Sheet::LINKS];
+    let mut x = 0;
+    while x < Sheet::LINKS {
+        labels[x] = (x + 1) as u16;
+        x += 1;
+    }
+    labels
+}
+
+// One label for another.
+fn relabel(labels: &mut [u16; Sheet::LINKS], from: u16, to: u16)
+    requires { ⌜ length (now labels) ≡ sheetLinks ⌝ }
+    ensures { λ r. ⌜ (length (now (labels .exit)) ≡ sheetLinks) × Relabelled (now (labels .entry)) (now (labels .exit)) from to ⌝ }
+{
+    let mut x = 0;
+    while x < Sheet::LINKS {
+        if labels[x] == from {
+            labels[x] = to;
+        }
+        x += 1;
+    }
+}
+
+// One link of a context with each of its links that goes to the same sheet link.
+fn with_port(
+    labels: &mut [u16; Sheet::LINKS],
+    to: &[u16; Sheet::LINKS],
+    ports: [u16; Sheet::MOST_LINKS],
+    count: usize,
+    at: usize,
+)
+    requires { ⌜ (at < count) × (count ≤ mostLinks) × ((k : ℕ) → k < count → Range sheetLinks (getD ports k 0)) × (length (now labels) ≡ sheetLinks) ⌝ }
+    ensures { λ r. ⌜ (length (now (labels .exit)) ≡ sheetLinks) × Grew (now (to .entry)) ports count (now (labels .entry)) (now (labels .exit)) × Tied (now (to .entry)) ports count (now (labels .exit)) at ⌝ }
+{
+    let a = ports[at];
+    let y = to[(a - 1) as usize];
+    let mut k = 0;
+    while k < count {
+        let b = ports[k];
+        if to[(b - 1) as usize] == y {
+            let from = labels[(b - 1) as usize];
+            let label = labels[(a - 1) as usize];
+            if from != label {
+                relabel(&mut *labels, from, label);
+            }
+        }
+        k += 1;
+    }
+}
+
+fn with_context(
+    labels: &mut [u16; Sheet::LINKS],
+    to: &[u16; Sheet::LINKS],
+    ports: [u16; Sheet::MOST_LINKS],
+    count: usize,
+)
+    requires { ⌜ (count ≤ mostLinks) × ((k : ℕ) → k < count → Range sheetLinks (getD ports k 0)) × (length (now labels) ≡ sheetLinks) ⌝ }
+    ensures { λ r. ⌜ (length (now (labels .exit)) ≡ sheetLinks) × Grew (now (to .entry)) ports count (now (labels .entry)) (now (labels .exit)) × ((k : ℕ) → k < count → Tied (now (to .entry)) ports count (now (labels .exit)) k) ⌝ }
+{
+    let mut k = 0;
+    while k < count {
+        with_port(&mut *labels, to, ports, count, k);
+        k += 1;
+    }
+}
+
+pub(crate) fn step_labels(figure: Normal, to: &[u16; Sheet::LINKS]) -> [u16; Sheet::LINKS]
+    requires { ⌜ Fit figure ⌝ }
+    ensures { λ r. ⌜ Labelled figure (now (to .entry)) r ⌝ }
+{
+    let mut labels = own_labels();
+    let mut c = 0;
+    while c < figure.context_count {
+        let row = figure.contexts[c];
+        let ports = row.links;
+        with_context(&mut labels, to, ports, row.count as usize);
+        c += 1;
+    }
+    labels
+}
+
+// A sheet link at which two figure links have different labels, 0 where there is none.
+pub fn apart(figure: Normal, to: [u16; Sheet::LINKS], none: u16) -> u16
+    requires { ⌜ Fit figure × (none ≤ sheetLinks + 1) × ((x : ℕ) → x < figure .«class_count» → Range none (getD to x 0)) ⌝ }
+    ensures { λ r. ⌜ Apart figure to none r ⌝ }
+{
+    let labels = step_labels(figure, &to);
+    let mut owner = [0u16; Sheet::LINKS];
+    let mut x = 0;
+    while x < figure.class_count {
+        let y = to[x];
+        if y != none {
+            let at = (y - 1) as usize;
+            let first = owner[at];
+            if first == 0 {
+                owner[at] = (x + 1) as u16;
+            } else if labels[(first - 1) as usize] != labels[x] {
+                return y;
+            }
+        }
+        x += 1;
+    }
+    0
+}

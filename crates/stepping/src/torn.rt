@@ -1,0 +1,71 @@
+// Figure links that go to one sheet link, and that are not linked there wherever the open links go.
+use crate::steps::own_labels;
+use crate::steps::step_labels;
+use rows::Sheet;
+use sheet::normal::Normal;
+ghost use mathlib.Core.Path.{_≡_};
+ghost use mathlib.Core.Bool.{true};
+ghost use mathlib.Core.List.{List};
+ghost use Prim.Native.Nat.{ℕ, suc, _<_, _≤_};
+ghost use lib.ListN.{getD};
+ghost use Rattle.hyperlmntal.specs.Link.{_∈_};
+ghost use Rattle.rows.specs.Limits.{sheetLinks};
+ghost use Rattle.placing.specs.Net.{Net};
+ghost use Rattle.network.specs.NetIn.{netIn, Fit};
+ghost use Rattle.network.specs.Ready.{stateIn};
+ghost use Rattle.completing.specs.Fault.{Torn};
+ghost use Rattle.stepping.specs.Labels.{Gathered, Differ};
+
+// The links with a flag at y, the others where they were.
+fn gathered(
+    to: [u16; Sheet::LINKS],
+    flags: [u8; Sheet::LINKS],
+    y: u16,
+    count: usize,
+) -> [u16; Sheet::LINKS]
+    requires { ⌜ count ≤ sheetLinks ⌝ }
+    ensures { λ r. ⌜ Gathered to flags y count r ⌝ }
+{
+    let mut next = to;
+    let mut x = 0;
+    while x < count {
+        if flags[x] == 1 {
+            next[x] = y;
+        }
+        x += 1;
+    }
+    next
+}
+
+// Two links that go to y have different labels.
+fn differ(labels: [u16; Sheet::LINKS], to: [u16; Sheet::LINKS], y: u16, count: usize) -> bool
+    requires { ⌜ count ≤ sheetLinks ⌝ }
+    ensures { λ r. ⌜ (r ≡ true → Differ labels to y count) ⌝ }
+{
+    let mut first = 0;
+    let mut x = 0;
+    while x < count {
+        if to[x] == y {
+            if first == 0 {
+                first = x + 1;
+            } else if labels[first - 1] != labels[x] {
+                return true;
+            }
+        }
+        x += 1;
+    }
+    false
+}
+
+// Two links that go to y are not linked there, even if all with a flag go there. Where y has one link or
+// none, there is nothing to look for.
+pub fn torn(figure: Normal, to: [u16; Sheet::LINKS], flags: [u8; Sheet::LINKS], y: u16) -> bool
+    requires { ⌜ Fit figure × ((x : ℕ) → x < figure .«class_count» → 1 ≤ getD to x 0) ⌝ }
+    ensures { λ r. ⌜ (r ≡ true → (S : Net) (atoms un : List ℕ) → y ≤ S .links → ((x : ℕ) → suc x ∈ un → getD flags x 0 ≡ 1) → Torn S (netIn figure) (stateIn figure atoms to) un y) ⌝ }
+{
+    if differ(own_labels(), to, y, figure.class_count) {
+        let all = gathered(to, flags, y, figure.class_count);
+        return differ(step_labels(figure, &all), to, y, figure.class_count);
+    }
+    false
+}

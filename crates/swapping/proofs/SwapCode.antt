@@ -1,0 +1,265 @@
+-- What the code of swap finds on its way is what swapping answers and writes.
+use Prim.Native.Nat.{ℕ, _+_, _*_, _<_, _≤_}
+use mathlib.Core.Path.{_≡_, refl, ap, ap₂, sym, _∙_, subst}
+use mathlib.Core.Bool.{Bool, true, false}
+use mathlib.Core.List.{List, [], _++_}
+use native.Mathlib.Omega.{arith}
+use borrow.Author.Tests.{lt-ltb, le-ltb}
+use lib.ListN.{length, take, drop, length-append}
+use lib.Seq.{take-at, length-take-le}
+use Rattle.rows.specs.Pick.{pick}
+use Rattle.rows.specs.Format.{rowWidth}
+use Rattle.rows.specs.Limits.{sheetAtoms, sheetLinks, sheetMarks}
+use Rattle.rows.specs.Held.{Held}
+use Rattle.rows.specs.Packed.{portTable, packed}
+use Rattle.rows.specs.declared.Sheet.{Sheet}
+use Rattle.rows.proofs.Padding.{take-padded}
+use Rattle.sheet.specs.Agrees.{Agrees}
+use Rattle.numbering.specs.Numbering.{Numberable}
+use Rattle.sheet.specs.Graph.{graphOf}
+use Rattle.sheet.specs.NormalSheet.{normalMarks, packedNormal}
+use Rattle.sheet.specs.NormalText.{textOf, slipLength}
+use Rattle.sheet.specs.NormalRows.{normalRows, Writable}
+use Rattle.sheet.specs.Reading.{Outcome, outcomeOf, readingOf, noPorts}
+use Rattle.sheet.specs.declared.normal.Normal as form
+use Rattle.sheet.specs.declared.kind.Kind.the-variants.{Plain, Pattern, Figure, Replacement}
+use Rattle.sheet.specs.declared.answer.Refusal.{Refusal}
+use Rattle.sheet.specs.declared.read.Reading.{Reading}
+use Rattle.sheet.specs.declared.answer.Answer.{Answer}
+use Rattle.sheet.specs.declared.answer.Answer.the-variants.{Passed, Refused}
+use Rattle.sheet.proofs.normal.Connected.{agrees-read}
+use Rattle.sheet.proofs.normal.NormalReady.{numberable-read}
+use Rattle.placing.specs.Placing.{Good}
+use Rattle.placing.specs.Fillings.{Filling, Fits}
+use Rattle.placing.specs.Filled.{filledGraph, filledNormal}
+use Rattle.placing.specs.ListText.{listText}
+use Rattle.placing.specs.Smallest.{smallest, sameList}
+use Rattle.placing.proofs.Chosen.{chosen-fillings}
+use Rattle.placing.proofs.ListBack.{ListFits}
+use Rattle.placing.proofs.PlacedText.{text-fits}
+use Rattle.placing.proofs.SmallestLaws.{smallest-good}
+use Rattle.network.specs.NetIn.{netIn}
+use Rattle.network.proofs.NetRead.{fit-read}
+use Rattle.matching.specs.Search.{placedIn}
+use Rattle.matching.specs.declared.search.Found.{Found}
+use Rattle.listing.specs.Writing.{fillingsText}
+use Rattle.filling.specs.Done.{slipAfter}
+use Rattle.filling.specs.Read.{listHeld, fillingsRead}
+use Rattle.filling.specs.Fill.{figureHeld, firstLacking, firstDiffering, filledBy, filledText, tooLarge}
+use Rattle.filling.specs.declared.done.Done.{Done}
+use Rattle.filling.specs.declared.done.Done.the-variants as done
+use Rattle.filling.specs.Filled.{FilledIs}
+use Rattle.filling.proofs.Back.{placed-back}
+use Rattle.filling.proofs.ReadAsFigure.{replacement-figure}
+use Rattle.finding.specs.Place.{sheetHeld, patternHeld, sheetNet, patternNet, placedFillings}
+use Rattle.finding.proofs.PlaceCode.{none-found, chosen, foundPlacing, foundFillings, some-found, found-text}
+use Rattle.swapping.specs.Swap.{replacementRead, replacementHeld, sameMarks, swappedAnswer, swappedText, swapAnswer, swapSlip}
+use Rattle.swapping.specs.Inputs.{FilledInputs, filledDone, SwapInputs, swapRead, swapText}
+use Rattle.swapping.proofs.ReplacementBlanks.{replacement-covered}
+use Rattle.swapping.proofs.ListWhole.{written-lacks, written-exact}
+
+-- A filled figure, where it is written or too large.
+module _ (figure : Sheet) (list text : List ℕ) (I : FilledInputs figure list text) (r : form.Normal)
+    (M : (t : List ℕ) → figure ≡ packed (figureHeld t) → firstLacking (listHeld list .contexts) (figureHeld t .contexts) ≡ 0 → firstDiffering list (listHeld list .contexts) ≡ 0 → FilledIs t list r) where
+  filled : FilledIs text list r
+  filled = M text (I .of-figure) (I .none-lacking) (I .none-differing)
+
+  sized : (b : Bool) → tooLarge (filledBy text list) ≡ b → pick b done.TooLarge (done.Written (length (filledText text list))) ≡ filledDone text list
+  sized b e = sym (ap (λ c. pick c done.TooLarge (done.Written (length (filledText text list)))) e)
+
+  pub done-many : sheetAtoms < r .«atom_count» → done.TooLarge ≡ filledDone text list
+  done-many h = sized true (filled .large-atoms h)
+
+  pub done-wide : sheetLinks < r .«class_count» → done.TooLarge ≡ filledDone text list
+  done-wide h = sized true (filled .large-links h)
+
+  module _ (few : r .«atom_count» ≤ sheetAtoms) (narrow : r .«class_count» ≤ sheetLinks) where
+    pub done-writable : Writable r × ((r .«atom_count» + r .«context_count» + r .«mark_count») * rowWidth ≤ slipLength)
+    done-writable = filled .writable few narrow
+
+    pub done-written : (n : ℕ) → n ≡ length (normalRows r) → done.Written n ≡ filledDone text list
+    done-written n e = ap done.Written (e ∙ ap length (filled .rows few narrow)) ∙ sized false (filled .not-large few narrow)
+
+    pub done-slip : (n : ℕ) → n ≡ length (normalRows r) → (slip : List ℕ) → normalRows r ++ drop (length (normalRows r)) slip ≡ filledText text list ++ drop n slip
+    done-slip n e slip = ap₂ (λ (t : List ℕ) (k : ℕ). t ++ drop k slip) (filled .rows few narrow) (sym e)
+
+-- The replacement can be filled from this list, and is then what swapping answers and writes.
+pub record ListSwaps (replacement : Sheet) (list s p q : List ℕ) : Type 0 where
+  pub fills : FilledInputs replacement list q
+  pub answer : filledDone q list ≡ swapRead s p q
+  pub text : filledText q list ≡ swapText s p q
+
+module _ (sheet pattern : form.Normal) (replacement : Sheet) (s p q : List ℕ) (I : SwapInputs sheet pattern replacement s p q) where
+  abbrev ports : List ℕ
+  ports = portTable (patternHeld p .contexts)
+
+  abbrev R : Held
+  R = replacementHeld p q
+
+  pub replacement-numberable : Numberable replacement
+  replacement-numberable = subst Numberable (sym (I .of-replacement)) (numberable-read Replacement ports q)
+
+  -- The marks of the two figures.
+  module _ (n : form.Normal) (N : (h : Held) → Agrees h → replacement ≡ packed h → n ≡ packedNormal h) where
+    is-normal : n ≡ packedNormal R
+    is-normal = N R (agrees-read Replacement ports q refl) (I .of-replacement)
+
+    pub marks-few : (n .«mark_count» ≤ sheetMarks) × (pattern .«mark_count» ≤ sheetMarks)
+    marks-few = (
+      subst (λ (m : form.Normal). m .«mark_count» ≤ sheetMarks) (sym is-normal) (fit-read Replacement ports q refl .mark-count),
+      subst (λ (m : form.Normal). m .«mark_count» ≤ sheetMarks) (sym (I .placed .of-pattern)) (fit-read Pattern noPorts p refl .mark-count),
+    )
+
+    module _ (b : Bool) (B : b ≡ sameList (take (n .«mark_count») (n .marks)) (take (pattern .«mark_count») (pattern .marks))) where
+      marks-same : b ≡ sameMarks R (patternHeld p)
+      marks-same =
+          B
+          ∙ ap₂ (λ (x y : form.Normal). sameList (take (x .«mark_count») (x .marks)) (take (y .«mark_count») (y .marks))) is-normal (I .placed .of-pattern)
+          ∙ ap₂ sameList (take-padded (sheetMarks + 1) 0 (normalMarks R)) (take-padded (sheetMarks + 1) 0 (normalMarks (patternHeld p)))
+
+      by-marks : (t : Bool) → b ≡ t → pick t (swappedAnswer (graphOf R) (placedFillings s p)) (done.EdgeDiffers 3 0) ≡ swapRead s p q
+      by-marks t e = ap (λ c. pick c (swappedAnswer (graphOf R) (placedFillings s p)) (done.EdgeDiffers 3 0)) (sym e ∙ marks-same)
+
+      pub marks-differ : b ≡ false → done.EdgeDiffers 3 0 ≡ swapRead s p q
+      marks-differ e = by-marks false e
+
+      -- What the search found.
+      module _ (same : b ≡ true) (r : Found) (E : placedIn sheet pattern r ≡ smallest (netIn sheet) (netIn pattern)) where
+        pub swap-nothing : r .ok ≡ false → done.NoPlacing ≡ swapRead s p q
+        swap-nothing h = sym (ap (swappedAnswer (graphOf R)) (none-found sheet pattern s p (I .placed) r E h)) ∙ by-marks true same
+
+        module _ (h : r .ok ≡ true) where
+          abbrev θ : List Filling
+          θ = foundFillings sheet pattern s p (I .placed) r E h
+
+          -- The fillings that are chosen fit, and are read back from their list.
+          good : Good (sheetNet s) (patternNet p) (foundPlacing sheet pattern s p (I .placed) r E)
+          good = smallest-good (sheetNet s) (patternNet p) (foundPlacing sheet pattern s p (I .placed) r E) (chosen sheet pattern s p (I .placed) r E h)
+
+          fits : Fits (patternNet p) θ
+          fits =
+              chosen-fillings s p (I .placed .passed .sheet-passes) (I .placed .passed .pattern-passes) (foundPlacing sheet pattern s p (I .placed) r E)
+              (chosen sheet pattern s p (I .placed) r E h) .1 .0
+
+          list-fits : ListFits θ
+          list-fits = text-fits s p (I .placed .passed .sheet-passes) (I .placed .passed .pattern-passes) (foundPlacing sheet pattern s p (I .placed) r E) good
+
+          read-back : fillingsRead (listText θ) ≡ θ
+          read-back = placed-back s p (I .placed .passed .sheet-passes) (I .placed .passed .pattern-passes) (foundPlacing sheet pattern s p (I .placed) r E) good
+
+          -- The list that is written, and the part of the buffer that holds it.
+          module _ (m : ℕ) (e : (atoms : List ℕ) → m ≡ length (fillingsText sheet pattern atoms (r .«links_to») (r .given))) where
+            size : m ≡ length (listText θ)
+            size = e (take (pattern .«atom_count») (r .«atoms_to»)) ∙ ap length (found-text sheet pattern s p (I .placed) r E h)
+
+            module _ (before after : List ℕ)
+                (o : (atoms : List ℕ) → after ≡ fillingsText sheet pattern atoms (r .«links_to») (r .given) ++ drop (length (fillingsText sheet pattern atoms (r .«links_to») (r .given))) before) where
+              part : take m after ≡ listText θ
+              part =
+                  ap (take m) (o (take (pattern .«atom_count») (r .«atoms_to»)) ∙ ap (λ t. t ++ drop (length t) before) (found-text sheet pattern s p (I .placed) r E h))
+                  ∙ take-at (listText θ) (drop (length (listText θ)) before) m (sym size)
+
+              figure : outcomeOf Figure noPorts q ≡ outcomeOf Replacement ports q
+              figure = replacement-figure ports q (I .replacement-passes)
+
+              -- The replacement can be filled from it.
+              part-fills : FilledInputs replacement (take m after) q
+              part-fills =
+                  subst (λ t. FilledInputs replacement t q) (sym part)
+                  (record {
+                    of-figure = I .of-replacement ∙ ap (λ (x : Outcome). packed (x .held)) (sym figure);
+                    none-lacking = ap (λ (x : Outcome). firstLacking (listHeld (listText θ) .contexts) (x .held .contexts)) figure
+                        ∙ written-lacks θ list-fits read-back (fits .one) (fits .exact) (R .contexts) (replacement-covered p θ fits q);
+                    none-differing = written-exact θ list-fits read-back (fits .one) (fits .exact);
+                  })
+
+              swap-done : filledDone q (take m after) ≡ swapRead s p q
+              swap-done =
+                  ap (filledDone q) part
+                  ∙ ap₂ (λ (x : Held) (η : List Filling). pick (tooLarge (filledGraph (graphOf x) η)) done.TooLarge (done.Written (length (textOf (filledNormal (graphOf x) η))))) (ap (λ (x : Outcome). x .held) figure) read-back
+                  ∙ sym (ap (swappedAnswer (graphOf R)) (some-found sheet pattern s p (I .placed) r E h))
+                  ∙ by-marks true same
+
+              swap-text : filledText q (take m after) ≡ swapText s p q
+              swap-text =
+                  ap (filledText q) part
+                  ∙ ap₂ (λ (x : Held) (η : List Filling). textOf (filledNormal (graphOf x) η)) (ap (λ (x : Outcome). x .held) figure) read-back
+                  ∙ sym (ap (swappedText (graphOf R)) (some-found sheet pattern s p (I .placed) r E h))
+
+              pub swap-list : ListSwaps replacement (take m after) s p q
+              swap-list = record { fills = part-fills; answer = swap-done; text = swap-text }
+
+-- The bytes that were written are there.
+pub part-room : (sheet pattern : form.Normal) (links given before after : List ℕ) (m : ℕ)
+    → ((atoms : List ℕ) → m ≡ length (fillingsText sheet pattern atoms links given))
+    → ((atoms : List ℕ) → after ≡ fillingsText sheet pattern atoms links given ++ drop (length (fillingsText sheet pattern atoms links given)) before) → m ≤ length after
+part-room sheet pattern links given before after m e o =
+    let t = fillingsText sheet pattern [] links given in
+    omega (arith, e [], ap length (o []), length-append t (drop (length t) before))
+
+pub part-length : (after : List ℕ) (m : ℕ) → m ≤ length after → m ≡ length (take m after)
+part-length after m h = sym (length-take-le m after h)
+
+-- The texts as they were read.
+pub record TextsRead (S P T : Reading) (sheet pattern replacement : List ℕ) : Type 0 where
+  pub first-numberable : Numberable (S .sheet)
+  pub second-numberable : Numberable (P .sheet)
+  pub first-answer : (t : Answer) → S .answer ≡ t → outcomeOf Plain noPorts sheet .answer ≡ t
+  pub second-answer : (t : Answer) → P .answer ≡ t → outcomeOf Pattern noPorts pattern .answer ≡ t
+  pub third-answer : (t : Answer) → T .answer ≡ t → replacementRead pattern replacement .answer ≡ t
+  pub inputs : S .answer ≡ Passed → P .answer ≡ Passed → T .answer ≡ Passed → (n m : form.Normal)
+      → ((h : Held) → Agrees h → S .sheet ≡ packed h → n ≡ packedNormal h) → ((h : Held) → Agrees h → P .sheet ≡ packed h → m ≡ packedNormal h) → SwapInputs n m (T .sheet) sheet pattern replacement
+
+module _ (S P T : Reading) (sheet pattern replacement : List ℕ)
+    (x : S ≡ readingOf (outcomeOf Plain noPorts sheet)) (y : P ≡ readingOf (outcomeOf Pattern noPorts pattern)) (z : T ≡ readingOf (outcomeOf Replacement (P .sheet .ports) replacement)) where
+  third : T ≡ readingOf (replacementRead pattern replacement)
+  third = z ∙ ap (λ (r : Reading). readingOf (outcomeOf Replacement (r .sheet .ports) replacement)) y
+
+  pub texts-read : TextsRead S P T sheet pattern replacement
+  texts-read =
+      record {
+        first-numberable = subst (λ (r : Reading). Numberable (r .sheet)) (sym x) (numberable-read Plain noPorts sheet);
+        second-numberable = subst (λ (r : Reading). Numberable (r .sheet)) (sym y) (numberable-read Pattern noPorts pattern);
+        first-answer = λ t e. sym (ap (λ (r : Reading). r .answer) x) ∙ e;
+        second-answer = λ t e. sym (ap (λ (r : Reading). r .answer) y) ∙ e;
+        third-answer = λ t e. sym (ap (λ (r : Reading). r .answer) third) ∙ e;
+        inputs = λ a b c n m N M.
+            record {
+              placed = record {
+                passed = record { sheet-passes = sym (ap (λ (r : Reading). r .answer) x) ∙ a; pattern-passes = sym (ap (λ (r : Reading). r .answer) y) ∙ b };
+                of-sheet = N (sheetHeld sheet) (agrees-read Plain noPorts sheet refl) (ap (λ (r : Reading). r .sheet) x);
+                of-pattern = M (patternHeld pattern) (agrees-read Pattern noPorts pattern refl) (ap (λ (r : Reading). r .sheet) y);
+              };
+              replacement-passes = sym (ap (λ (r : Reading). r .answer) third) ∙ c;
+              of-replacement = ap (λ (r : Reading). r .sheet) third;
+            };
+      }
+
+-- The whole call.
+module _ (sheet pattern replacement slip : List ℕ) where
+  pub swap-short : length slip < slipLength → (done.ShortSlip ≡ swapAnswer sheet pattern replacement (length slip)) × (slip ≡ swapSlip sheet pattern replacement slip)
+  unfolding swapAnswer swapSlip
+  swap-short h = (rw (lt-ltb (length slip) slipLength h), rw (lt-ltb (length slip) slipLength h))
+
+  module _ (h : slipLength ≤ length slip) where
+    pub swap-first : (why : Refusal) (row : ℕ) → outcomeOf Plain noPorts sheet .answer ≡ Refused why row → (done.Refused 1 why row ≡ swapAnswer sheet pattern replacement (length slip)) × (slip ≡ swapSlip sheet pattern replacement slip)
+    unfolding swapAnswer swapSlip
+    swap-first why row e = (rw (le-ltb (length slip) slipLength h, e), rw (le-ltb (length slip) slipLength h, e))
+
+    module _ (a : outcomeOf Plain noPorts sheet .answer ≡ Passed) where
+      pub swap-second : (why : Refusal) (row : ℕ) → outcomeOf Pattern noPorts pattern .answer ≡ Refused why row → (done.Refused 2 why row ≡ swapAnswer sheet pattern replacement (length slip)) × (slip ≡ swapSlip sheet pattern replacement slip)
+      unfolding swapAnswer swapSlip
+      swap-second why row e = (rw (le-ltb (length slip) slipLength h, a, e), rw (le-ltb (length slip) slipLength h, a, e))
+
+      module _ (b : outcomeOf Pattern noPorts pattern .answer ≡ Passed) where
+        pub swap-third : (why : Refusal) (row : ℕ) → replacementRead pattern replacement .answer ≡ Refused why row → (done.Refused 3 why row ≡ swapAnswer sheet pattern replacement (length slip)) × (slip ≡ swapSlip sheet pattern replacement slip)
+        unfolding swapAnswer swapSlip
+        swap-third why row e = (rw (le-ltb (length slip) slipLength h, a, b, e), rw (le-ltb (length slip) slipLength h, a, b, e))
+
+        pub swap-all : replacementRead pattern replacement .answer ≡ Passed → (d : Done) → d ≡ swapRead sheet pattern replacement → (out : List ℕ) → out ≡ slipAfter d (swapText sheet pattern replacement) slip
+            → (d ≡ swapAnswer sheet pattern replacement (length slip)) × (out ≡ swapSlip sheet pattern replacement slip)
+        unfolding swapAnswer swapSlip
+        swap-all c d e out o = (
+          rw (le-ltb (length slip) slipLength h, a, b, c) e,
+          rw (le-ltb (length slip) slipLength h, a, b, c) (o ∙ ap (λ (x : Done). slipAfter x (swapText sheet pattern replacement) slip) e),
+        )

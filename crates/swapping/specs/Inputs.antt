@@ -1,0 +1,39 @@
+-- Texts that passed row by row, in the arrays in which they were read, and what swapping then answers.
+use Prim.Native.Nat.{ℕ}
+use mathlib.Core.Path.{_≡_}
+use mathlib.Core.List.{List}
+use lib.ListN.{length}
+use Rattle.rows.specs.Pick.{pick}
+use Rattle.rows.specs.Packed.{packed}
+use Rattle.rows.specs.declared.Sheet.{Sheet}
+use Rattle.sheet.specs.Graph.{graphOf}
+use Rattle.sheet.specs.declared.normal.Normal as form
+use Rattle.sheet.specs.declared.answer.Answer.the-variants.{Passed}
+use Rattle.filling.specs.Read.{listHeld}
+use Rattle.filling.specs.Fill.{figureHeld, firstLacking, firstDiffering, filledBy, filledText, tooLarge}
+use Rattle.filling.specs.declared.done.Done.{Done}
+use Rattle.filling.specs.declared.done.Done.the-variants as done
+use Rattle.finding.specs.Place.{patternHeld, placedFillings}
+use Rattle.finding.specs.Inputs.{PlaceInputs}
+use Rattle.swapping.specs.Swap.{replacementRead, replacementHeld, sameMarks, swappedAnswer, swappedText}
+
+-- no 8 and no 9 over whole texts
+pub record FilledInputs (figure : Sheet) (list figureText : List ℕ) : Type 0 where
+  pub of-figure : figure ≡ packed (figureHeld figureText)
+  pub none-lacking : firstLacking (listHeld list .contexts) (figureHeld figureText .contexts) ≡ 0
+  pub none-differing : firstDiffering list (listHeld list .contexts) ≡ 0
+
+abbrev pub filledDone : List ℕ → List ℕ → Done
+filledDone figure list = pick (tooLarge (filledBy figure list)) done.TooLarge (done.Written (length (filledText figure list)))
+
+pub record SwapInputs (sheet pattern : form.Normal) (replacement : Sheet) (sheetText patternText replacementText : List ℕ) : Type 0 where
+  pub placed : PlaceInputs sheet pattern sheetText patternText
+  pub replacement-passes : replacementRead patternText replacementText .answer ≡ Passed
+  pub of-replacement : replacement ≡ packed (replacementHeld patternText replacementText)
+
+abbrev pub swapRead : List ℕ → List ℕ → List ℕ → Done
+swapRead sheet pattern replacement =
+    pick (sameMarks (replacementHeld pattern replacement) (patternHeld pattern)) (swappedAnswer (graphOf (replacementHeld pattern replacement)) (placedFillings sheet pattern)) (done.EdgeDiffers 3 0)
+
+abbrev pub swapText : List ℕ → List ℕ → List ℕ → List ℕ
+swapText sheet pattern replacement = swappedText (graphOf (replacementHeld pattern replacement)) (placedFillings sheet pattern)

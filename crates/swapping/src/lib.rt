@@ -1,0 +1,2 @@
+// Putting a replacement where a pattern was found.
+pub mod swap;

@@ -1,0 +1,115 @@
+// The task swap: the replacement with the fillings of the placed pattern, as normal text, into an output buffer.
+use filling::done::Done;
+use filling::filled::normal_filled;
+use listing::write_fillings;
+use matching::search::smallest_placing;
+use rows::Sheet;
+use sheet::answer::Answer;
+use sheet::normal::Normal;
+use sheet::normal::normal_of;
+use sheet::normal_text::write_normal;
+use sheet::read::read_pattern;
+use sheet::read::read_replacement;
+use sheet::read::read_sheet;
+ghost use mathlib.Core.Path.{_≡_};
+ghost use mathlib.Core.List.{List};
+ghost use Prim.Native.Nat.{ℕ, _≤_};
+ghost use lib.ListN.{length, take};
+ghost use Rattle.rows.specs.Limits.{sheetMarks};
+ghost use Rattle.sheet.specs.NormalText.{slipLength};
+ghost use Rattle.placing.specs.Smallest.{sameList};
+ghost use Rattle.filling.specs.Done.{slipAfter};
+ghost use Rattle.filling.specs.Fill.{filledText};
+ghost use Rattle.swapping.specs.Swap.{swapAnswer, swapSlip};
+ghost use Rattle.swapping.specs.Inputs.{filledDone, FilledInputs, SwapInputs, swapRead, swapText};
+
+// Whether two normal forms have the same marks, which ascend in each.
+fn same_marks(a: Normal, b: Normal) -> bool
+    requires { ⌜ (a .«mark_count» ≤ sheetMarks) × (b .«mark_count» ≤ sheetMarks) ⌝ }
+    ensures { λ r. ⌜ r ≡ sameList (take (a .«mark_count») (a .marks)) (take (b .«mark_count») (b .marks)) ⌝ }
+{
+    let n = a.mark_count;
+    if n != b.mark_count {
+        return false;
+    }
+    let mut k = 0;
+    while k < n {
+        if a.marks[k] != b.marks[k] {
+            return false;
+        }
+        k += 1;
+    }
+    true
+}
+
+// A figure filled from a list that has a filling for each of its contexts.
+fn write_filled(figure: Sheet, list: &[u8], out: &mut [u8]) -> Done
+    requires { ⌜ ((text : List ℕ) × FilledInputs figure (now list) text) ⌝ }
+    requires { ⌜ slipLength ≤ length (now out) ⌝ }
+    ensures { λ r. ⌜ ((text : List ℕ) → FilledInputs figure (now (list .entry)) text → r ≡ filledDone text (now (list .entry))) ⌝ }
+    ensures { λ r. ⌜ ((text : List ℕ) → FilledInputs figure (now (list .entry)) text → now (out .exit) ≡ slipAfter r (filledText text (now (list .entry))) (now (out .entry))) ⌝ }
+{
+    let normal = normal_filled(figure, list);
+    if Sheet::ATOMS < normal.atom_count {
+        return Done::TooLarge;
+    }
+    if Sheet::LINKS < normal.class_count {
+        return Done::TooLarge;
+    }
+    let bytes = write_normal(normal, out);
+    Done::Written(bytes)
+}
+
+// Texts that passed row by row: the list of the fillings is written, and the replacement filled from it.
+fn swap_read(sheet: Normal, pattern: Normal, replacement: Sheet, out: &mut [u8]) -> Done
+    requires { ⌜ ((s : List ℕ) × ((p : List ℕ) × ((q : List ℕ) × SwapInputs sheet pattern replacement s p q))) ⌝ }
+    requires { ⌜ slipLength ≤ length (now out) ⌝ }
+    ensures { λ r. ⌜ ((s p q : List ℕ) → SwapInputs sheet pattern replacement s p q → r ≡ swapRead s p q) ⌝ }
+    ensures { λ r. ⌜ ((s p q : List ℕ) → SwapInputs sheet pattern replacement s p q → now (out .exit) ≡ slipAfter r (swapText s p q) (now (out .entry))) ⌝ }
+{
+    if !same_marks(normal_of(replacement), pattern) {
+        return Done::EdgeDiffers(3, 0);
+    }
+    let found = smallest_placing(sheet, pattern);
+    if !found.ok {
+        return Done::NoPlacing;
+    }
+    let links_to = found.links_to;
+    let given = found.given;
+    let mut list = [0u8; Sheet::SLIP];
+    let bytes = write_fillings(sheet, pattern, links_to, given, &mut list);
+    write_filled(replacement, &list[..bytes], out)
+}
+
+// The buffer first, then the texts in task order, each row by row.
+pub fn swap(sheet: &[u8], pattern: &[u8], replacement: &[u8], out: &mut [u8]) -> Done
+    ensures { λ r. ⌜ r ≡ swapAnswer (now (sheet .entry)) (now (pattern .entry)) (now (replacement .entry)) (length (now (out .entry))) ⌝ }
+    ensures { λ _. ⌜ now (out .exit) ≡ swapSlip (now (sheet .entry)) (now (pattern .entry)) (now (replacement .entry)) (now (out .entry)) ⌝ }
+{
+    if out.len() < Sheet::SLIP {
+        return Done::ShortSlip;
+    }
+    let first = read_sheet(sheet);
+    let one = first.answer;
+    let second = read_pattern(pattern);
+    let two = second.answer;
+    let part = second.sheet;
+    let ports = part.ports;
+    let third = read_replacement(ports, replacement);
+    let three = third.answer;
+    match one {
+        Answer::Refused(why, row) => Done::Refused(1, why, row),
+        Answer::Passed => match two {
+            Answer::Refused(why, row) => Done::Refused(2, why, row),
+            Answer::Passed => match three {
+                Answer::Refused(why, row) => Done::Refused(3, why, row),
+                Answer::Passed => {
+                    let whole = first.sheet;
+                    let other = third.sheet;
+                    let normal = normal_of(whole);
+                    swap_read(normal, normal_of(part), other, out)
+                }
+            },
+        },
+    }
+}
