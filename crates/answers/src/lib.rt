@@ -1,18 +1,19 @@
 // The numbers of document 01's table for each task's answer, and the row that a program prints of them.
+pub mod outcome;
 pub mod row;
 
-use claiming::claim::Claimed;
-use comparing::compare::Compared;
-use filling::done::Done;
+use crate::outcome::Claimed;
+use crate::outcome::Compared;
+use crate::outcome::Done;
 use sheet::answer::Refusal;
 use sheet::normalise::Normalised;
 ghost use mathlib.Core.Path.{_≡_};
 ghost use mathlib.Core.Bool.{false};
 ghost use Rattle.sheet.specs.Answer.{refusalNumber};
 ghost use Rattle.sheet.specs.NormalText.{normalisedNumber, normalisedInput, normalisedRow, normalisedBytes};
-ghost use Rattle.filling.specs.Done.{doneNumber, doneInput, doneRow, doneBytes};
-ghost use Rattle.comparing.specs.Compare.{comparedNumber, comparedInput, comparedRow, comparedYes};
-ghost use Rattle.claiming.specs.Claim.{claimedNumber, claimedInput, claimedRow, claimedYes};
+ghost use Rattle.answers.specs.Done.{doneNumber, doneInput, doneRow, doneBytes};
+ghost use Rattle.answers.specs.Compared.{comparedNumber, comparedInput, comparedRow, comparedYes};
+ghost use Rattle.answers.specs.Claimed.{claimedNumber, claimedInput, claimedRow, claimedYes};
 
 // The table's number of an answer, its input and row, and the bytes written.
 pub struct TaskAnswer {

@@ -36,7 +36,7 @@ use Rattle.filling.proofs.ResultNet.{result-sheet}
 use Rattle.finding.specs.Place.{sheetHeld}
 use Rattle.claiming.specs.Claim.{filledNet, placedClaim, claimedAnswer, claimAnswer}
 use Rattle.claiming.specs.Inputs.{ClaimInputs}
-use Rattle.claiming.specs.declared.claim.Claimed.the-variants.{Holds, Differs, Refused, BlankClash, EdgeDiffers}
+use Rattle.answers.specs.declared.outcome.Claimed.the-variants.{Holds, Differs, Refused, BlankClash, EdgeDiffers}
 use Rattle.claiming.proofs.Listed.{listed-atoms}
 
 -- A placing of the filled figure was found, or none.

@@ -1,4 +1,5 @@
 // The task claim: whether a figure, filled from a list, is the same as a sheet.
+use answers::outcome::Claimed;
 use filling::filled::normal_filled;
 use filling::part::first_differing;
 use filling::part::first_lacking;
@@ -21,16 +22,6 @@ ghost use Rattle.network.specs.Ready.{Ready};
 ghost use Rattle.filling.specs.Read.{listHeld};
 ghost use Rattle.claiming.specs.Claim.{placedClaim, claimedAnswer, claimAnswer};
 ghost use Rattle.claiming.specs.Inputs.{ClaimInputs};
-
-// The filled figure is the same as the sheet, or not; an input is refused at a row; over whole texts, an
-// input's row with a context that has no filling, or with a filling whose marks are not its ports.
-pub enum Claimed {
-    Holds,
-    Differs,
-    Refused(u16, Refusal, usize),
-    BlankClash(u16, usize),
-    EdgeDiffers(u16, usize),
-}
 
 // Whether the filled figure can be placed in the sheet.
 fn claim_filled(sheet: Normal, filled: Normal) -> Claimed

@@ -24,7 +24,7 @@ use Rattle.network.specs.Ready.{Ready}
 use Rattle.matching.specs.Search.{placedIn}
 use Rattle.comparing.specs.Compare.{isPlaced, sameTest, compareAnswer}
 use Rattle.matching.specs.declared.search.Found.{Found}
-use Rattle.comparing.specs.declared.compare.Compared.the-variants.{Same, Differs, Refused}
+use Rattle.answers.specs.declared.outcome.Compared.the-variants.{Same, Differs, Refused}
 
 -- A placing was found, or none.
 placed-by : (sheet other : form.Normal) (r : Found) (b : Bool) → placedIn sheet other r ≡ smallest (netIn sheet) (netIn other) → r .ok ≡ b → isPlaced (smallest (netIn sheet) (netIn other)) ≡ b

@@ -10,7 +10,7 @@ use Rattle.sheet.specs.declared.kind.Kind.the-variants.{Plain}
 use Rattle.sheet.specs.declared.answer.Answer.the-variants.{Passed}
 use Rattle.placing.proofs.Theorems.{heldSheet, text-sheets-placing}
 use Rattle.comparing.specs.Compare.{compareAnswer}
-use Rattle.comparing.specs.declared.compare.Compared.the-variants.{Same, Differs}
+use Rattle.answers.specs.declared.outcome.Compared.the-variants.{Same, Differs}
 use Rattle.comparing.proofs.Comparing.{passed-either, passed-same}
 
 -- Two sheets that passed are the same or they differ; neither is refused.

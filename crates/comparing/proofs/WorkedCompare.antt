@@ -10,8 +10,8 @@ use Rattle.rows.specs.Packed.{portsOf}
 use Rattle.sheet.specs.Reading.{strange, lastNumber, clashOf, clashes, firstOf, readFrom, outcomeOf}
 use Rattle.sheet.specs.declared.answer.Refusal.the-variants.{Ragged, StrangeRow}
 use Rattle.comparing.specs.Compare.{compareAnswer}
-use Rattle.comparing.specs.declared.compare.Compared.{Compared}
-use Rattle.comparing.specs.declared.compare.Compared.the-variants.{Refused}
+use Rattle.answers.specs.declared.outcome.Compared.{Compared}
+use Rattle.answers.specs.declared.outcome.Compared.the-variants.{Refused}
 
 record Case : Type 0 where
   first : List ℕ

@@ -1,4 +1,5 @@
 // The task compare: whether two sheets are the same.
+use answers::outcome::Compared;
 use matching::search::smallest_placing;
 use sheet::answer::Answer;
 use sheet::answer::Refusal;
@@ -11,13 +12,6 @@ ghost use Rattle.placing.specs.Smallest.{smallest};
 ghost use Rattle.network.specs.NetIn.{netIn};
 ghost use Rattle.network.specs.Ready.{Ready};
 ghost use Rattle.comparing.specs.Compare.{isPlaced, compareAnswer};
-
-// The two sheets are the same, or not; or an input, the first or the second, is refused at a row.
-pub enum Compared {
-    Same,
-    Differs,
-    Refused(u16, Refusal, usize),
-}
 
 // Whether the second can be placed in the first.
 fn compare_normals(sheet: Normal, other: Normal) -> Compared

@@ -29,13 +29,13 @@ use Rattle.placing.specs.Net.{netOf}
 use Rattle.placing.specs.Filled.{filledNormal}
 use Rattle.network.specs.NetIn.{netIn, Fit}
 use Rattle.filling.specs.Read.{listHeld, fillingsRead}
-use Rattle.filling.specs.Done.{slipAfter}
+use Rattle.answers.specs.Done.{slipAfter}
 use Rattle.filling.specs.Fill.{figureHeld, firstLacking, firstDiffering, filledBy, filledText, tooLarge, filledAnswer, fillAnswer, fillSlip}
 use Rattle.filling.specs.Parts.{firstUnported}
 use Rattle.filling.specs.Glued.{Own, joinedAll, allPairs, Glues}
 use Rattle.filling.specs.Classes.{Made}
-use Rattle.filling.specs.declared.done.Done.{Done}
-use Rattle.filling.specs.declared.done.Done.the-variants as done
+use Rattle.answers.specs.declared.outcome.Done.{Done}
+use Rattle.answers.specs.declared.outcome.Done.the-variants as done
 use Rattle.filling.proofs.Exact.{Rowed, none-lacking, exact-each}
 use Rattle.filling.proofs.Parts.{figure-within, list-within}
 use Rattle.filling.proofs.Located.{Right}

@@ -27,7 +27,7 @@ use Rattle.placing.proofs.NormalTexts.{netBlank, textBlank}
 use Rattle.placing.proofs.Theorems.{heldSheet, heldPattern, pattern-blanks, text-placing-fillings}
 use Rattle.filling.specs.Read.{listHeld, fillingRead, fillingsRead}
 use Rattle.filling.specs.Fill.{figureHeld, isExact, filledText, fillAnswer}
-use Rattle.filling.specs.declared.done.Done.the-variants as done
+use Rattle.answers.specs.declared.outcome.Done.the-variants as done
 use Rattle.filling.proofs.Exact.{marks-exact}
 use Rattle.filling.proofs.Located.{Right}
 use Rattle.filling.proofs.Back.{placed-back}

@@ -13,6 +13,7 @@ pub mod Written
 pub mod ResultNet
 pub mod FilledNet
 pub mod Loops
+pub mod Keeping
 pub mod Making
 pub mod Answers
 pub mod Says

@@ -14,7 +14,7 @@ use Rattle.filling.specs.Read.{listHeld}
 use Rattle.filling.specs.Fill.{figureHeld, firstLacking, firstDiffering, filledText, filledAnswer}
 use Rattle.filling.specs.Parts.{firstUnported}
 use Rattle.filling.specs.Filled.{FilledIs}
-use Rattle.filling.specs.declared.done.Done.the-variants as done
+use Rattle.answers.specs.declared.outcome.Done.the-variants as done
 use Rattle.filling.proofs.Answers.{lacking-made, differing-made, answer-lacking, answer-differing, answer-large, answer-written}
 
 module _ (sheet heads : Sheet) (list : List ℕ) (H : heads ≡ packed (listHeld list))

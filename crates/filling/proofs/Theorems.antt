@@ -29,7 +29,7 @@ use Rattle.placing.proofs.Theorems.{heldSheet, heldPattern}
 use Rattle.placing.proofs.SmallestLaws.{smallest-good}
 use Rattle.filling.specs.Read.{rowsRead, fillingsRead}
 use Rattle.filling.specs.Fill.{figureHeld, isExact, filledBy, filledText, fillAnswer, fillSlip}
-use Rattle.filling.specs.declared.done.Done.the-variants as done
+use Rattle.answers.specs.declared.outcome.Done.the-variants as done
 use Rattle.filling.proofs.Located.{Right}
 use Rattle.filling.proofs.Rows as Rows
 use Rattle.filling.proofs.Exact as Exact

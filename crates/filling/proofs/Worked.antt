@@ -16,7 +16,7 @@ use Rattle.sheet.specs.Filling.{fromHead, beforeHead, fillingOf}
 use Rattle.sheet.specs.Normal.{classOf, inserted, marksAmong, others, distinct, classesBy, numberBy, normalFormBy, normalForm}
 use Rattle.sheet.specs.NormalText.{joined}
 use Rattle.filling.specs.Fill.{firstLacking, firstDiffering, filledAnswer, fillAnswer}
-use Rattle.filling.specs.declared.done.Done.the-variants.{BlankClash, EdgeDiffers}
+use Rattle.answers.specs.declared.outcome.Done.the-variants.{BlankClash, EdgeDiffers}
 
 abbrev S : ℕ → List ℕ → List ℕ
 S n l = rowBytes 83 (n ∷ l)

@@ -21,9 +21,9 @@ use Rattle.placing.specs.Fillings.{Filling, rowsGraph}
 use Rattle.placing.specs.Filled.{filledGraph, filledNormal}
 use Rattle.placing.specs.Smallest.{sameList, numbersTo}
 use Rattle.filling.specs.Read.{listHeld, fillingRead, fillingsRead}
-use Rattle.filling.specs.Done.{slipAfter}
-use Rattle.filling.specs.declared.done.Done.{Done}
-use Rattle.filling.specs.declared.done.Done.the-variants as done
+use Rattle.answers.specs.Done.{slipAfter}
+use Rattle.answers.specs.declared.outcome.Done.{Done}
+use Rattle.answers.specs.declared.outcome.Done.the-variants as done
 
 abbrev pub figureHeld : List ℕ → Held
 figureHeld figure = outcomeOf Figure noPorts figure .held

@@ -1,8 +1,9 @@
 // The task fill: a figure with its contexts filled from a list, as normal text, into an output buffer.
-use crate::done::Done;
-use crate::filled::normal_filled;
-use crate::part::first_differing;
+use crate::filled::filled_from;
+use crate::kept::kept_of;
+use crate::part::differing;
 use crate::part::first_lacking;
+use answers::outcome::Done;
 use rows::Sheet;
 use sheet::answer::Answer;
 use sheet::normal_text::write_normal;
@@ -15,7 +16,7 @@ ghost use lib.ListN.{length};
 ghost use Rattle.rows.specs.Packed.{packed};
 ghost use Rattle.sheet.specs.NormalText.{slipLength};
 ghost use Rattle.filling.specs.Read.{listHeld};
-ghost use Rattle.filling.specs.Done.{slipAfter};
+ghost use Rattle.answers.specs.Done.{slipAfter};
 ghost use Rattle.filling.specs.Fill.{figureHeld, filledText, filledAnswer, fillAnswer, fillSlip};
 
 // A figure and a list that passed row by row.
@@ -29,11 +30,12 @@ fn fill_read(figure: Sheet, heads: Sheet, list: &[u8], out: &mut [u8]) -> Done
     if lacking != 0 {
         return Done::BlankClash(1, lacking);
     }
-    let differing = first_differing(heads, list);
-    if differing != 0 {
-        return Done::EdgeDiffers(2, differing);
+    let kept = kept_of(heads, list);
+    let other = differing(heads, list, kept);
+    if other != 0 {
+        return Done::EdgeDiffers(2, other);
     }
-    let normal = normal_filled(figure, list);
+    let normal = filled_from(figure, list, kept);
     if Sheet::ATOMS < normal.atom_count {
         return Done::TooLarge;
     }

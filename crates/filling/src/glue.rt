@@ -1,7 +1,7 @@
 // Which link classes of a figure and of the fillings put in are one: class n of part p has place
 // p * PART + n, part 0 being the figure and part i + 1 the filling put for context i; two places have
 // the same label exactly when they are one.
-use crate::part::part_of;
+use crate::kept::Kept;
 use rows::Sheet;
 use sheet::normal::Normal;
 ghost use mathlib.Core.Path.{_≡_};
@@ -10,6 +10,7 @@ ghost use lib.ListN.{length, take, getD};
 ghost use Rattle.rows.specs.Format.{mostLinks};
 ghost use Rattle.rows.specs.Limits.{figureContexts};
 ghost use Rattle.filling.specs.Parts.{partRoom, places, Low};
+ghost use Rattle.filling.specs.Kept.{Keeps};
 ghost use Rattle.filling.specs.Glued.{Own, joinedAt, joinedAll, portPairs, Glues};
 
 // Room for the classes of one part, which are counted from 1.
@@ -72,8 +73,8 @@ fn with_ports(
 }
 
 // The labels when every context has its filling.
-pub(crate) fn glued(figure: Normal, list: &[u8]) -> [u16; PLACES]
-    requires { ⌜ Low figure ⌝ }
+pub(crate) fn glued(figure: Normal, list: &[u8], kept: Kept) -> [u16; PLACES]
+    requires { ⌜ Low figure × Keeps (now list) kept ⌝ }
     ensures { λ r. ⌜ Glues (now (list .entry)) figure r ⌝ }
 {
     let mut labels = own_labels();
@@ -81,7 +82,7 @@ pub(crate) fn glued(figure: Normal, list: &[u8]) -> [u16; PLACES]
     while i < figure.context_count {
         let context = figure.contexts[i];
         let links = context.links;
-        let part = part_of(list, context.number);
+        let part = kept.part(list, context.number);
         let marked = part.marked;
         with_ports(&mut labels, i + 1, links, context.count as usize, marked);
         i += 1;

@@ -1,8 +1,8 @@
 // Filling a figure from a list of fillings: refusals over whole texts, and the filled result.
 mod classes;
-pub mod done;
 pub mod fill;
 pub mod filled;
 mod glue;
+mod kept;
 pub mod part;
 mod whole;

@@ -1,4 +1,5 @@
 // One filling of a list, and the refusals over whole texts.
+use crate::kept::Kept;
 use rows::Sheet;
 use sheet::filling::filling_of;
 use sheet::normal::Normal;
@@ -13,6 +14,7 @@ ghost use Rattle.rows.specs.Packed.{packed};
 ghost use Rattle.placing.specs.Smallest.{sameList, numbersTo};
 ghost use Rattle.filling.specs.Fill.{firstDiffering};
 ghost use Rattle.filling.specs.Parts.{withoutHeads, partNormal, firstUnported, Counted};
+ghost use Rattle.filling.specs.Kept.{Keeps};
 
 // The rows of a filling without its head.
 fn without_heads(mut sheet: Sheet) -> Sheet
@@ -72,18 +74,26 @@ pub fn first_lacking(figure: Sheet, heads: Sheet) -> usize
 }
 
 // 9: the row of the first head whose filling has other marks than its ports, or 0.
-pub fn first_differing(heads: Sheet, list: &[u8]) -> usize
-    requires { ⌜ heads .«context_count» ≤ figureContexts ⌝ }
+pub(crate) fn differing(heads: Sheet, list: &[u8], kept: Kept) -> usize
+    requires { ⌜ (heads .«context_count» ≤ figureContexts) × Keeps (now list) kept ⌝ }
     ensures { λ r. ⌜ r ≡ firstDiffering (now (list .entry)) (take (heads .«context_count») (heads .contexts)) ⌝ }
 {
     let mut i = 0;
     while i < heads.context_count {
         let head = heads.contexts[i];
-        let part = part_of(list, head.number);
+        let part = kept.part(list, head.number);
         if !marks_exact(part, head.count) {
             return head.row as usize;
         }
         i += 1;
     }
     0
+}
+
+// The same with no filling read before.
+pub fn first_differing(heads: Sheet, list: &[u8]) -> usize
+    requires { ⌜ heads .«context_count» ≤ figureContexts ⌝ }
+    ensures { λ r. ⌜ r ≡ firstDiffering (now (list .entry)) (take (heads .«context_count») (heads .contexts)) ⌝ }
+{
+    differing(heads, list, Kept::none())
 }

@@ -1,7 +1,7 @@
 // The atoms of a filled figure, with the labels of their link classes.
 use crate::glue::PART;
 use crate::glue::PLACES;
-use crate::part::part_of;
+use crate::kept::Kept;
 use rows::Atom;
 use rows::Sheet;
 use sheet::normal::Normal;
@@ -12,6 +12,7 @@ ghost use lib.ListN.{getD};
 ghost use Rattle.rows.specs.Format.{mostLinks};
 ghost use Rattle.rows.specs.Limits.{sheetAtoms, figureContexts};
 ghost use Rattle.filling.specs.Parts.{partRoom, Low};
+ghost use Rattle.filling.specs.Kept.{Keeps};
 ghost use Rattle.filling.specs.Whole.{labelledLinks, partAtoms, allAtoms, roomFor, wholeAtoms, Grown};
 
 // As many atoms as a sheet has room for: one more than its limit says that there are too many.
@@ -75,15 +76,15 @@ impl Whole {
 }
 
 // The figure's atoms, then for each context in order its filling's.
-pub(crate) fn whole_of(figure: Normal, list: &[u8], labels: &[u16; PLACES]) -> Whole
-    requires { ⌜ Low figure ⌝ }
+pub(crate) fn whole_of(figure: Normal, list: &[u8], kept: Kept, labels: &[u16; PLACES]) -> Whole
+    requires { ⌜ Low figure × Keeps (now list) kept ⌝ }
     ensures { λ r. ⌜ (wholeAtoms r ≡ roomFor (allAtoms (now (list .entry)) (now (labels .entry)) figure)) × (r .count ≤ sheetAtoms + 1) ⌝ }
 {
     let mut whole = Whole::none().with_part(labels, 0, figure);
     let mut i = 0;
     while i < figure.context_count {
         let context = figure.contexts[i];
-        let part = part_of(list, context.number);
+        let part = kept.part(list, context.number);
         whole = whole.with_part(labels, i + 1, part);
         i += 1;
     }

@@ -31,9 +31,9 @@ use Rattle.network.proofs.NetRead.{net-read, fit-read, normal-read}
 use Rattle.matching.specs.Search.{placedIn}
 use Rattle.matching.specs.declared.search.Found.{Found}
 use Rattle.listing.specs.Writing.{Columns, fillingsText}
-use Rattle.filling.specs.Done.{slipAfter}
-use Rattle.filling.specs.declared.done.Done.{Done}
-use Rattle.filling.specs.declared.done.Done.the-variants as done
+use Rattle.answers.specs.Done.{slipAfter}
+use Rattle.answers.specs.declared.outcome.Done.{Done}
+use Rattle.answers.specs.declared.outcome.Done.the-variants as done
 use Rattle.finding.specs.Place.{sheetHeld, patternHeld, fillingsIn, placedFillings, placedAnswer, placedText, placeAnswer, placeSlip, sheetNet, patternNet}
 use Rattle.finding.specs.Inputs.{PlaceInputs}
 

@@ -15,10 +15,10 @@ use Rattle.placing.specs.Placing.{Placing}
 use Rattle.placing.specs.Fillings.{Filling, normalFillingsOf}
 use Rattle.placing.specs.ListText.{listText}
 use Rattle.placing.specs.Smallest.{smallest}
-use Rattle.filling.specs.Done.{slipAfter}
+use Rattle.answers.specs.Done.{slipAfter}
 use Rattle.filling.specs.Fill.{unless}
-use Rattle.filling.specs.declared.done.Done.{Done}
-use Rattle.filling.specs.declared.done.Done.the-variants as done
+use Rattle.answers.specs.declared.outcome.Done.{Done}
+use Rattle.answers.specs.declared.outcome.Done.the-variants as done
 
 abbrev pub sheetHeld : List ℕ → Held
 sheetHeld sheet = outcomeOf Plain noPorts sheet .held

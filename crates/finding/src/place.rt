@@ -1,5 +1,5 @@
 // The task place: the fillings with which a pattern is a sheet, as a list, into an output buffer.
-use filling::done::Done;
+use answers::outcome::Done;
 use listing::write_fillings;
 use matching::search::smallest_placing;
 use rows::Sheet;
@@ -13,7 +13,7 @@ ghost use mathlib.Core.List.{List};
 ghost use Prim.Native.Nat.{ℕ, _≤_};
 ghost use lib.ListN.{length};
 ghost use Rattle.sheet.specs.NormalText.{slipLength};
-ghost use Rattle.filling.specs.Done.{slipAfter};
+ghost use Rattle.answers.specs.Done.{slipAfter};
 ghost use Rattle.finding.specs.Place.{placedFillings, placedAnswer, placedText, placeAnswer, placeSlip};
 ghost use Rattle.finding.specs.Inputs.{PlaceInputs};
 

@@ -4,12 +4,12 @@ use mathlib.Core.Path.{_≡_, ap, _∙_}
 use mathlib.Core.Bool.{Bool}
 use Rattle.sheet.specs.declared.normalise.Normalised.{Normalised}
 use Rattle.sheet.specs.NormalText.{normalisedNumber, normalisedInput, normalisedRow, normalisedBytes}
-use Rattle.filling.specs.declared.done.Done.{Done}
-use Rattle.filling.specs.Done.{doneNumber, doneInput, doneRow, doneBytes}
-use Rattle.comparing.specs.declared.compare.Compared.{Compared}
-use Rattle.comparing.specs.Compare.{comparedNumber, comparedInput, comparedRow, comparedYes}
-use Rattle.claiming.specs.declared.claim.Claimed.{Claimed}
-use Rattle.claiming.specs.Claim.{claimedNumber, claimedInput, claimedRow, claimedYes}
+use Rattle.answers.specs.declared.outcome.Done.{Done}
+use Rattle.answers.specs.Done.{doneNumber, doneInput, doneRow, doneBytes}
+use Rattle.answers.specs.declared.outcome.Compared.{Compared}
+use Rattle.answers.specs.Compared.{comparedNumber, comparedInput, comparedRow, comparedYes}
+use Rattle.answers.specs.declared.outcome.Claimed.{Claimed}
+use Rattle.answers.specs.Claimed.{claimedNumber, claimedInput, claimedRow, claimedYes}
 use Rattle.answers.specs.declared.TaskAnswer.{TaskAnswer}
 use Rattle.answers.specs.declared.Verdict.{Verdict}
 

@@ -18,11 +18,13 @@ use swapping::swap::swap;
 ghost use mathlib.Core.Path.{_≡_};
 ghost use lib.ListN.{length};
 ghost use Rattle.sheet.specs.NormalText.{normalisedAnswer, normalisedSlip, normalisedNumber, normalisedInput, normalisedRow, normalisedBytes};
-ghost use Rattle.filling.specs.Done.{doneNumber, doneInput, doneRow, doneBytes};
+ghost use Rattle.answers.specs.Done.{doneNumber, doneInput, doneRow, doneBytes};
 ghost use Rattle.filling.specs.Fill.{fillAnswer, fillSlip};
-ghost use Rattle.comparing.specs.Compare.{compareAnswer, comparedNumber, comparedInput, comparedRow, comparedYes};
+ghost use Rattle.comparing.specs.Compare.{compareAnswer};
+ghost use Rattle.answers.specs.Compared.{comparedNumber, comparedInput, comparedRow, comparedYes};
 ghost use Rattle.finding.specs.Place.{placeAnswer, placeSlip};
-ghost use Rattle.claiming.specs.Claim.{claimAnswer, claimedNumber, claimedInput, claimedRow, claimedYes};
+ghost use Rattle.claiming.specs.Claim.{claimAnswer};
+ghost use Rattle.answers.specs.Claimed.{claimedNumber, claimedInput, claimedRow, claimedYes};
 ghost use Rattle.swapping.specs.Swap.{swapAnswer, swapSlip};
 
 // The values of an answer, each where the caller wants it.

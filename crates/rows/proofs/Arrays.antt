@@ -2,7 +2,6 @@
 use Prim.Native.Nat.{ℕ, _+_, _<_, _≤_}
 use mathlib.Core.Path.{_≡_, refl, ap, _∙_, sym}
 use mathlib.Core.List.{List, [], _∷_, _++_}
-use native.Mathlib.Nat.{add-comm}
 use native.Mathlib.Numerals.{add-one}
 use native.Mathlib.Omega.{arith}
 use lib.Seq.{take-suc, getD-drop}
@@ -16,7 +15,7 @@ use Rattle.rows.specs.Steps.{Wired, rewired, Rewires, Linked, Relinks}
 use Rattle.rows.specs.declared.Sheet.{Sheet}
 use Rattle.rows.proofs.Padding.{take-padded, set-padded, getD-padding, mapped-padded}
 use Rattle.rows.proofs.Lists.{mapped}
-use Rattle.rows.proofs.Wired.{link-known, link-new, wired-link, wired-links}
+use Rattle.rows.proofs.Wired.{link-known, link-new, wired-links}
 
 abbrev linkRoom : ℕ
 linkRoom = fillingLinks + mostLinks
@@ -122,10 +121,10 @@ pub links-more : (links classes : List ℕ) (n : ℕ) (links' classes' : List �
     → Relinks links classes n links' classes' n' (λ w. withLinks w l) → Relinks links' classes' n' links'' classes'' n'' (λ w. withLink w x) → Relinks links classes n links'' classes'' n'' (λ w. withLinks w (l ++ (x ∷ [])))
 links-more links classes n links' classes' n' links'' classes'' n'' l x f g w wired k = rw (links-snoc w l x) (g (withLinks w l) (wired-links w l wired) (f w wired k))
 
--- the first links of a row, and one more
-pub row-link : (nums : List ℕ) (k : ℕ) → k + 2 < length nums → take (k + 1) (drop 2 nums) ≡ take k (drop 2 nums) ++ (getD nums (k + 2) 0 ∷ [])
-row-link nums k h =
-    rw (add-one k) (rw (take-suc (drop 2 nums) k 0 (simp length-drop (omega arith))) (rw (getD-drop 2 nums k 0) (rw (add-comm 2 k))))
+-- the numbers of k fields, and one more
+pub row-link : (nums : List ℕ) (from k : ℕ) → from + k < length nums → take (k + 1) (drop from nums) ≡ take k (drop from nums) ++ (getD nums (from + k) 0 ∷ [])
+row-link nums from k h =
+    rw (add-one k) (rw (take-suc (drop from nums) k 0 (simp length-drop (omega arith))) (rw (getD-drop from nums k 0)))
 
 -- the arrays of links and classes by themselves
 module _ (w : Wiring) (wired : Wired w) (links classes : List ℕ) (n : ℕ) (k : Linked w links classes n) (x : ℕ) where
@@ -160,10 +159,9 @@ link-fused w wired links classes n k a b =
       count = k .count;
     }
 
-pub fused-links : (w : Wiring) → Wired w → (a b : ℕ) (links classes : List ℕ) (n : ℕ) → Linked (withLink (withLink w a) b) links classes n → (i j : ℕ) (out : List ℕ)
-    → i ≡ indexOf a (take n links) → j ≡ indexOf b (take n links) → out ≡ mapped (relabelled (getD classes j 0) (getD classes i 0)) n classes → Linked (withFusion (withLinks w (a ∷ b ∷ [])) a b) links out n
-unfolding withLinks
-fused-links w wired a b links classes n k i j out ei ej eo = rw eo (rw ei (rw ej (link-fused (withLink (withLink w a) b) (wired-link (withLink w a) b (wired-link w a wired)) links classes n k a b)))
+pub fused-links : (w : Wiring) → Wired w → (a b : ℕ) (links classes : List ℕ) (n : ℕ) → Linked w links classes n → (i j : ℕ) (out : List ℕ)
+    → i ≡ indexOf a (take n links) → j ≡ indexOf b (take n links) → out ≡ mapped (relabelled (getD classes j 0) (getD classes i 0)) n classes → Linked (withFusion w a b) links out n
+fused-links w wired a b links classes n k i j out ei ej eo = rw eo (rw ei (rw ej (link-fused w wired links classes n k a b)))
 
 -- a sheet with other links and classes
 pub relinked : (s : Sheet) (h : Held) → s ≡ packed h → (w : Wiring) → w .marks ≡ h .wiring .marks → w .marked ≡ h .wiring .marked → (links classes : List ℕ) (n : ℕ) → Linked w links classes n

@@ -7,5 +7,6 @@ pub mod Padding
 pub mod Arrays
 pub mod Ports
 pub mod Rows
+pub mod RowLinks
 pub mod TakeRow
 pub mod RowBytes

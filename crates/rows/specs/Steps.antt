@@ -2,12 +2,12 @@
 use Prim.Native.Nat.{ℕ, _+_, _<_, _≤_}
 use mathlib.Core.Path.{_≡_}
 use mathlib.Core.List.{List, [], _∷_, _++_}
-use lib.Dec.{eqb}
-use lib.ListN.{length, getD}
+use lib.Dec.{eqb, ltb}
+use lib.ListN.{length, take, drop, getD}
 use Rattle.rows.specs.Pick.{pick}
 use Rattle.rows.specs.Format.{mostLinks}
 use Rattle.rows.specs.Limits.{sheetAtoms, figureContexts, sheetMarks, fillingLinks}
-use Rattle.rows.specs.Held.{Wiring, Held, withLink, withLinks, withFusion, linksOf, atomOf, contextOf}
+use Rattle.rows.specs.Held.{Wiring, Held, withLinks, withFusion, atomOf, contextOf}
 use Rattle.rows.specs.Packed.{padded, packed}
 use Rattle.rows.specs.declared.Sheet.{Sheet}
 use Rattle.rows.specs.declared.row.Row.{Row}
@@ -38,13 +38,18 @@ pub record Linked (w : Wiring) (links classes : List ℕ) (n : ℕ) : Type 0 whe
 abbrev pub Relinks : List ℕ → List ℕ → ℕ → List ℕ → List ℕ → ℕ → (Wiring → Wiring) → Type 0
 Relinks links classes n links' classes' n' f = (w : Wiring) → Wired w → Linked w links classes n → Linked (f w) links' classes' n'
 
+-- the field of a row's first link, by its letter, and how many links it has
+abbrev pub firstLink : ℕ → ℕ
+firstLink letter = pick (ltb letter 2) 2 0
+
+abbrev pub linkCount : ℕ → List ℕ → ℕ
+linkCount letter nums = pick (ltb letter 2) (getD nums 1 0) (pick (eqb letter 2) 2 (pick (eqb letter 3) 1 0))
+
 -- what a row's letter and numbers make of links and classes
 abbrev pub linkedBy : ℕ → List ℕ → Wiring → Wiring
 linkedBy letter nums w =
-    pick (eqb letter 0) (withLinks w (linksOf nums))
-    (pick (eqb letter 1) (withLinks w (linksOf nums))
-    (pick (eqb letter 2) (withFusion (withLinks w (getD nums 0 0 ∷ getD nums 1 0 ∷ [])) (getD nums 0 0) (getD nums 1 0))
-    (pick (eqb letter 3) (withLink w (getD nums 0 0)) w)))
+    let v = withLinks w (take (linkCount letter nums) (drop (firstLink letter) nums)) in
+    pick (eqb letter 2) (withFusion v (getD nums 0 0) (getD nums 1 0)) v
 
 -- a sheet that has room for one row more
 pub record Room (s : Sheet) : Type 0 where

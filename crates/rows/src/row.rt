@@ -1,9 +1,10 @@
 // The one row reader: a letter and its fields, by one table.
 use crate::Sheet;
 ghost use mathlib.Core.Path.{_≡_};
-ghost use Prim.Native.Nat.{_<_};
-ghost use lib.ListN.{length};
-ghost use Rattle.rows.specs.Format.{rowWidth, letterOf, ruleOf};
+ghost use mathlib.Core.List.{[]};
+ghost use Prim.Native.Nat.{ℕ, _<_};
+ghost use lib.ListN.{length, getD};
+ghost use Rattle.rows.specs.Format.{rowWidth, letterOf, rules, ruleOf};
 ghost use Rattle.rows.specs.Row.{misplacedIn, suits, rowOf};
 
 // What a field of a row may hold: a number from low to high where it is filled, nothing elsewhere.
@@ -87,16 +88,23 @@ pub(crate) fn letter_of(b: u8) -> usize
     }
 }
 
-// The table's rule for a letter's field.
-pub(crate) fn rule_of(letter: usize, f: usize) -> Rule
+// The table's rules for a letter.
+pub(crate) fn rules_of(letter: usize) -> [Rule; 3]
     requires { ⌜ letter < 5 ⌝ }
-    ensures { λ r. ⌜ r ≡ ruleOf letter f ⌝ }
+    ensures { λ r. ⌜ r ≡ getD rules letter [] ⌝ }
+{
+    RULES[letter]
+}
+
+// The rule for field f, of a letter's.
+pub(crate) fn rule_of(own: [Rule; 3], f: usize) -> Rule
+    ensures { λ r. ⌜ ((letter : ℕ) → own ≡ getD rules letter [] → r ≡ ruleOf letter f) ⌝ }
 {
     let mut column = f;
     if 2 < f {
         column = 2;
     }
-    RULES[letter][column]
+    own[column]
 }
 
 // Whether field f may hold what was read there, in a row with this count.
@@ -157,6 +165,7 @@ pub fn read_row(row: &[u8]) -> Row
             nums,
         };
     }
+    let own = rules_of(letter);
     let mut f = 0;
     'row: while f < Sheet::FIELDS {
         let at = f * 4 + 1;
@@ -175,7 +184,7 @@ pub fn read_row(row: &[u8]) -> Row
             }
             col += 1;
         }
-        let rule = rule_of(letter, f);
+        let rule = rule_of(own, f);
         if !field_suits(rule, f, nums[1], filled, n) {
             good = false;
             break 'row;

@@ -4,16 +4,16 @@ use crate::Context;
 use crate::Sheet;
 use crate::row::Row;
 ghost use mathlib.Core.Path.{_≡_};
-ghost use mathlib.Core.List.{[], _∷_, _++_, map};
+ghost use mathlib.Core.List.{_++_, map};
 ghost use Prim.Native.Nat.{ℕ, _+_, _<_, _≤_};
 ghost use lib.Dec.{eqb};
 ghost use lib.ListN.{length, take, drop, getD, set};
 ghost use Rattle.rows.specs.Pick.{pick};
-ghost use Rattle.rows.specs.Format.{mostLinks};
+ghost use Rattle.rows.specs.Format.{fieldCount, mostLinks};
 ghost use Rattle.rows.specs.Limits.{sheetAtoms, sheetMarks, figureContexts, fillingLinks};
-ghost use Rattle.rows.specs.Held.{indexOf, relabelled, withLink, withLinks, linksOf, withFusion, withMark, withRow, noWiring, Held};
+ghost use Rattle.rows.specs.Held.{indexOf, relabelled, withLink, withLinks, withFusion, withMark, withRow, noWiring, Held};
 ghost use Rattle.rows.specs.Packed.{packed};
-ghost use Rattle.rows.specs.Steps.{Makes, Rewires, Relinks, Wired, Room, Ranged, linkedBy, withSymbol, withPorts};
+ghost use Rattle.rows.specs.Steps.{Makes, Rewires, Relinks, Wired, Room, Ranged, firstLink, linkCount, linkedBy, withSymbol, withPorts};
 
 // The place of x among the first n numbers, or n where it is not there.
 pub fn index_of(s: &[u16], n: usize, x: u16) -> usize
@@ -68,37 +68,61 @@ pub(crate) fn add_link(links: &mut [u16], classes: &mut [u16], n: usize, x: u16)
     n + 1
 }
 
-// As many links as the row's count says.
+// The numbers of `count` fields from field `from` on, as links.
 pub(crate) fn add_links(
     links: &mut [u16],
     classes: &mut [u16],
     n: usize,
     nums: [u16; Sheet::FIELDS],
+    from: usize,
+    count: usize,
 ) -> usize
-    requires { ⌜ (n ≤ fillingLinks) × (getD nums 1 0 ≤ mostLinks) × (length (now links) ≡ fillingLinks + mostLinks) × (length (now classes) ≡ fillingLinks + mostLinks) ⌝ }
-    ensures { λ r. ⌜ Relinks (now (links .entry)) (now (classes .entry)) n (now (links .exit)) (now (classes .exit)) r (λ w. withLinks w (linksOf nums)) ⌝ }
+    requires { ⌜ (n ≤ fillingLinks) × (count ≤ mostLinks) × (from + count ≤ fieldCount) × (length (now links) ≡ fillingLinks + mostLinks) × (length (now classes) ≡ fillingLinks + mostLinks) ⌝ }
+    ensures { λ r. ⌜ (r ≤ n + count) × Relinks (now (links .entry)) (now (classes .entry)) n (now (links .exit)) (now (classes .exit)) r (λ w. withLinks w (take count (drop from nums))) ⌝ }
 {
-    let count = nums[1] as usize;
     let mut m = n;
     let mut k = 0;
     while k < count {
-        m = add_link(links, classes, m, nums[k + 2]);
+        m = add_link(links, classes, m, nums[from + k]);
         k += 1;
     }
     m
 }
 
-// Two links made one point.
-pub(crate) fn add_fusion(links: &mut [u16], classes: &mut [u16], n: usize, a: u16, b: u16) -> usize
-    requires { ⌜ (n ≤ fillingLinks) × (length (now links) ≡ fillingLinks + mostLinks) × (length (now classes) ≡ fillingLinks + mostLinks) ⌝ }
-    ensures { λ r. ⌜ Relinks (now (links .entry)) (now (classes .entry)) n (now (links .exit)) (now (classes .exit)) r (λ w. withFusion (withLinks w (a ∷ b ∷ [])) a b) ⌝ }
+// Two of the links made one point.
+pub(crate) fn fuse(links: &[u16], classes: &mut [u16], n: usize, a: u16, b: u16)
+    requires { ⌜ (n < fillingLinks + mostLinks) × (length (now links) ≡ fillingLinks + mostLinks) × (length (now classes) ≡ fillingLinks + mostLinks) ⌝ }
+    ensures { λ _. ⌜ Relinks (now (links .entry)) (now (classes .entry)) n (now (links .entry)) (now (classes .exit)) n (λ w. withFusion w a b) ⌝ }
 {
-    let one = add_link(links, classes, n, a);
-    let two = add_link(links, classes, one, b);
-    let i = index_of(links, two, a);
-    let j = index_of(links, two, b);
-    merge(classes, two, i, j);
-    two
+    let i = index_of(links, n, a);
+    let j = index_of(links, n, b);
+    merge(classes, n, i, j);
+}
+
+// The field of a row's first link.
+pub(crate) fn first_link(letter: usize) -> usize
+    ensures { λ r. ⌜ r ≡ firstLink letter ⌝ }
+{
+    if letter < 2 {
+        return 2;
+    }
+    0
+}
+
+// How many links a row has.
+pub(crate) fn link_count(letter: usize, nums: [u16; Sheet::FIELDS]) -> usize
+    ensures { λ r. ⌜ r ≡ linkCount letter nums ⌝ }
+{
+    if letter < 2 {
+        return nums[1] as usize;
+    }
+    if letter == 2 {
+        return 2;
+    }
+    if letter == 3 {
+        return 1;
+    }
+    0
 }
 
 // The links of a row, by its letter.
@@ -112,13 +136,14 @@ pub(crate) fn add_row_links(
     requires { ⌜ (n ≤ fillingLinks) × (letter < 2 → getD nums 1 0 ≤ mostLinks) × (length (now links) ≡ fillingLinks + mostLinks) × (length (now classes) ≡ fillingLinks + mostLinks) ⌝ }
     ensures { λ r. ⌜ (letter ≡ 3 → r ≤ n + 1) × Relinks (now (links .entry)) (now (classes .entry)) n (now (links .exit)) (now (classes .exit)) r (linkedBy letter nums) ⌝ }
 {
-    match letter {
-        0 => add_links(links, classes, n, nums),
-        1 => add_links(links, classes, n, nums),
-        2 => add_fusion(links, classes, n, nums[0], nums[1]),
-        3 => add_link(links, classes, n, nums[0]),
-        _ => n,
+    let from = first_link(letter);
+    let count = link_count(letter, nums);
+    let m = add_links(links, classes, n, nums, from, count);
+    if letter != 2 {
+        return m;
     }
+    fuse(links, classes, m, nums[0], nums[1]);
+    m
 }
 
 // The links that a symbol or blank row may have; those past its count are 0.

@@ -10,8 +10,8 @@ use Rattle.sheet.specs.declared.answer.Answer.{Answer}
 use Rattle.sheet.specs.declared.answer.Answer.the-variants.{Passed}
 use Rattle.comparing.specs.Compare.{compareAnswer}
 use Rattle.filling.specs.Fill.{filledAnswer, filledText}
-use Rattle.filling.specs.declared.done.Done.{Done}
-use Rattle.filling.specs.declared.done.Done.the-variants as done
+use Rattle.answers.specs.declared.outcome.Done.{Done}
+use Rattle.answers.specs.declared.outcome.Done.the-variants as done
 use Rattle.finding.specs.Passed.{PlacePassed}
 use Rattle.starred.specs.Case.{Verdict, Filling, Placed, Case, compares, normalises, places, nowhere, prints, bytesOf, listBytes, compareVerdict, claimVerdict, NormalFilling, Every, all, _&_, Holds}
 use Rattle.starred.proofs.Ending.{normalise-ends, fill-ends}

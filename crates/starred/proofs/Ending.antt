@@ -8,9 +8,9 @@ use Rattle.sheet.specs.NormalText.{slipLength, normalText, normalisedAnswer, no
 use Rattle.sheet.specs.Reading.{outcomeOf, noPorts}
 use Rattle.sheet.specs.declared.kind.Kind.the-variants.{Plain, Figure, Fillings}
 use Rattle.sheet.specs.declared.answer.Answer.the-variants.{Passed}
-use Rattle.filling.specs.Done.{slipAfter}
+use Rattle.answers.specs.Done.{slipAfter}
 use Rattle.filling.specs.Fill.{filledAnswer, filledText, fillAnswer, fillSlip}
-use Rattle.filling.specs.declared.done.Done.the-variants as done
+use Rattle.answers.specs.declared.outcome.Done.the-variants as done
 use Rattle.starred.specs.Case.{doneAnswer, NormaliseEnds, FillEnds}
 
 module _ (sheet normal : List ℕ) (ok : outcomeOf Plain noPorts sheet .answer ≡ Passed) (text : normalText Plain sheet ≡ normal) where

@@ -12,13 +12,13 @@ use Rattle.sheet.specs.NormalText.{slipLength}
 use Rattle.placing.specs.Fillings.{Filling}
 use Rattle.placing.specs.ListText.{listText}
 use Rattle.placing.proofs.Narrowed.{narrowed, narrowed-same}
-use Rattle.filling.specs.Done.{doneNumber, doneInput, doneRow, doneBytes, slipAfter}
-use Rattle.filling.specs.declared.done.Done.{Done}
-use Rattle.filling.specs.declared.done.Done.the-variants as done
+use Rattle.answers.specs.Done.{doneNumber, doneInput, doneRow, doneBytes, slipAfter}
+use Rattle.answers.specs.declared.outcome.Done.{Done}
+use Rattle.answers.specs.declared.outcome.Done.the-variants as done
 use Rattle.finding.specs.Place.{fillingsIn, placedFillings, placedAnswer, placedText, placeAnswer, placeSlip, sheetNet, patternNet}
 use Rattle.finding.specs.Passed.{PlacePassed}
 use Rattle.claiming.specs.Claim.{claimAnswer}
-use Rattle.claiming.specs.declared.claim.Claimed.the-variants as claim
+use Rattle.answers.specs.declared.outcome.Claimed.the-variants as claim
 use Rattle.tasks.specs.Demand.{placeWritten}
 use Rattle.tasks.proofs.Places.{place-answer, place-claim}
 use Rattle.starred.specs.Case.{doneAnswer, PlaceEnds, printed, Prints}

@@ -12,14 +12,16 @@ use Rattle.rows.specs.RowText.{rowBytes}
 use Rattle.sheet.specs.NormalText.{slipLength, normalText, normalisedAnswer, normalisedSlip, normalisedNumber, normalisedInput, normalisedRow, normalisedBytes}
 use Rattle.sheet.specs.declared.kind.Kind.the-variants.{Plain, Pattern}
 use Rattle.sheet.specs.declared.normalise.Normalised.{Normalised}
-use Rattle.comparing.specs.Compare.{compareAnswer, comparedNumber, comparedInput, comparedRow, comparedYes}
-use Rattle.comparing.specs.declared.compare.Compared.{Compared}
-use Rattle.filling.specs.Done.{doneNumber, doneInput, doneRow, doneBytes}
-use Rattle.filling.specs.declared.done.Done.{Done}
+use Rattle.comparing.specs.Compare.{compareAnswer}
+use Rattle.answers.specs.Compared.{comparedNumber, comparedInput, comparedRow, comparedYes}
+use Rattle.answers.specs.declared.outcome.Compared.{Compared}
+use Rattle.answers.specs.Done.{doneNumber, doneInput, doneRow, doneBytes}
+use Rattle.answers.specs.declared.outcome.Done.{Done}
 use Rattle.filling.specs.Fill.{fillAnswer, fillSlip}
 use Rattle.finding.specs.Place.{placeAnswer, placeSlip}
-use Rattle.claiming.specs.Claim.{claimAnswer, claimedNumber, claimedInput, claimedRow, claimedYes}
-use Rattle.claiming.specs.declared.claim.Claimed.{Claimed}
+use Rattle.claiming.specs.Claim.{claimAnswer}
+use Rattle.answers.specs.Claimed.{claimedNumber, claimedInput, claimedRow, claimedYes}
+use Rattle.answers.specs.declared.outcome.Claimed.{Claimed}
 
 -- a filling: its H row, and its own rows
 pub record Filling : Type 0 where

@@ -43,11 +43,11 @@ use Rattle.network.proofs.NetRead.{fit-read}
 use Rattle.matching.specs.Search.{placedIn}
 use Rattle.matching.specs.declared.search.Found.{Found}
 use Rattle.listing.specs.Writing.{fillingsText}
-use Rattle.filling.specs.Done.{slipAfter}
+use Rattle.answers.specs.Done.{slipAfter}
 use Rattle.filling.specs.Read.{listHeld, fillingsRead}
 use Rattle.filling.specs.Fill.{figureHeld, firstLacking, firstDiffering, filledBy, filledText, tooLarge}
-use Rattle.filling.specs.declared.done.Done.{Done}
-use Rattle.filling.specs.declared.done.Done.the-variants as done
+use Rattle.answers.specs.declared.outcome.Done.{Done}
+use Rattle.answers.specs.declared.outcome.Done.the-variants as done
 use Rattle.filling.specs.Filled.{FilledIs}
 use Rattle.filling.proofs.Back.{placed-back}
 use Rattle.filling.proofs.ReadAsFigure.{replacement-figure}

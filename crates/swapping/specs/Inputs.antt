@@ -11,8 +11,8 @@ use Rattle.sheet.specs.declared.normal.Normal as form
 use Rattle.sheet.specs.declared.answer.Answer.the-variants.{Passed}
 use Rattle.filling.specs.Read.{listHeld}
 use Rattle.filling.specs.Fill.{figureHeld, firstLacking, firstDiffering, filledBy, filledText, tooLarge}
-use Rattle.filling.specs.declared.done.Done.{Done}
-use Rattle.filling.specs.declared.done.Done.the-variants as done
+use Rattle.answers.specs.declared.outcome.Done.{Done}
+use Rattle.answers.specs.declared.outcome.Done.the-variants as done
 use Rattle.finding.specs.Place.{patternHeld, placedFillings}
 use Rattle.finding.specs.Inputs.{PlaceInputs}
 use Rattle.swapping.specs.Swap.{replacementRead, replacementHeld, sameMarks, swappedAnswer, swappedText}

@@ -17,10 +17,10 @@ use Rattle.sheet.specs.declared.kind.Kind.the-variants.{Plain, Pattern, Replace
 use Rattle.placing.specs.Fillings.{Filling}
 use Rattle.placing.specs.Filled.{filledGraph, filledNormal}
 use Rattle.placing.specs.Smallest.{sameList}
-use Rattle.filling.specs.Done.{slipAfter}
+use Rattle.answers.specs.Done.{slipAfter}
 use Rattle.filling.specs.Fill.{unless, tooLarge}
-use Rattle.filling.specs.declared.done.Done.{Done}
-use Rattle.filling.specs.declared.done.Done.the-variants as done
+use Rattle.answers.specs.declared.outcome.Done.{Done}
+use Rattle.answers.specs.declared.outcome.Done.the-variants as done
 use Rattle.finding.specs.Place.{patternHeld, placedFillings}
 
 -- a replacement is read with the port counts of the pattern's blanks

@@ -1,5 +1,5 @@
 // The task swap: the replacement with the fillings of the placed pattern, as normal text, into an output buffer.
-use filling::done::Done;
+use answers::outcome::Done;
 use filling::filled::normal_filled;
 use listing::write_fillings;
 use matching::search::smallest_placing;
@@ -18,7 +18,7 @@ ghost use lib.ListN.{length, take};
 ghost use Rattle.rows.specs.Limits.{sheetMarks};
 ghost use Rattle.sheet.specs.NormalText.{slipLength};
 ghost use Rattle.placing.specs.Smallest.{sameList};
-ghost use Rattle.filling.specs.Done.{slipAfter};
+ghost use Rattle.answers.specs.Done.{slipAfter};
 ghost use Rattle.filling.specs.Fill.{filledText};
 ghost use Rattle.swapping.specs.Swap.{swapAnswer, swapSlip};
 ghost use Rattle.swapping.specs.Inputs.{filledDone, FilledInputs, SwapInputs, swapRead, swapText};

@@ -31,7 +31,7 @@ use Rattle.filling.proofs.ResultNet.{Atoms, result-sheet, result-term}
 use Rattle.filling.proofs.Answers.{rowed}
 use Rattle.finding.specs.Place.{sheetHeld}
 use Rattle.claiming.specs.Claim.{filledNet, placedClaim, claimedAnswer, claimAnswer}
-use Rattle.claiming.specs.declared.claim.Claimed.the-variants.{Holds, Differs}
+use Rattle.answers.specs.declared.outcome.Claimed.the-variants.{Holds, Differs}
 use Rattle.claiming.proofs.Listed.{listed-atoms}
 use Rattle.tasks.specs.Passed.{ClaimPassed}
 use Rattle.tasks.proofs.GoodSize.{good-atoms, good-links}

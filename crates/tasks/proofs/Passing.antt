@@ -13,14 +13,15 @@ use Rattle.sheet.specs.declared.answer.Answer.{Answer}
 use Rattle.sheet.specs.declared.answer.Answer.the-variants.{Passed, Refused}
 use Rattle.filling.specs.Read.{listHeld}
 use Rattle.filling.specs.Fill.{unless, figureHeld, firstLacking, firstDiffering}
-use Rattle.filling.specs.Done.{doneInput}
-use Rattle.filling.specs.declared.done.Done.{Done}
-use Rattle.filling.specs.declared.done.Done.the-variants as done
+use Rattle.answers.specs.Done.{doneInput}
+use Rattle.answers.specs.declared.outcome.Done.{Done}
+use Rattle.answers.specs.declared.outcome.Done.the-variants as done
 use Rattle.finding.specs.Place.{patternHeld, placeAnswer}
 use Rattle.finding.specs.Passed.{PlacePassed}
-use Rattle.claiming.specs.Claim.{claimUnless, claimedInput, claimedAnswer, claimAnswer}
-use Rattle.claiming.specs.declared.claim.Claimed.{Claimed}
-use Rattle.claiming.specs.declared.claim.Claimed.the-variants as claimed
+use Rattle.claiming.specs.Claim.{claimUnless, claimedAnswer, claimAnswer}
+use Rattle.answers.specs.Claimed.{claimedInput}
+use Rattle.answers.specs.declared.outcome.Claimed.{Claimed}
+use Rattle.answers.specs.declared.outcome.Claimed.the-variants as claimed
 use Rattle.swapping.specs.Swap.{replacementHeld, sameMarks, swapAnswer}
 use Rattle.tasks.specs.Passed.{SwapPassed, ClaimPassed}
 use Rattle.tasks.proofs.Places.{place-ends}

@@ -25,17 +25,17 @@ use Rattle.placing.proofs.Chosen.{chosen-none, chosen-fillings}
 use Rattle.placing.proofs.ListBack.{ListFits}
 use Rattle.placing.proofs.SmallestLaws.{smallest-good}
 use Rattle.placing.proofs.PlacedText.{text-fits}
-use Rattle.filling.specs.Done.{doneBytes, slipAfter}
+use Rattle.answers.specs.Done.{doneBytes, slipAfter}
 use Rattle.filling.specs.Read.{listHeld, fillingsRead}
 use Rattle.filling.specs.Fill.{figureHeld, firstLacking}
-use Rattle.filling.specs.declared.done.Done.the-variants as done
+use Rattle.answers.specs.declared.outcome.Done.the-variants as done
 use Rattle.filling.proofs.Back.{placed-back}
 use Rattle.filling.proofs.ReadAsFigure.{pattern-figure}
 use Rattle.finding.specs.Place.{sheetHeld, patternHeld, fillingsIn, placedFillings, placedAnswer, placedText, placeAnswer, placeSlip, sheetNet, patternNet}
 use Rattle.finding.specs.Passed.{PlacePassed}
 use Rattle.finding.proofs.Blanks.{Covering, pattern-covered}
 use Rattle.claiming.specs.Claim.{claimAnswer}
-use Rattle.claiming.specs.declared.claim.Claimed.the-variants.{Holds}
+use Rattle.answers.specs.declared.outcome.Claimed.the-variants.{Holds}
 use Rattle.swapping.proofs.ListWhole.{written-lacks, written-exact}
 use Rattle.tasks.specs.Passed.{ClaimPassed}
 use Rattle.tasks.specs.Demand.{Turning, placeWritten, blankOf, headOf, HandsOut}

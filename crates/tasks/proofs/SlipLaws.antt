@@ -16,10 +16,10 @@ use Rattle.sheet.specs.declared.answer.Answer.{Answer}
 use Rattle.sheet.specs.declared.answer.Answer.the-variants.{Passed, Refused}
 use Rattle.sheet.specs.declared.normalise.Normalised.the-variants as normal
 use Rattle.placing.specs.ListText.{listText}
-use Rattle.filling.specs.Done.{doneNumber, doneInput, slipAfter}
+use Rattle.answers.specs.Done.{doneNumber, doneInput, slipAfter}
 use Rattle.filling.specs.Fill.{filledText, fillAnswer, fillSlip}
-use Rattle.filling.specs.declared.done.Done.{Done}
-use Rattle.filling.specs.declared.done.Done.the-variants as done
+use Rattle.answers.specs.declared.outcome.Done.{Done}
+use Rattle.answers.specs.declared.outcome.Done.the-variants as done
 use Rattle.finding.specs.Place.{placedFillings, placedText, placeAnswer, placeSlip}
 use Rattle.swapping.specs.Swap.{replacementHeld, swappedText, swapAnswer, swapSlip}
 use Rattle.tasks.specs.Demand.{swapped}

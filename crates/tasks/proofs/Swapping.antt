@@ -27,10 +27,10 @@ use Rattle.placing.specs.Holding.{holdingTerm}
 use Rattle.placing.specs.Filled.{filledGraph, filledNormal}
 use Rattle.placing.specs.ListText.{listText}
 use Rattle.placing.proofs.FilledText.{filled-text}
-use Rattle.filling.specs.Done.{slipAfter}
+use Rattle.answers.specs.Done.{slipAfter}
 use Rattle.filling.specs.Read.{listHeld}
 use Rattle.filling.specs.Fill.{tooLarge, figureHeld, firstLacking, filledText, filledAnswer, fillAnswer, fillSlip}
-use Rattle.filling.specs.declared.done.Done.the-variants as done
+use Rattle.answers.specs.declared.outcome.Done.the-variants as done
 use Rattle.filling.proofs.ResultNet.{Atoms, result-atoms}
 use Rattle.filling.proofs.ReadAsFigure.{replacement-figure}
 use Rattle.finding.specs.Place.{patternHeld, placedFillings, placedAnswer, placeAnswer}

@@ -11,13 +11,14 @@ use Rattle.sheet.specs.declared.kind.Kind.{Kind}
 use Rattle.placing.specs.Fillings.{Filling}
 use Rattle.placing.specs.Holding.{holdingTerm}
 use Rattle.filling.specs.Read.{fillingsRead}
-use Rattle.filling.specs.Done.{doneNumber, doneInput}
+use Rattle.answers.specs.Done.{doneNumber, doneInput}
 use Rattle.filling.specs.Fill.{figureHeld, fillAnswer, fillSlip}
-use Rattle.filling.specs.declared.done.Done.the-variants as done
+use Rattle.answers.specs.declared.outcome.Done.the-variants as done
 use Rattle.finding.specs.Place.{sheetHeld, placeAnswer, placeSlip}
 use Rattle.finding.specs.Passed.{PlacePassed}
-use Rattle.claiming.specs.Claim.{claimedInput, claimAnswer}
-use Rattle.claiming.specs.declared.claim.Claimed.the-variants.{Holds, Differs}
+use Rattle.claiming.specs.Claim.{claimAnswer}
+use Rattle.answers.specs.Claimed.{claimedInput}
+use Rattle.answers.specs.declared.outcome.Claimed.the-variants.{Holds, Differs}
 use Rattle.swapping.specs.Swap.{swapAnswer, swapSlip}
 use Rattle.tasks.specs.Passed.{SwapPassed, ClaimPassed}
 use Rattle.tasks.specs.Demand.{Turning, placeWritten, HandsOut, Swaps}

@@ -20,9 +20,9 @@ use Rattle.placing.specs.Holding.{holdingTerm}
 use Rattle.placing.specs.Filled.{filledNormal}
 use Rattle.placing.specs.ListText.{listText}
 use Rattle.placing.specs.Smallest.{smallest}
-use Rattle.filling.specs.Done.{doneBytes}
+use Rattle.answers.specs.Done.{doneBytes}
 use Rattle.filling.specs.Read.{fillingsRead}
-use Rattle.filling.specs.declared.done.Done.the-variants as done
+use Rattle.answers.specs.declared.outcome.Done.the-variants as done
 use Rattle.finding.specs.Place.{sheetHeld, patternHeld, sheetNet, patternNet, placeAnswer, placeSlip}
 use Rattle.swapping.specs.Swap.{replacementHeld, swapAnswer, swapSlip}
 

@@ -12,19 +12,19 @@ use Rattle.filling.proofs.filled.filled.Statement.{statement}
 use Rattle.filling.proofs.filled.filled.Tie as tie
 
 glued-requires : tie.Need-glued-requires
-glued-requires c κs = search needs
+glued-requires c κs = c .before .pre
 
 whole-of-requires : tie.Need-whole-of-requires
-whole-of-requires c κs = search needs
+whole-of-requires c κs = c .before .before .before .pre
 
 mark-labels-requires : tie.Need-mark-labels-requires
-mark-labels-requires c κs = search needs
+mark-labels-requires c κs = c .before .before .before .before .before .pre .0
 
 numbered-requires : tie.Need-numbered-requires
 numbered-requires c κs = let w = c .before .before in
     let g = w .before .before in
     let s = g .before .before in
-    (s .pre .marks, w .whole-of .ensures .1, λ i. subst (λ (l : List Atom). getD l i pastAtoms .count ≤ mostLinks) (sym (w .whole-of .ensures .0)) (shown-linked (s .args .list .now) (g .glued .result) (s .args .figure) (s .pre) i))
+    (s .pre .0 .marks, w .whole-of .ensures .1, λ i. subst (λ (l : List Atom). getD l i pastAtoms .count ≤ mostLinks) (sym (w .whole-of .ensures .0)) (shown-linked (s .args .list .now) (g .glued .result) (s .args .figure) (s .pre .0) i))
 
 returns : tie.Need-returns
 returns c = let k = c .before in

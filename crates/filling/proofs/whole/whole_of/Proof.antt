@@ -20,28 +20,28 @@ use Rattle.filling.proofs.whole.whole_of.Statement.{statement}
 use Rattle.filling.proofs.whole.whole_of.Tie as tie
 
 abbrev Inv-loop : tie.InvT-loop
-Inv-loop list labels figure whole₀ i₀ whole i = (i ≤ figure .«context_count») × (length (figure .contexts) ≡ figureContexts + 1) × (whole .count ≤ sheetAtoms + 1) × (roomFor (wholeAtoms whole ++ contextAtoms list labels (i + 1) (drop i (take (figure .«context_count») (figure .contexts)))) ≡ roomFor (wholeAtoms whole₀ ++ contextAtoms list labels 1 (take (figure .«context_count») (figure .contexts))))
+Inv-loop list kept labels figure whole₀ i₀ whole i = (i ≤ figure .«context_count») × (length (figure .contexts) ≡ figureContexts + 1) × (whole .count ≤ sheetAtoms + 1) × (roomFor (wholeAtoms whole ++ contextAtoms list labels (i + 1) (drop i (take (figure .«context_count») (figure .contexts)))) ≡ roomFor (wholeAtoms whole₀ ++ contextAtoms list labels 1 (take (figure .«context_count») (figure .contexts))))
 
 abbrev μ-loop : tie.MeasureT-loop
-μ-loop list labels figure whole₀ i₀ whole i = figure .«context_count» - i
+μ-loop list kept labels figure whole₀ i₀ whole i = figure .«context_count» - i
 
 none-requires : tie.Need-none-requires Inv-loop μ-loop
 none-requires c κs = search needs
 
 with-part-requires : tie.Need-with-part-requires Inv-loop μ-loop
-with-part-requires c κs = (omega (arith, c .none .ensures .1), omega arith, c .before .before .pre)
+with-part-requires c κs = (omega (arith, c .none .ensures .1), omega arith, c .before .before .pre .0)
 
 loop-holds : tie.Need-loop-holds Inv-loop μ-loop
 loop-holds c = (search needs, search (needs, unmapped), c .with-part .ensures .few, refl)
 
 mul-context : tie.Need-mul-context Inv-loop μ-loop
-mul-context c = omega (arith, c .before .before .before .before .before .pre .contexts)
+mul-context c = omega (arith, c .before .before .before .before .before .pre .0 .contexts)
 
 element-copy-out-context : tie.Need-element-copy-out-context Inv-loop μ-loop
-element-copy-out-context c = omega (arith, c .before .before .before .before .before .pre .contexts)
+element-copy-out-context c = omega (arith, c .before .before .before .before .before .pre .0 .contexts)
 
-part-of-requires : tie.Need-part-of-requires Inv-loop μ-loop
-part-of-requires c κs = search needs
+part-requires : tie.Need-part-requires Inv-loop μ-loop
+part-requires c κs = c .before .before .before .before .before .before .pre .1
 
 add-with-part : tie.Need-add-with-part Inv-loop μ-loop
 add-with-part c = search needs
@@ -50,7 +50,7 @@ with-part-requires-2 : tie.Need-with-part-requires-2 Inv-loop μ-loop
 with-part-requires-2 c κs = let l = c .before .before .before in
     let s = l .before .before .before .before in
     let x = getD (s .args .t1 .contexts) (l .loop .i) pastContexts in
-    (l .loop .inv .2, omega (arith, s .pre .contexts, c .before .before .loop-test .taken), subst Low (sym (c .part-of .ensures)) (part-low (s .args .list .now) (x .number)))
+    (l .loop .inv .2, omega (arith, s .pre .0 .contexts, c .before .before .loop-test .taken), subst Low (sym (c .part .ensures)) (part-low (s .args .list .now) (x .number)))
 
 add-i : tie.Need-add-i Inv-loop μ-loop
 add-i c = search needs
@@ -67,12 +67,12 @@ loop-again c = let p = c .before in
     let rest = contextAtoms (a .list .now) (a .labels .now) (l .loop .i + 1 + 1) (drop (l .loop .i + 1) (take (a .t1 .«context_count») (a .t1 .contexts))) in
     let W = wholeAtoms (l .loop .whole) in
     let P = partAtoms (a .labels .now) (l .loop .i + 1) (partNormal (a .list .now) (x .number)) in
-    let g : wholeAtoms (c .with-part2 .result) ≡ roomFor (W ++ P) = c .with-part2 .ensures .atoms ∙ ap (λ (n : Normal). roomFor (W ++ partAtoms (a .labels .now) (l .loop .i + 1) n)) (p .part-of .ensures) in (
+    let g : wholeAtoms (c .with-part2 .result) ≡ roomFor (W ++ P) = c .with-part2 .ensures .atoms ∙ ap (λ (n : Normal). roomFor (W ++ partAtoms (a .labels .now) (l .loop .i + 1) n)) (p .part .ensures) in (
       search needs,
       l .loop .inv .1,
       c .with-part2 .ensures .few,
       ap (λ (w : List Atom). roomFor (w ++ rest)) g ∙ room-twice (W ++ P) rest ∙ ap roomFor (append-assoc W P rest)
-          ∙ ap (λ (t : List Atom). roomFor (W ++ t)) (sym (atoms-next (a .list .now) (a .t1 .contexts) (a .t1 .«context_count») (l .loop .i) pastContexts (a .labels .now) (l .loop .i + 1) (omega (arith, l .loop .inv .1, s .pre .contexts)) (p .before .before .loop-test .taken)))
+          ∙ ap (λ (t : List Atom). roomFor (W ++ t)) (sym (atoms-next (a .list .now) (a .t1 .contexts) (a .t1 .«context_count») (l .loop .i) pastContexts (a .labels .now) (l .loop .i + 1) (omega (arith, l .loop .inv .1, s .pre .0 .contexts)) (p .before .before .loop-test .taken)))
           ∙ l .loop .inv .3,
     )
 
@@ -101,7 +101,7 @@ whole-of-spec =
     loop-holds
     mul-context
     element-copy-out-context
-    part-of-requires
+    part-requires
     add-with-part
     with-part-requires-2
     add-i

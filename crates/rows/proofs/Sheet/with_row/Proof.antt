@@ -1,9 +1,15 @@
 -- The links are taken in by the row's letter; what else it has, in the law of that letter.
 use borrow.Author.Needs.{needs}
+use mathlib.Core.Path.{_≡_}
 use native.Mathlib.Omega.{arith}
+use lib.ListN.{length}
+use Rattle.rows.specs.Format.{fieldCount}
 use Rattle.rows.proofs.TakeRow.{row-atom, row-context, row-fusion, row-edge, row-head}
 use Rattle.rows.proofs.Sheet.with_row.Statement.{statement}
 use Rattle.rows.proofs.Sheet.with_row.Tie as tie
+
+wide : (s : tie.Start) → length (s .args .row .nums) ≡ fieldCount
+wide s = search needs
 
 slice-aggregate-add-row-links : tie.Need-slice-aggregate-add-row-links
 slice-aggregate-add-row-links c = search needs
@@ -51,14 +57,16 @@ returns-2 c = let a = c .before .before .before .before .before .before .before 
     λ h wired e q. row-context h wired (a .row) (a .self) (x .last .0) (x .last .1 .0) (x .result) e (x .ensures .1) (c .with-ports .result) (a .at) (c .before .match .keys2) q (c .with-ports .ensures .0)
 
 returns-3 : tie.Need-returns-3
-returns-3 c = let a = c .before .before .before .before .before .before .before .before .before .args in
+returns-3 c = let s = c .before .before .before .before .before .before .before .before .before in
+    let a = s .args in
     let x = c .before .before .before .add-row-links in
-    λ h wired e q. row-fusion h wired (a .row) (a .self) (x .last .0) (x .last .1 .0) (x .result) e (x .ensures .1) (c .match .keys3)
+    λ h wired e q. row-fusion h wired (a .row) (a .self) (x .last .0) (x .last .1 .0) (x .result) e (x .ensures .1) (wide s) (c .match .keys3)
 
 returns-4 : tie.Need-returns-4
-returns-4 c = let a = c .before .before .before .before .before .before .before .before .before .before .args in
+returns-4 c = let s = c .before .before .before .before .before .before .before .before .before .before in
+    let a = s .args in
     let x = c .before .before .before .before .add-row-links in
-    λ h wired e q. row-edge h wired (a .row) (a .self) (x .last .0) (x .last .1 .0) (x .result) e (x .ensures .1) (c .with-mark .result) (c .before .match .keys4) (c .with-mark .ensures)
+    λ h wired e q. row-edge h wired (a .row) (a .self) (x .last .0) (x .last .1 .0) (x .result) e (x .ensures .1) (c .with-mark .result) (wide s) (c .before .match .keys4) (c .with-mark .ensures)
 
 returns-5 : tie.Need-returns-5
 returns-5 c = let a = c .before .before .before .before .before .before .before .before .before .before .before .args in

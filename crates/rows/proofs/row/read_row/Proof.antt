@@ -18,23 +18,23 @@ use Rattle.rows.proofs.row.read_row.Statement.{statement}
 use Rattle.rows.proofs.row.read_row.Tie as tie
 
 abbrev Inv-loop : tie.InvT-loop
-Inv-loop row letter nums good₀ f at col₀ n₀ filled₀ good col n filled = (col ≤ 4) × (n < 10 ^ col) × (good ≡ true) × (fieldOf false 0 (columns row at) ≡ fieldOf filled n (drop col (columns row at)))
+Inv-loop row letter nums good₀ own f at col₀ n₀ filled₀ good col n filled = (col ≤ 4) × (n < 10 ^ col) × (good ≡ true) × (fieldOf false 0 (columns row at) ≡ fieldOf filled n (drop col (columns row at)))
 
 abbrev μ-loop : tie.MeasureT-loop
-μ-loop row letter nums good₀ f at col₀ n₀ filled₀ good col n filled = 4 - col
+μ-loop row letter nums good₀ own f at col₀ n₀ filled₀ good col n filled = 4 - col
 
 abbrev Inv-row : tie.InvT-row
-Inv-row row letter nums₀ good₀ f₀ nums good f = (f ≤ fieldCount) × (length nums ≡ fieldCount) × (good ≡ true) × (rowOf row ≡ fieldsOf row letter f nums (fieldCount - f))
+Inv-row row letter nums₀ good₀ own f₀ nums good f = (f ≤ fieldCount) × (length nums ≡ fieldCount) × (good ≡ true) × (rowOf row ≡ fieldsOf row letter f nums (fieldCount - f))
 
 abbrev μ-row : tie.MeasureT-row
-μ-row row letter nums₀ good₀ f₀ nums good f = fieldCount - f
+μ-row row letter nums₀ good₀ own f₀ nums good f = fieldCount - f
 
 -- at a column: the row's bytes, its letter's place, the field's first column, the column's byte
 abbrev bytes : tie.At-loop Inv-loop μ-loop Inv-row μ-row → List ℕ
-bytes l = l .before .before .before .before .before .before .before .args .row .now
+bytes l = l .before .before .before .before .before .before .before .before .args .row .now
 
 abbrev place : tie.At-loop Inv-loop μ-loop Inv-row μ-row → ℕ
-place l = l .before .before .before .before .letter-of .result
+place l = l .before .before .before .before .before .letter-of .result
 
 abbrev start : tie.At-loop Inv-loop μ-loop Inv-row μ-row → ℕ
 start l = l .before .before .row .f * 4 + 1
@@ -69,7 +69,7 @@ judgement c good e =
     let r = l .before .before .row in
     let held = l .loop .inv .3 ∙ field-end (bytes l) (start l) (l .loop .col) (l .loop .filled) (l .loop .n) (c .before .before .loop-test .left) in
     r .inv .3 ∙ fields-held (bytes l) (place l) (r .f) (r .nums) (l .before .row-test .taken) (l .loop .filled) (l .loop .n) good held
-    (cc (c .before .rule-of .ensures, c .field-suits .ensures))
+    (cc (c .before .rule-of .ensures (place l) (l .before .before .before .rules-of .ensures), c .field-suits .ensures))
 
 shared-slice-read-letter-of : tie.Need-shared-slice-read-letter-of Inv-loop μ-loop Inv-row μ-row
 shared-slice-read-letter-of c = search needs
@@ -80,8 +80,12 @@ letter-of-requires c κs = search needs
 returns : tie.Need-returns Inv-loop μ-loop Inv-row μ-row
 returns c = sym (row-strange _ (c .before .letter-of .result) (c .before .letter-of .ensures) (c .if1 .taken))
 
+rules-of-requires : tie.Need-rules-of-requires Inv-loop μ-loop Inv-row μ-row
+rules-of-requires c κs = let k = c .before .letter-of .ensures in
+    rw k (letter-small _ (λ e. c .if1 .left (k ∙ e)))
+
 row-holds : tie.Need-row-holds Inv-loop μ-loop Inv-row μ-row
-row-holds c = (omega arith, refl, refl, row-fields _ (c .before .letter-of .result) (c .before .letter-of .ensures) (c .if1 .left))
+row-holds c = (omega arith, refl, refl, row-fields _ (c .before .before .letter-of .result) (c .before .before .letter-of .ensures) (c .before .if1 .left))
 
 mul-at : tie.Need-mul-at Inv-loop μ-loop Inv-row μ-row
 mul-at c = search needs
@@ -141,8 +145,7 @@ loop-again c = let l = c .before .before .before .before .before in
     (c .if3 .came)
 
 rule-of-requires : tie.Need-rule-of-requires Inv-loop μ-loop Inv-row μ-row
-rule-of-requires c κs = let k = c .before .before .before .before .before in
-    rw (k .letter-of .ensures) (letter-small _ (λ e. c .before .before .before .before .if1 .left (k .letter-of .ensures ∙ e)))
+rule-of-requires c κs = search needs
 
 array-read-field-suits : tie.Need-array-read-field-suits Inv-loop μ-loop Inv-row μ-row
 array-read-field-suits c = search needs
@@ -194,6 +197,7 @@ read-row-spec =
     shared-slice-read-letter-of
     letter-of-requires
     returns
+    rules-of-requires
     row-holds
     mul-at
     add-at

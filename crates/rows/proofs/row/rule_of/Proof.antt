@@ -11,27 +11,21 @@ use borrow.Author.Needs.{needs}
 use Rattle.rows.proofs.row.rule_of.Statement.{statement}
 use Rattle.rows.proofs.row.rule_of.Tie as tie
 
-mul-result : tie.Need-mul-result
-mul-result c = search needs
-
 column-is : (c : tie.Joined1) → c .if1 .column ≡ pick (ltb 2 (c .before .args .f)) 2 (c .before .args .f)
 column-is c = ⊎-elim (λ w. rw (lt-ltb _ _ (w .0 .taken)) (w .1)) (λ w. rw (le-ltb _ _ (w .0 .left)) (w .1)) (c .if1 .came)
 
 column-small : (c : tie.Joined1) → c .if1 .column < 3
 column-small c = ⊎-elim (λ w. omega arith) (λ w. omega arith) (c .if1 .came)
 
-mul-result-2 : tie.Need-mul-result-2
-mul-result-2 c = omega (arith, column-small (c .before))
+mul-result : tie.Need-mul-result
+mul-result c = omega (arith, column-small (c .before))
 
-index-1-result : tie.Need-index-1-result
-index-1-result c = search needs
-
-index-2-result : tie.Need-index-2-result
-index-2-result c = column-small (c .before)
+array-copy-out-result : tie.Need-array-copy-out-result
+array-copy-out-result c = column-small (c .before)
 
 returns : tie.Need-returns
 unfolding ruleOf
-returns c = rw (column-is (c .before .before))
+returns c = λ letter e. rw e (rw (column-is (c .before .before)))
 
 pub rule-of-spec : {M : Type 1} → statement M
-rule-of-spec = tie.close (tie.spec mul-result mul-result-2 index-1-result index-2-result returns)
+rule-of-spec = tie.close (tie.spec mul-result array-copy-out-result returns)

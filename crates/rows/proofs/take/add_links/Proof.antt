@@ -1,4 +1,4 @@
--- Invariant: the first k links of the row are taken in.
+-- Invariant: the numbers of the first k fields are taken in.
 use borrow.Author.Needs.{needs}
 use Prim.Native.Nat.{_≤_, _+_, _-_}
 use mathlib.Core.Path.{_≡_, _∙_, refl}
@@ -13,19 +13,13 @@ use Rattle.rows.proofs.take.add_links.Statement.{statement}
 use Rattle.rows.proofs.take.add_links.Tie as tie
 
 abbrev Inv-loop : tie.InvT-loop
-Inv-loop links₀ classes₀ n nums count m₀ k₀ links classes m k = (k ≤ count) × (count ≡ getD nums 1 0) × (length nums ≡ fieldCount) × (m ≤ n + k) × (length links ≡ fillingLinks + mostLinks) × (length classes ≡ fillingLinks + mostLinks) × Relinks links₀ classes₀ n links classes m (λ w. withLinks w (take k (drop 2 nums)))
+Inv-loop links₀ classes₀ n from count nums m₀ k₀ links classes m k = (k ≤ count) × (length nums ≡ fieldCount) × (m ≤ n + k) × (length links ≡ fillingLinks + mostLinks) × (length classes ≡ fillingLinks + mostLinks) × Relinks links₀ classes₀ n links classes m (λ w. withLinks w (take k (drop from nums)))
 
 abbrev μ-loop : tie.MeasureT-loop
-μ-loop links₀ classes₀ n nums count m₀ k₀ links classes m k = count - k
-
-array-read-count : tie.Need-array-read-count Inv-loop μ-loop
-array-read-count c = search needs
-
-cast-count : tie.Need-cast-count Inv-loop μ-loop
-cast-count c = search needs
+μ-loop links₀ classes₀ n from count nums m₀ k₀ links classes m k = count - k
 
 loop-holds : tie.Need-loop-holds Inv-loop μ-loop
-loop-holds c = (search needs, search needs, search needs, search needs, search needs, search needs, links-none _ _ _)
+loop-holds c = (search needs, search needs, search needs, search needs, search needs, links-none _ _ _)
 
 add-add-link : tie.Need-add-add-link Inv-loop μ-loop
 add-add-link c = search needs
@@ -51,13 +45,12 @@ loop-again c = let p = c .before .before .before .before .add-link in
     let s = l .before .before .before in
     let a = s .args in
     let k = l .loop .k in (
-      omega (arith, l .loop .inv .1, c .before .before .before .before .before .before .before .loop-test .taken),
-      refl,
-      l .loop .inv .2,
-      omega (arith, l .loop .inv .3, p .ensures .0),
-      p .kept .0 ∙ l .loop .inv .4,
-      p .kept .1 .0 ∙ l .loop .inv .5,
-      rw (row-link (a .t4) k (omega (arith, l .loop .inv .2, s .pre .1))) (links-more (a .links .now) (a .classes .now) (a .n) (l .loop .links) (l .loop .classes) (l .loop .m) _ _ (p .result) (take k (drop 2 (a .t4))) (getD (a .t4) (k + 2) 0) (l .loop .inv .6) (p .ensures .1)),
+      omega (arith, l .loop .inv .0, c .before .before .before .before .before .before .before .loop-test .taken),
+      l .loop .inv .1,
+      omega (arith, l .loop .inv .2, p .ensures .0),
+      p .kept .0 ∙ l .loop .inv .3,
+      p .kept .1 .0 ∙ l .loop .inv .4,
+      rw (row-link (a .t4) (a .from) k (omega (arith, l .loop .inv .1, s .pre .2, c .before .before .before .before .before .before .before .loop-test .taken))) (links-more (a .links .now) (a .classes .now) (a .n) (l .loop .links) (l .loop .classes) (l .loop .m) _ _ (p .result) (take k (drop (a .from) (a .t4))) (getD (a .t4) (a .from + k) 0) (l .loop .inv .5) (p .ensures .1)),
     )
 
 same-length : tie.Need-same-length Inv-loop μ-loop
@@ -68,8 +61,8 @@ same-length-2 c = search needs
 
 returns : tie.Need-returns Inv-loop μ-loop
 returns c = let l = c .before in
-    let e : l .loop .k ≡ getD (l .before .before .before .args .t4) 1 0 = omega (arith, l .loop .inv .0, l .loop .inv .1, c .loop-test .left) in
-    rw e at (l .loop .inv .6)
+    let e : l .loop .k ≡ l .before .before .before .args .count = omega (arith, l .loop .inv .0, c .loop-test .left) in
+    (omega (arith, e, l .loop .inv .2), rw e at (l .loop .inv .5))
 
 pub add-links-spec : {M : Type 1} → statement M
 add-links-spec =
@@ -77,8 +70,6 @@ add-links-spec =
     (tie.spec
     Inv-loop
     μ-loop
-    array-read-count
-    cast-count
     loop-holds
     add-add-link
     mul-add-link

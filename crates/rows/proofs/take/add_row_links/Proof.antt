@@ -1,31 +1,22 @@
 use borrow.Author.Needs.{needs}
+use mathlib.Core.Path.{_∙_}
 use native.Mathlib.Omega.{arith}
-use borrow.Author.Tests.{ne-eqb}
+use Rattle.rows.proofs.RowLinks.{count-fits, count-one, count-two, row-linked, row-fused}
 use Rattle.rows.proofs.take.add_row_links.Statement.{statement}
 use Rattle.rows.proofs.take.add_row_links.Tie as tie
 
+first-link-requires : tie.Need-first-link-requires
+first-link-requires c κs = search needs
+
+link-count-requires : tie.Need-link-count-requires
+link-count-requires c κs = search needs
+
 add-links-requires : tie.Need-add-links-requires
-add-links-requires c κs = let p = c .before .before .before .before .before .pre in
-    (p .0, p .1 (omega (arith, c .before .before .match .keys1)), p .2, p .3)
-
-add-links-requires-2 : tie.Need-add-links-requires-2
-add-links-requires-2 c κs = let p = c .before .before .before .before .before .pre in
-    (p .0, p .1 (omega (arith, c .before .before .match .keys2)), p .2, p .3)
-
-array-read-add-fusion : tie.Need-array-read-add-fusion
-array-read-add-fusion c = search needs
-
-array-read-add-fusion-2 : tie.Need-array-read-add-fusion-2
-array-read-add-fusion-2 c = search needs
-
-add-fusion-requires : tie.Need-add-fusion-requires
-add-fusion-requires c κs = search needs
-
-array-read-add-link : tie.Need-array-read-add-link
-array-read-add-link c = search needs
-
-add-link-requires : tie.Need-add-link-requires
-add-link-requires c κs = search needs
+add-links-requires c κs = let s = c .before .before .before .before .before .before in
+    let fits = count-fits (s .args .letter) (s .args .t5) (s .pre .1) in
+    let from = c .before .before .before .first-link .ensures in
+    let count = c .before .before .link-count .ensures in
+    (s .pre .0, omega (arith, count, fits .0), omega (arith, from, count, fits .1), s .pre .2, s .pre .3)
 
 same-length : tie.Need-same-length
 same-length c = search needs
@@ -34,8 +25,23 @@ same-length-2 : tie.Need-same-length-2
 same-length-2 c = search needs
 
 returns : tie.Need-returns
-returns c = let l = c .before .before .before .before .before .before .before .match .keys1 in
-    (λ e. absurd (omega (arith, l, e)), λ w wired k. rw l (c .before .before .before .before .add-links .ensures w wired k))
+returns c = let a = c .before .before .before .before .before .before .before .before .before .before .before .before .args in
+    let from = c .before .before .before .before .before .before .before .before .before .first-link in
+    let count = c .before .before .before .before .before .before .before .before .link-count in
+    let x = c .before .before .before .before .before .add-links in
+    (λ e. omega (arith, count .ensures, count-one (a .letter) (a .t5) e, x .ensures .0), row-linked (a .letter) (a .t5) (a .links .now) (a .classes .now) (a .n) (x .last .0) (x .last .1 .0) (x .result) (from .result) (count .result) (from .ensures) (count .ensures) (x .ensures .1) (c .if1 .taken))
+
+array-read-fuse : tie.Need-array-read-fuse
+array-read-fuse c = search needs
+
+array-read-fuse-2 : tie.Need-array-read-fuse-2
+array-read-fuse-2 c = search needs
+
+fuse-requires : tie.Need-fuse-requires
+fuse-requires c κs = let s = c .before .before .before .before .before .before .before .before .before .before .before .before .before .before in
+    let count = c .before .before .before .before .before .before .before .before .before .before .link-count .ensures in
+    let x = c .before .before .before .before .before .before .before .add-links in
+    (omega (arith, s .pre .0, count, count-two (s .args .letter) (s .args .t5) (c .before .before .if1 .left), x .ensures .0), x .kept .0 ∙ s .pre .2, x .kept .1 .0 ∙ s .pre .3)
 
 same-length-3 : tie.Need-same-length-3
 same-length-3 c = search needs
@@ -44,54 +50,26 @@ same-length-4 : tie.Need-same-length-4
 same-length-4 c = search needs
 
 returns-2 : tie.Need-returns-2
-returns-2 c = let l = c .before .before .before .before .before .before .before .match .keys2 in
-    (λ e. absurd (omega (arith, l, e)), λ w wired k. rw l (c .before .before .before .before .add-links2 .ensures w wired k))
-
-same-length-5 : tie.Need-same-length-5
-same-length-5 c = search needs
-
-same-length-6 : tie.Need-same-length-6
-same-length-6 c = search needs
-
-returns-3 : tie.Need-returns-3
-returns-3 c = let l = c .before .before .before .before .before .before .before .match .keys3 in
-    (λ e. absurd (omega (arith, l, e)), λ w wired k. rw l (c .before .before .before .before .add-fusion .ensures w wired k))
-
-same-length-7 : tie.Need-same-length-7
-same-length-7 c = search needs
-
-same-length-8 : tie.Need-same-length-8
-same-length-8 c = search needs
-
-returns-4 : tie.Need-returns-4
-returns-4 c = let x = c .before .before .before .before .add-link in
-    (λ e. x .ensures .0, λ w wired k. rw (c .before .before .before .before .before .before .before .match .keys4) (x .ensures .1 w wired k))
-
-returns-5 : tie.Need-returns-5
-returns-5 c = let n = c .match .rest in
-    (λ e. omega arith, λ w wired k. rw (ne-eqb _ _ (n .0 .0 .0 .1)) (rw (ne-eqb _ _ (n .0 .0 .1)) (rw (ne-eqb _ _ (n .0 .1)) (rw (ne-eqb _ _ (n .1)) k))))
+returns-2 c = let a = c .before .before .before .before .before .before .before .before .before .before .before .before .before .before .before .before .before .args in
+    let from = c .before .before .before .before .before .before .before .before .before .before .before .before .before .before .first-link in
+    let count = c .before .before .before .before .before .before .before .before .before .before .before .before .before .link-count in
+    let x = c .before .before .before .before .before .before .before .before .before .before .add-links in
+    let two = c .before .before .before .before .before .if1 .left in
+    (λ e. absurd (omega (arith, two, e)), row-fused (a .letter) (a .t5) (a .links .now) (a .classes .now) (a .n) (x .last .0) (x .last .1 .0) (x .result) (from .result) (count .result) (from .ensures) (count .ensures) (x .ensures .1) (c .before .before .fuse .last .1 .0) two (c .before .before .fuse .ensures))
 
 pub add-row-links-spec : {M : Type 1} → statement M
 add-row-links-spec =
     tie.close
     (tie.spec
+    first-link-requires
+    link-count-requires
     add-links-requires
-    add-links-requires-2
-    array-read-add-fusion
-    array-read-add-fusion-2
-    add-fusion-requires
-    array-read-add-link
-    add-link-requires
     same-length
     same-length-2
     returns
+    array-read-fuse
+    array-read-fuse-2
+    fuse-requires
     same-length-3
     same-length-4
-    returns-2
-    same-length-5
-    same-length-6
-    returns-3
-    same-length-7
-    same-length-8
-    returns-4
-    returns-5)
+    returns-2)

@@ -6,7 +6,7 @@ use Prim.Native.Nat.{ℕ, _≤_}
 use mathlib.Core.Path.{refl, ap, _∙_}
 use mathlib.Core.List.{List}
 use lib.ListN.{length, take}
-use Rattle.filling.specs.Done.{slipAfter}
+use Rattle.answers.specs.Done.{slipAfter}
 use Rattle.finding.proofs.PlaceCode.{inputs-ready, inputs-apart, inputs-columns, found-links}
 use Rattle.swapping.specs.Inputs.{SwapInputs}
 use Rattle.swapping.proofs.SwapCode.{replacement-numberable, marks-few, marks-differ, swap-nothing, ListSwaps, part-room, part-length, swap-list}

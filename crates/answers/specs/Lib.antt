@@ -1,0 +1,3 @@
+pub mod Done
+pub mod Compared
+pub mod Claimed
