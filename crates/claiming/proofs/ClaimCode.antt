@@ -9,7 +9,7 @@ use borrow.Author.Tests.{lt-ltb, le-ltb}
 use lib.Dec.{ltb}
 use lib.ListN.{take}
 use Rattle.rows.specs.Pick.{pick}
-use Rattle.rows.specs.Limits.{sheetAtoms, sheetLinks, figureContexts}
+use Rattle.rows.specs.Limits.{sheetAtoms, sheetLinks}
 use Rattle.rows.specs.Packed.{packed}
 use Rattle.rows.specs.declared.Sheet.{Sheet}
 use Rattle.sheet.specs.Reading.{outcomeOf, noPorts}
@@ -17,7 +17,6 @@ use Rattle.sheet.specs.declared.normal.Normal as form
 use Rattle.sheet.specs.declared.kind.Kind.the-variants.{Plain, Figure, Fillings}
 use Rattle.sheet.specs.declared.answer.Refusal.{Refusal}
 use Rattle.sheet.specs.declared.answer.Answer.the-variants as read
-use Rattle.sheet.proofs.read.HeldLimits.{held-within}
 use Rattle.placing.specs.Net.{Net, normalNet, Normal}
 use Rattle.placing.specs.Placing.{Placing}
 use Rattle.placing.specs.Smallest.{smallest}
@@ -30,7 +29,7 @@ use Rattle.filling.specs.Read.{listHeld}
 use Rattle.filling.specs.Fill.{figureHeld, firstLacking, firstDiffering, filledBy, tooLarge}
 use Rattle.filling.specs.Parts.{Counted, firstUnported}
 use Rattle.filling.specs.Filled.{FilledIs}
-use Rattle.filling.proofs.Parts.{figure-within, figure-agrees, counted}
+use Rattle.filling.proofs.Parts.{figure-within, list-within, counted}
 use Rattle.filling.proofs.Answers.{lacking-made, differing-made}
 use Rattle.filling.proofs.ResultNet.{result-sheet}
 use Rattle.finding.specs.Place.{sheetHeld}
@@ -75,10 +74,10 @@ module _ (s f list : List ℕ) where
   answer-sized z y b t = rw (nought lack z, nought differ y) (ap (λ c. pick c Differs (placedClaim (smallest (normalNet (sheetHeld s)) (filledNet f list)))) (sym t))
 
 pub figure-counted : (sheet : form.Normal) (figure : Sheet) (s f : List ℕ) → ClaimInputs sheet figure s f → Counted figure
-figure-counted sheet figure s f I = subst Counted (sym (I .of-figure)) (counted Figure (figureHeld f) (figure-within f) (figure-agrees f))
+figure-counted sheet figure s f I = subst Counted (sym (I .of-figure)) (counted Figure (figureHeld f) (figure-within f))
 
-pub heads-few : (heads : Sheet) (list : List ℕ) → heads ≡ packed (listHeld list) → heads .«context_count» ≤ figureContexts
-heads-few heads list H = subst (λ (x : Sheet). x .«context_count» ≤ figureContexts) (sym H) (held-within Fillings noPorts list .contexts)
+pub heads-counted : (heads : Sheet) (list : List ℕ) → heads ≡ packed (listHeld list) → Counted heads
+heads-counted heads list H = subst Counted (sym H) (counted Fillings (listHeld list) (list-within list))
 
 -- What the code finds.
 module _ (sheet : form.Normal) (figure heads : Sheet) (list : List ℕ) (H : heads ≡ packed (listHeld list)) (s f : List ℕ) (I : ClaimInputs sheet figure s f)

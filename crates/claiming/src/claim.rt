@@ -16,6 +16,7 @@ ghost use mathlib.Core.Path.{_≡_};
 ghost use mathlib.Core.List.{List};
 ghost use Prim.Native.Nat.{ℕ};
 ghost use Rattle.rows.specs.Packed.{packed};
+ghost use Rattle.sheet.specs.Filling.{Passes};
 ghost use Rattle.placing.specs.Smallest.{smallest};
 ghost use Rattle.network.specs.NetIn.{netIn};
 ghost use Rattle.network.specs.Ready.{Ready};
@@ -37,18 +38,19 @@ fn claim_filled(sheet: Normal, filled: Normal) -> Claimed
 
 // Texts that passed row by row. Too large a filled figure is no sheet.
 fn claim_read(sheet: Normal, figure: Sheet, heads: Sheet, list: &[u8]) -> Claimed
-    requires { ⌜ ((s : List ℕ) × ((f : List ℕ) × ClaimInputs sheet figure s f)) × (heads ≡ packed (listHeld (now list))) ⌝ }
+    requires { ⌜ ((s : List ℕ) × ((f : List ℕ) × ClaimInputs sheet figure s f)) × (heads ≡ packed (listHeld (now list))) × Passes (now list) ⌝ }
     ensures { λ r. ⌜ ((s f : List ℕ) → ClaimInputs sheet figure s f → r ≡ claimedAnswer s f (now (list .entry))) ⌝ }
 {
     let clash = first_lacking(figure, heads);
     if clash != 0 {
         return Claimed::BlankClash(2, clash);
     }
-    let other = first_differing(heads, list);
+    let mut exact = [0u16; Sheet::NUMBERS];
+    let filled = normal_filled(figure, list, &mut exact);
+    let other = first_differing(heads, list, &exact);
     if other != 0 {
         return Claimed::EdgeDiffers(3, other);
     }
-    let filled = normal_filled(figure, list);
     if Sheet::ATOMS < filled.atom_count {
         return Claimed::Differs;
     }

@@ -12,17 +12,19 @@ use Rattle.sheet.specs.declared.normal.Normal as form
 use Rattle.placing.specs.Net.{Net, Range}
 use Rattle.placing.specs.Placing.{Placing, numberAt}
 use Rattle.network.specs.NetIn.{netIn}
-use Rattle.network.specs.Ready.{Ready, LinksIn, TouchesIn, TakenIn, stateIn}
+use Rattle.network.specs.Ready.{Ready, LinksIn, TakenIn, stateIn}
 use Rattle.network.proofs.NetIn.{atoms-length}
 use Rattle.completing.specs.Completion.{Partial}
 use Rattle.completing.specs.Fault as faults
 use Rattle.faults.specs.declared.fault.Fault.{Fault}
 use Rattle.stepping.specs.Flags.{Within, goesTo, portOfNumber}
+use Rattle.stepping.specs.Chains.{ChainsIn}
 use Rattle.stepping.specs.Labels.{Apart}
 use Rattle.faults.specs.Grows.{Tables}
 use Rattle.faults.specs.Gives.{GivesAt, TakenFlags}
 use Rattle.faults.specs.Finds.{Finds}
 use Rattle.stepping.proofs.Reading.{used-read, port-read}
+use Rattle.stepping.proofs.Chaining.{row-in}
 use Rattle.stepping.proofs.Linking.{all-linked, two-apart}
 
 module _ (sheet figure : form.Normal) (ready : Ready sheet figure) (to : List ℕ) (links : LinksIn sheet figure to) where
@@ -65,18 +67,19 @@ module _ (sheet figure : form.Normal) (ready : Ready sheet figure) (to : List �
       );
     }
 
-    pub tables-in : (touches used ports : List ℕ) → TouchesIn sheet touches → Partial S F q un
+    pub tables-in : (chains used ports : List ℕ) → ChainsIn sheet chains → Partial S F q un
         → ((y : ℕ) → (getD used y 0 ≡ 1) ↔ ((x : ℕ) × (x < figure .«class_count») × goesTo to none x y))
         → ((p : ℕ) → (getD ports p 0 ≡ 1) ↔ ((c : ℕ) × (c < figure .«context_count») × portOfNumber figure to none c p))
-        → Tables S F q touches used ports (sheet .«atom_count») (figure .«context_count»)
-    tables-in touches used ports t p u v = record {
+        → Tables S F q chains used ports (sheet .«atom_count») (figure .«context_count»)
+    tables-in chains used ports t p u v = record {
       around = record {
         sheet-normal = ready .sheet-normal;
         normal = ready .figure-normal;
         across = p .across;
         atom-count = atoms-length sheet (ready .sheet-fit);
-        on = t .flags;
+        narrow = λ j h. let w = row-in sheet (ready .sheet-fit) j h .width in let k = ready .sheet-fit .atoms j h .few in omega arith;
       };
+      chained = t;
       used-flag = λ y h. used-read figure (ready .figure-fit) S atoms to none y (omega arith) used u;
       port-flag = λ c y i h. port-read figure (ready .figure-fit) S atoms to none c y i (omega arith) none-room to-within ports v;
     }

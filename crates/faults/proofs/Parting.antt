@@ -1,63 +1,60 @@
 -- The laws of a small part that no context serves.
-use Prim.Native.Nat.{ℕ, suc, _+_, _*_, _-_, _≤_, _<_}
+use Prim.Native.Nat.{ℕ, suc, _+_, _-_, _≤_, _<_}
 use mathlib.Core.Path.{_≡_, refl, sym, subst}
 use mathlib.Core.Logic.{_≢_}
-use mathlib.Core.List.{List, [], _∷_, _++_, List·Memᴰ·head, Memᴰ·append-right}
+use mathlib.Core.List.{List, [], _∷_, _++_, List·Memᴰ·head, Memᴰ·cast, Memᴰ·append-right}
 use native.Mathlib.Omega.{arith}
-use lib.ListN.{getD}
+use lib.ListN.{length, getD, set}
 use Rattle.hyperlmntal.specs.Link.{_∈_}
 use Rattle.rows.specs.Limits.{sheetAtoms, sheetLinks}
 use Rattle.placing.specs.Net.{Net}
 use Rattle.placing.specs.Placing.{Placing, cellAt, PortAt}
 use Rattle.completing.proofs.Growing.{part-cut-off}
-use Rattle.faults.specs.declared.growth.Growth.{Growth}
-use Rattle.faults.specs.Grows.{Sized, added, atomsOf, Longer, Tables}
-use Rattle.faults.specs.Parts.{HoldsSome, WithStep, WithEnds, Cut, CutLinks, Rows}
-use Rattle.faults.proofs.Growing.{lookedAt, sized-looked, sized-added, holds-looked, holds-added, atoms-longer}
+use Rattle.faults.specs.Grows.{Tables}
+use Rattle.faults.specs.Parts.{HoldsSome, LinksOf, WithStep, WithEnds, Cut, CutLinks, Rows}
+use Rattle.faults.proofs.Growing.{holds-looked, holds-atom}
 
 -- Atom j joins over link y, on which member a stands too.
-module _ (touches used : List ℕ) (p : Growth) (a y j atoms links : ℕ) (few : atoms ≤ sheetAtoms) (room : links ≤ sheetLinks) (s : Sized atoms p)
-    (ha : a < atoms) (hy : y < links) (hj : j < atoms) (new : getD (p .members) j 0 ≢ 1) where
-  abbrev looked : Growth
-  looked = lookedAt p y (p .left)
+module _ (used from here members flags : List ℕ) (a width y j count atoms links : ℕ) (few : atoms ≤ sheetAtoms) (room : links ≤ sheetLinks) (rm : length members ≡ sheetAtoms) (rf : length flags ≡ sheetLinks)
+    (ha : a < atoms) (hy : y < links) (hj : j < atoms) where
+  -- a place at the link
+  abbrev At : List ℕ → ℕ → Type 0
+  At row n = (k : ℕ) × (k < n) × (getD row k 0 ≡ y + 1)
 
-  sized : Sized atoms looked
-  sized = sized-looked p y (p .left) atoms (omega arith) s
-
-  pub step-sized : Sized atoms (added looked j y a)
-  step-sized = sized-added atoms looked j y a few sized hj new
-
-  pub step-joined : getD (p .members) a 0 ≡ 1 → getD used y 0 ≢ 1 → getD touches (y * sheetAtoms + a) 0 ≡ 1 → getD touches (y * sheetAtoms + j) 0 ≡ 1
-      → WithStep touches used atoms links p (added looked j y a)
-  step-joined member unused on-a on-j S F q root e around flags h =
+  pub step-joined : getD members a 0 ≡ 1 → getD used y 0 ≢ 1 → At from width → At here count → WithStep used a from width j here count atoms links members flags (set members j 1) (set flags y 1)
+  step-joined member unused on-a on-j S F q root e around used-flags of-a of-j h =
       let k : y < S .links = omega arith in
-      let seen = h .0 ++ (suc y ∷ []) in (
+      let seen = h .1 ++ (suc y ∷ []) in (
+        h .0 ++ (suc j ∷ []),
         seen,
-        holds-added atoms looked j y a few sized hj new S F q root y seen touches around (Memᴰ·append-right (h .0) (List·Memᴰ·head refl)) (λ u. unused (flags y k .1 u)) (around .on y j k hj .0 on-j)
-            (holds-looked p y (p .left) atoms (omega arith) s S F q root (suc a) (h .0) (h .1 .flagged a member) (around .on y a k ha .0 on-a) (h .1)),
+        holds-atom S F q root (h .0) members (set flags y 1) seen
+            (holds-looked S F q root (h .0) members flags (h .1) (h .2) y (suc a) (omega arith) (h .2 .flagged a member) (on a from width (of-a ha) on-a))
+            atoms y j (omega arith) hj around (Memᴰ·append-right (h .1) (List·Memᴰ·head refl)) (λ u. unused (used-flags y k .1 u)) (on j here count of-j on-j),
       )
+    where
+      on : (i : ℕ) (row : List ℕ) (n : ℕ) → LinksOf S i row n → At row n → suc y ∈ (cellAt (S .atoms) (suc i)) .1
+      on i row n f t = Memᴰ·cast (let d : getD row (t .0) 0 ≡ y + 1 = t .2 in let z : suc y ≡ getD row (t .0) 0 = omega arith in z) (f (t .0) (t .1))
 
 -- One link more of a member is looked at.
-pub ends-next : (links : List ℕ) (k atoms : ℕ) (p next : Growth) (left : List ℕ) → 1 ≤ getD links k 0 → getD links k 0 - 1 < sheetLinks → Longer p next → Sized atoms next → WithEnds links k p next
-    → WithEnds links (k + 1) p (lookedAt next (getD links k 0 - 1) left)
-ends-next links k atoms p next left low room a s w S F q root j m on h =
-    let v = w S F q root j m (λ i l. on i (omega arith)) h in
+pub ends-next : (links : List ℕ) (k : ℕ) (flags next : List ℕ) → 1 ≤ getD links k 0 → getD links k 0 - 1 < length next → WithEnds links k flags next
+    → WithEnds links (k + 1) flags (set next (getD links k 0 - 1) 1)
+ends-next links k flags next low room w S F q root j part members seen m on h =
+    let v = w S F q root j part members seen m (λ i l. on i (omega arith)) h in
     let up : getD links k 0 ≡ suc (getD links k 0 - 1) = omega arith in (
       v .0 ++ (suc (getD links k 0 - 1) ∷ []),
-      holds-looked next (getD links k 0 - 1) left atoms room s S F q root j (v .0) (atoms-longer p next atoms a s j m)
-          (subst (λ (z : ℕ). z ∈ (cellAt (S .atoms) j) .1) up (on k (omega arith))) (v .1),
+      holds-looked S F q root part members next (v .0) (v .1) (getD links k 0 - 1) j room m (subst (λ (z : ℕ). z ∈ (cellAt (S .atoms) j) .1) up (on k (omega arith))),
     )
 
 -- Each context is cut.
-pub part-cuts : (S F : Net) (q : Placing) (touches used ports : List ℕ) (atoms contexts root : ℕ) (p : Growth) → Tables S F q touches used ports atoms contexts → Rows F contexts
-    → HoldsSome S F q root p → ((c : ℕ) → c < contexts → Cut (p .seen) used ports (S .links) c) → CutLinks S F q (p .seen)
-part-cuts S F q touches used ports atoms contexts root p t rows h cut = (
-  atomsOf p,
+pub part-cuts : (S F : Net) (q : Placing) (chains used ports : List ℕ) (atoms contexts root : ℕ) (members flags : List ℕ) → Tables S F q chains used ports atoms contexts → Rows F contexts
+    → HoldsSome S F q root members flags → ((c : ℕ) → c < contexts → Cut flags used ports (S .links) c) → CutLinks S F q flags
+part-cuts S F q chains used ports atoms contexts root members flags t rows h cut = (
   h .0,
-  part-cut-off S F q root (atomsOf p) (h .0) (h .1 .part) (λ row m s.
+  h .1,
+  part-cut-off S F q root (h .0) (h .1) (h .2 .connected) (λ row m s.
       let c = rows row m in
       let k = cut (c .0) (c .1) in
-      let port = s (suc (k .0)) (h .1 .flagged-seen (k .0) (k .2)) (t .used-flag (k .0) (k .1) .0 (k .3)) in
+      let port = s (suc (k .0)) (h .2 .flagged-seen (k .0) (k .2)) (t .used-flag (k .0) (k .1) .0 (k .3)) in
       k .4 (t .port-flag (c .0) (k .0) (c .1) (k .1) .1 (subst (λ (n : ℕ). PortAt S F q n (suc (k .0))) (sym (c .2)) port))),
-  h .1 .looked,
+  h .2 .looked,
 )

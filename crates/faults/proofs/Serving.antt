@@ -18,11 +18,9 @@ use Rattle.network.proofs.NetIn.{atoms-length, context-of}
 use Rattle.completing.specs.Fault.{Other, LeastContext}
 use Rattle.completing.specs.Growing.{Serves}
 use Rattle.completing.proofs.Growing.{part-other, part-cut-off, grown-least}
-use Rattle.faults.specs.declared.growth.Growth.{Growth}
-use Rattle.faults.specs.declared.fault.Given.{Given}
-use Rattle.faults.specs.Grows.{Sized, atomsOf, WholeAt}
+use Rattle.faults.specs.Grows.{Growth, Sized, atomsOf, WholeAt}
 use Rattle.faults.specs.Parts.{CutLinks, Rows}
-use Rattle.faults.specs.Gives.{Gave, GivenAt, GivesAt, TakenFlags}
+use Rattle.faults.specs.Gives.{Given, Gave, GivenAt, OneMoreAt, GivesAt, TakenFlags}
 use Rattle.stepping.proofs.Tables.{below-next, store-flag, zeros, zeros-not}
 use Rattle.stepping.proofs.Reading.{context-cell, context-in}
 use Rattle.faults.proofs.Growing.{listed-in, listed-of}
@@ -66,7 +64,15 @@ gave-next given r g number n h w = record {
         b : getD (next .done) j 0 ≡ getD (r .done) j 0
         b = getD-set-other (r .done) at j 1 0 e
 
-module _ (S : Net) (figure : form.Normal) (f : Fit figure) (q : Placing) (root : ℕ) (g : Growth) (w : WholeAt S (netIn figure) q root (figure .«context_count») g) where
+-- an atom that had a context or is in the component has one now
+pub done-more : (g : Growth) (given r : Given) (number j : ℕ) → Gave given g number (g .count) r → (getD (given .done) j 0 ≡ 1) ⊎ (suc j ∈ atomsOf g) → getD (r .done) j 0 ≡ 1
+done-more g given r number j v (inl e) = ⊎-elim (λ t. subst (λ (i : ℕ). getD (r .done) i 0 ≡ 1) (t .2) (v .all-done (t .0) (t .1))) (λ t. t .1 ∙ e) (v .each j)
+done-more g given r number j v (inr m) =
+    let t = listed-of g (suc j) m in
+    let e : getD (g .order) (t .0) 0 ≡ j = (let i : suc (getD (g .order) (t .0) 0) ≡ suc j = t .2 in omega arith) in
+    subst (λ (i : ℕ). getD (r .done) i 0 ≡ 1) e (v .all-done (t .0) (t .1))
+
+module _ (S : Net) (figure : form.Normal) (f : Fit figure) (q : Placing) (root : ℕ) (g : Growth) (flags left : List ℕ) (w : WholeAt S (netIn figure) q (suc root) (figure .«context_count») g flags left) where
   abbrev F : Net
   F = netIn figure
 
@@ -77,28 +83,28 @@ module _ (S : Net) (figure : form.Normal) (f : Fit figure) (q : Placing) (root :
   cell-number c h = ap (λ (r : NetCell). r .0) (context-cell figure f c h)
 
   -- a context that serves is left
-  is-left : (row : NetCell) → row ∈ F .contexts → Serves S F q seen (row .0) → (c : ℕ) × (c < figure .«context_count») × (contextAt figure c .number ≡ row .0) × (getD (g .left) c 0 ≡ 1)
+  is-left : (row : NetCell) → row ∈ F .contexts → Serves S F q seen (row .0) → (c : ℕ) × (c < figure .«context_count») × (contextAt figure c .number ≡ row .0) × (getD left c 0 ≡ 1)
   is-left row m s =
       let c = context-of figure f row m in
       let e : contextAt figure (c .0) .number ≡ row .0 = ap (λ (r : NetCell). r .0) (c .2) in
       (c .0, c .1, e, w .grows .serves (c .0) (c .1) .1 (subst (Serves S F q seen) (sym (cell-number (c .0) (c .1) ∙ e)) s))
 
   -- none is left
-  pub none-left : ((c : ℕ) → c < figure .«context_count» → getD (g .left) c 0 ≢ 1) → CutLinks S F q (g .seen)
-  none-left n = (atomsOf g, seen, part-cut-off S F q root (atomsOf g) seen (w .grows .holds .part) (λ row m s. let c = is-left row m s in n (c .0) (c .1) (c .3)), w .grows .holds .looked)
+  pub none-left : ((c : ℕ) → c < figure .«context_count» → getD left c 0 ≢ 1) → CutLinks S F q flags
+  none-left n = (atomsOf g, seen, part-cut-off S F q (suc root) (atomsOf g) seen (w .grows .holds .connected) (λ row m s. let c = is-left row m s in n (c .0) (c .1) (c .3)), w .grows .holds .looked)
 
   -- the best of those left
-  module _ (best : ℕ) (h : best < figure .«context_count») (b : getD (g .left) best 0 ≡ 1)
-      (low : (c : ℕ) → c < figure .«context_count» → getD (g .left) c 0 ≡ 1 → contextAt figure best .number ≤ contextAt figure c .number) where
+  module _ (best : ℕ) (h : best < figure .«context_count») (b : getD left best 0 ≡ 1)
+      (low : (c : ℕ) → c < figure .«context_count» → getD left c 0 ≡ 1 → contextAt figure best .number ≤ contextAt figure c .number) where
     best-least : (j : ℕ) → j ∈ atomsOf g → LeastContext S F q j (contextAt figure best .number)
-    best-least j m = grown-least S F q root (atomsOf g) seen (w .grows .holds .part) (w .grown) (contextAt figure best .number)
+    best-least j m = grown-least S F q (suc root) (atomsOf g) seen (w .grows .holds .connected) (w .grown) (contextAt figure best .number)
         (contextIn (contextAt figure best), context-in figure f best h, refl)
         (subst (Serves S F q seen) (cell-number best h) (w .grows .serves best h .0 b))
         (λ d n s. let c = is-left (n .0) (n .1) (subst (Serves S F q seen) (sym (n .2)) s) in
         let e : contextAt figure (c .0) .number ≡ d = c .2 ∙ n .2 in
         let k = low (c .0) (c .1) (c .3) in omega arith) j m
 
-    pub given-more : (atoms : ℕ) → Sized atoms g → (given r : Given) → Gave given g (contextAt figure best .number) (g .count) r → GivenAt S F q given → GivenAt S F q r
+    given-more : (atoms : ℕ) → Sized atoms g → (given r : Given) → Gave given g (contextAt figure best .number) (g .count) r → GivenAt S F q given → GivenAt S F q r
     given-more atoms s given r v a = record {
       least = λ j e. ⊎-elim (λ t. hit j t) (λ t. let o = a .least j (sym (t .1) ∙ e) in (o .0, subst (LeastContext S F q (suc j)) (sym (t .0)) (o .1))) (v .each j);
       not-yet = λ j n. ⊎-elim (λ t. absurd (n (subst (λ (i : ℕ). getD (r .done) i 0 ≡ 1) (t .2) (v .all-done (t .0) (t .1))))) (λ t. t .0 ∙ a .not-yet j (λ e. n (t .1 ∙ e))) (v .each j);
@@ -107,15 +113,20 @@ module _ (S : Net) (figure : form.Normal) (f : Fit figure) (q : Placing) (root :
         hit : (j : ℕ) → (i : ℕ) × (i < g .count) × (getD (g .order) i 0 ≡ j) × (getD (r .contexts) j 0 ≡ contextAt figure best .number) → Other S F q (suc j) × LeastContext S F q (suc j) (getD (r .contexts) j 0)
         hit j t =
             let m : suc j ∈ atomsOf g = subst (λ (i : ℕ). suc i ∈ atomsOf g) (t .2) (listed-in g (t .0) (let o = s .order-room in let k = s .most in omega arith) (t .1)) in
-            (part-other S F q root (atomsOf g) seen (w .grows .holds .part) (suc j) m, subst (LeastContext S F q (suc j)) (sym (t .3)) (best-least (suc j) m))
+            (part-other S F q (suc root) (atomsOf g) seen (w .grows .holds .connected) (suc j) m, subst (LeastContext S F q (suc j)) (sym (t .3)) (best-least (suc j) m))
 
--- an atom that had a context or is in the component has one now
-pub done-more : (g : Growth) (given r : Given) (number j : ℕ) → Gave given g number (g .count) r → (getD (given .done) j 0 ≡ 1) ⊎ (suc j ∈ atomsOf g) → getD (r .done) j 0 ≡ 1
-done-more g given r number j v (inl e) = ⊎-elim (λ t. subst (λ (i : ℕ). getD (r .done) i 0 ≡ 1) (t .2) (v .all-done (t .0) (t .1))) (λ t. t .1 ∙ e) (v .each j)
-done-more g given r number j v (inr m) =
-    let t = listed-of g (suc j) m in
-    let e : getD (g .order) (t .0) 0 ≡ j = (let i : suc (getD (g .order) (t .0) 0) ≡ suc j = t .2 in omega arith) in
-    subst (λ (i : ℕ). getD (r .done) i 0 ≡ 1) e (v .all-done (t .0) (t .1))
+    pub one-given : (atoms : ℕ) → Sized atoms g → (before after : Given) (links : List ℕ) → Gave before g (contextAt figure best .number) (g .count) after
+        → OneMoreAt S F q root before after (record { fault = false; links = links })
+    one-given atoms s before after links v = record {
+      none-found = λ e. (
+        given-more atoms s before after v,
+        λ j d. done-more g before after (contextAt figure best .number) j v (⊎-elim (λ k. inl k) (λ k. inr (subst (λ (i : ℕ). suc i ∈ atomsOf g) (sym k) (w .grows .holds .connected .root-member))) d),
+      );
+      some-found = λ e. absurd (let z : _≡_ {A = ℕ} 0 1 = cc in omega arith);
+    }
+
+pub one-cut : (S F : Net) (q : Placing) (root : ℕ) (before after : Given) (links : List ℕ) → CutLinks S F q links → OneMoreAt S F q root before after (record { fault = true; links = links })
+one-cut S F q root before after links c = record { none-found = λ e. absurd (let z : _≡_ {A = ℕ} 0 1 = cc in omega arith); some-found = λ e. c }
 
 -- At the start, and at the end.
 pub given-start : (S F : Net) (q : Placing) → GivenAt S F q (record { contexts = replicate 64 0; done = replicate 64 0 })

@@ -12,34 +12,35 @@ use Rattle.placing.specs.Placing.{Placing, cellAt}
 use Rattle.network.specs.NetIn.{netIn}
 use Rattle.network.specs.Ready.{Flag}
 use Rattle.completing.specs.Fault.{Used, Other, CutOff}
-use Rattle.faults.specs.Grows.{atomsOf, Around, Tables, Holds}
-use Rattle.faults.specs.declared.growth.Growth.{Growth}
+use Rattle.faults.specs.Grows.{Around, Tables, Holds}
 
--- some links make it a connected part
-abbrev pub HoldsSome : Net → Net → Placing → ℕ → Growth → Type 0
-HoldsSome S F q root g = (seen : List ℕ) × Holds S F q root g seen
+-- some atoms and links are a connected part, and the 1s are theirs
+abbrev pub HoldsSome : Net → Net → Placing → ℕ → List ℕ → List ℕ → Type 0
+HoldsSome S F q root members flags = (part : List ℕ) × (seen : List ℕ) × Holds S F q root part members flags seen
 
 -- 1s say where figure links go
 abbrev pub UsedFlags : Net → Net → Placing → List ℕ → Type 0
 UsedFlags S F q used = (y : ℕ) → y < S .links → (getD used y 0 ≡ 1) ↔ Used S F q (suc y)
 
-abbrev pub WithStep : List ℕ → List ℕ → ℕ → ℕ → Growth → Growth → Type 0
-WithStep touches used atoms links p r =
-    (S F : Net) (q : Placing) (root : ℕ) → S .links ≡ links → Around S F q touches atoms → UsedFlags S F q used → HoldsSome S F q root p → HoldsSome S F q root r
+-- the first n of these links are links of atom j, from 0
+abbrev pub LinksOf : Net → ℕ → List ℕ → ℕ → Type 0
+LinksOf S j links n = (k : ℕ) → k < n → getD links k 0 ∈ (cellAt (S .atoms) (suc j)) .1
 
-abbrev pub WithEnds : List ℕ → ℕ → Growth → Growth → Type 0
-WithEnds links count p r =
-    (S F : Net) (q : Placing) (root j : ℕ) → j ∈ atomsOf p → ((k : ℕ) → k < count → getD links k 0 ∈ (cellAt (S .atoms) j) .1) → HoldsSome S F q root p → HoldsSome S F q root r
+-- atom j joined from atom a, or nothing is changed
+abbrev pub WithStep : List ℕ → ℕ → List ℕ → ℕ → ℕ → List ℕ → ℕ → ℕ → ℕ → List ℕ → List ℕ → List ℕ → List ℕ → Type 0
+WithStep used a from width j here count atoms links members flags membersNow flagsNow =
+    (S F : Net) (q : Placing) (root : ℕ) → S .links ≡ links → Around S F q atoms → UsedFlags S F q used → (a < atoms → LinksOf S a from width) → LinksOf S j here count
+    → HoldsSome S F q root members flags → HoldsSome S F q root membersNow flagsNow
 
-abbrev pub WithMarked : form.Normal → List ℕ → List ℕ → Growth → Growth → Type 0
-WithMarked sheet touches used p r =
-    (F : Net) (q : Placing) (root : ℕ) → Around (netIn sheet) F q touches (sheet .«atom_count») → UsedFlags (netIn sheet) F q used
-    → HoldsSome (netIn sheet) F q root p → HoldsSome (netIn sheet) F q root r
+abbrev pub WithEnds : List ℕ → ℕ → List ℕ → List ℕ → Type 0
+WithEnds links count flags flagsNow =
+    (S F : Net) (q : Placing) (root j : ℕ) (part members seen : List ℕ) → j ∈ part → ((k : ℕ) → k < count → getD links k 0 ∈ (cellAt (S .atoms) j) .1)
+    → Holds S F q root part members flags seen → (now : List ℕ) × Holds S F q root part members flagsNow now
 
-abbrev pub HoldsPart : form.Normal → List ℕ → List ℕ → ℕ → Growth → Type 0
-HoldsPart sheet touches used root r =
-    (F : Net) (q : Placing) → Around (netIn sheet) F q touches (sheet .«atom_count») → UsedFlags (netIn sheet) F q used → Other (netIn sheet) F q (suc root)
-    → HoldsSome (netIn sheet) F q (suc root) r
+abbrev pub HoldsPart : form.Normal → List ℕ → ℕ → List ℕ → List ℕ → Type 0
+HoldsPart sheet used root members flags =
+    (F : Net) (q : Placing) → Around (netIn sheet) F q (sheet .«atom_count») → UsedFlags (netIn sheet) F q used → Other (netIn sheet) F q (suc root)
+    → HoldsSome (netIn sheet) F q (suc root) members flags
 
 -- the context of row c has no port at some link looked at where a figure link goes
 abbrev pub Cut : List ℕ → List ℕ → List ℕ → ℕ → ℕ → Type 0
@@ -55,6 +56,6 @@ Rows F contexts = (row : NetCell) → row ∈ F .contexts → (c : ℕ) × (c < 
 
 -- where all links of the component are those of a cut, so are these
 abbrev pub Cuts : form.Normal → List ℕ → List ℕ → List ℕ → ℕ → ℕ → List ℕ → List ℕ → Type 0
-Cuts sheet touches used ports root contexts all links =
-    (F : Net) (q : Placing) → Tables (netIn sheet) F q touches used ports (sheet .«atom_count») contexts → Other (netIn sheet) F q (suc root) → Rows F contexts
+Cuts sheet chains used ports root contexts all links =
+    (F : Net) (q : Placing) → Tables (netIn sheet) F q chains used ports (sheet .«atom_count») contexts → Other (netIn sheet) F q (suc root) → Rows F contexts
     → CutLinks (netIn sheet) F q all → CutLinks (netIn sheet) F q links

@@ -1,25 +1,25 @@
 // What stands in the way of completing: sheet links to one of which an open figure link must go.
-use crate::growth::Growth;
 use crate::growth::grown;
 use crate::part::part;
 use rows::Sheet;
 use sheet::normal::Normal;
+use stepping::CHAINS;
 use stepping::PORTS;
-use stepping::TOUCHES;
 use stepping::contexts::least;
 use stepping::lookup::port_table;
 use stepping::lookup::used_links;
 use stepping::steps::apart;
 ghost use mathlib.Core.Path.{_≡_};
 ghost use mathlib.Core.List.{List};
-ghost use Prim.Native.Nat.{ℕ, suc, _+_, _<_, _≤_};
+ghost use Prim.Native.Nat.{ℕ, _+_, _<_, _≤_};
 ghost use lib.ListN.{length, getD};
-ghost use Rattle.rows.specs.Limits.{sheetAtoms, sheetLinks};
-ghost use Rattle.placing.specs.Net.{Range};
+ghost use Rattle.rows.specs.Limits.{sheetAtoms};
 ghost use Rattle.network.specs.NetIn.{netIn, Fit};
-ghost use Rattle.network.specs.Ready.{Ready, LinksIn, TouchesIn, TakenIn, stateIn};
+ghost use Rattle.network.specs.Ready.{Ready, LinksIn, TakenIn, stateIn};
 ghost use Rattle.completing.specs.Completion.{Partial};
-ghost use Rattle.faults.specs.Gives.{Gave, Gives};
+ghost use Rattle.stepping.specs.Chains.{nodeOf, Falls, ChainsIn};
+ghost use Rattle.faults.specs.Gives.{given, Gave, OneMore, Gives};
+ghost use Rattle.faults.specs.Grows.{growth};
 ghost use Rattle.faults.specs.Finds.{Finds};
 
 pub struct Fault {
@@ -30,65 +30,117 @@ pub struct Fault {
     pub given: [u16; Sheet::ATOMS],
 }
 
-// The contexts given so far, and 1 for the atoms that have one.
-pub(crate) struct Given {
-    pub contexts: [u16; Sheet::ATOMS],
-    pub done: [u8; Sheet::ATOMS],
+// What is found of one component: a fault, and 1 for each of its links.
+pub(crate) struct Found {
+    pub fault: bool,
+    pub links: [u8; Sheet::LINKS],
 }
 
-// One context for all atoms of a component.
-fn give(given: Given, g: Growth, number: u16) -> Given
-    requires { ⌜ (length (given .contexts) ≡ sheetAtoms) × (length (given .done) ≡ sheetAtoms) × (g .count ≤ sheetAtoms) × ((h : ℕ) → h < g .count → getD (g .order) h 0 < sheetAtoms) ⌝ }
-    ensures { λ r. ⌜ Gave given g number (g .count) r ⌝ }
+// One context for all atoms of a component, with 1 for each that has one.
+fn give(
+    contexts: &mut [u16; Sheet::ATOMS],
+    done: &mut [u8; Sheet::ATOMS],
+    order: &[u8; Sheet::ATOMS],
+    count: usize,
+    number: u16,
+)
+    requires { ⌜ (length (now contexts) ≡ sheetAtoms) × (length (now done) ≡ sheetAtoms) × (count ≤ sheetAtoms) × ((h : ℕ) → h < count → getD (now order) h 0 < sheetAtoms) ⌝ }
+    ensures { λ r. ⌜ ((members : List ℕ) → Gave (given (now (contexts .entry)) (now (done .entry))) (growth (now (order .entry)) count members) number count (given (now (contexts .exit)) (now (done .exit)))) ⌝ }
 {
-    let mut next = given;
     let mut h = 0;
-    while h < g.count {
-        let j = g.order[h] as usize;
-        next.contexts[j] = number;
-        next.done[j] = 1;
+    while h < count {
+        let j = order[h] as usize;
+        contexts[j] = number;
+        done[j] = 1;
         h += 1;
     }
-    next
+}
+
+// The component of an atom gets its least context, or its links are a fault.
+fn one_more(
+    contexts: &mut [u16; Sheet::ATOMS],
+    done: &mut [u8; Sheet::ATOMS],
+    sheet: Normal,
+    figure: Normal,
+    chains: &[u16; CHAINS],
+    used: &[u8; Sheet::LINKS],
+    ports: &[u8; PORTS],
+    root: usize,
+) -> Found
+    requires { ⌜ Fit sheet × Fit figure × (root < sheet .«atom_count») × (length (now contexts) ≡ sheetAtoms) × (length (now done) ≡ sheetAtoms) × Falls (nodeOf (sheet .«atom_count») 0) (now chains) ⌝ }
+    ensures { λ r. ⌜ OneMore sheet figure (now (chains .entry)) (now (used .entry)) (now (ports .entry)) root (given (now (contexts .entry)) (now (done .entry))) (given (now (contexts .exit)) (now (done .exit))) r ⌝ }
+{
+    let rows = figure.context_count;
+    let mut order = [0u8; Sheet::ATOMS];
+    let mut members = [0u8; Sheet::ATOMS];
+    let mut way = [0u16; Sheet::ATOMS];
+    let mut seen = [0u8; Sheet::LINKS];
+    let mut left = [1u8; Sheet::CONTEXT_ROOM];
+    let count = grown(
+        &mut order,
+        &mut members,
+        &mut way,
+        &mut seen,
+        &mut left,
+        sheet,
+        chains,
+        used,
+        ports,
+        root,
+        rows,
+    );
+    let c = least(figure, left);
+    if c == rows {
+        let links = part(sheet, &order, count, &way, seen, used, ports, root, rows);
+        return Found { fault: true, links };
+    }
+    give(contexts, done, &order, count, figure.contexts[c].number);
+    Found {
+        fault: false,
+        links: seen,
+    }
 }
 
 // Component by component: the least context, or the links of one that has none.
 fn served(
     sheet: Normal,
     figure: Normal,
-    touches: &[u8; TOUCHES],
+    chains: &[u16; CHAINS],
     used: &[u8; Sheet::LINKS],
     ports: &[u8; PORTS],
     taken: [u8; Sheet::ATOMS],
 ) -> Fault
-    requires { ⌜ Fit sheet × Fit figure ⌝ }
-    ensures { λ r. ⌜ Gives sheet figure (now (touches .entry)) (now (used .entry)) (now (ports .entry)) taken r ⌝ }
+    requires { ⌜ Fit sheet × Fit figure × Falls (nodeOf (sheet .«atom_count») 0) (now chains) ⌝ }
+    ensures { λ r. ⌜ Gives sheet figure (now (chains .entry)) (now (used .entry)) (now (ports .entry)) taken r ⌝ }
 {
-    let mut given = Given {
-        contexts: [0; Sheet::ATOMS],
-        done: [0; Sheet::ATOMS],
-    };
+    let mut contexts = [0u16; Sheet::ATOMS];
+    let mut done = [0u8; Sheet::ATOMS];
     let mut j = 0;
     while j < sheet.atom_count {
         if taken[j] != 1 {
-            if given.done[j] != 1 {
-                let g = grown(sheet, touches, used, ports, j, figure.context_count);
-                let left = g.left;
-                let c = least(figure, left);
-                if c == figure.context_count {
-                    let links = part(sheet, g, touches, used, ports, j, figure.context_count);
+            if done[j] != 1 {
+                let one = one_more(
+                    &mut contexts,
+                    &mut done,
+                    sheet,
+                    figure,
+                    chains,
+                    used,
+                    ports,
+                    j,
+                );
+                if one.fault {
+                    let links = one.links;
                     return Fault {
                         found: true,
                         links,
-                        given: [0; Sheet::ATOMS],
+                        given: contexts,
                     };
                 }
-                given = give(given, g, figure.contexts[c].number);
             }
         }
         j += 1;
     }
-    let contexts = given.contexts;
     Fault {
         found: false,
         links: [0; Sheet::LINKS],
@@ -99,11 +151,11 @@ fn served(
 pub fn find(
     sheet: Normal,
     figure: Normal,
-    touches: &[u8; TOUCHES],
+    chains: &[u16; CHAINS],
     taken: [u8; Sheet::ATOMS],
     to: [u16; Sheet::LINKS],
 ) -> Fault
-    requires { ⌜ Ready sheet figure × TouchesIn sheet (now touches) × LinksIn sheet figure to ⌝ }
+    requires { ⌜ Ready sheet figure × ChainsIn sheet (now chains) × LinksIn sheet figure to ⌝ }
     ensures { λ r. ⌜ ((atoms un : List ℕ) → TakenIn sheet figure (stateIn figure atoms to) taken → Partial (netIn sheet) (netIn figure) (stateIn figure atoms to) un → Finds sheet figure (stateIn figure atoms to) r) ⌝ }
 {
     let none = (sheet.class_count + 1) as u16;
@@ -119,5 +171,5 @@ pub fn find(
     }
     let used = used_links(figure.class_count, to, none);
     let ports = port_table(figure, to, none);
-    served(sheet, figure, touches, &used, &ports, taken)
+    served(sheet, figure, chains, &used, &ports, taken)
 }

@@ -1,49 +1,66 @@
 // A small connected part of a component that no context may hold: ways from its first atom to links that
 // together leave no context. The ways are guessed; what is made of them is checked.
-use crate::growth::Growth;
-use crate::growth::start;
-use crate::growth::with_atom;
-use crate::ways::Marks;
 use crate::ways::mark_all;
 use crate::ways::wide;
 use rows::Sheet;
 use sheet::normal::Normal;
 use stepping::PORTS;
-use stepping::TOUCHES;
 ghost use mathlib.Core.Path.{_≡_};
 ghost use mathlib.Core.Bool.{true};
+ghost use mathlib.Core.List.{List};
 ghost use Prim.Native.Nat.{ℕ, _<_, _≤_};
+ghost use lib.ListN.{length, getD, replicate};
 ghost use Rattle.rows.specs.Format.{mostLinks};
 ghost use Rattle.rows.specs.Limits.{sheetAtoms, sheetLinks, figureContexts};
 ghost use Rattle.network.specs.NetIn.{Fit};
 ghost use Rattle.stepping.specs.Flags.{Within};
-ghost use Rattle.faults.specs.Grows.{Sized};
-ghost use Rattle.faults.specs.Parts.{WithStep, WithEnds, WithMarked, HoldsPart, Cut, Cuts};
+ghost use Rattle.faults.specs.Parts.{WithStep, WithEnds, HoldsPart, Cut, Cuts};
 
-// Atom j joins the part, over link y from atom a, where that is so.
+// Link z is among the first `count`.
+fn stands(links: [u16; Sheet::MOST_LINKS], count: usize, z: u16) -> bool
+    ensures { λ r. ⌜ (r ≡ true → (k : ℕ) × (k < count) × (getD links k 0 ≡ z)) ⌝ }
+{
+    let mut k = 0;
+    while k < Sheet::MOST_LINKS {
+        if k < count {
+            if links[k] == z {
+                return true;
+            }
+        }
+        k += 1;
+    }
+    false
+}
+
+// Atom j joins the part, over link y from atom a, where both stand on it; `from` and `here` are their links.
 fn with_step(
-    p: Growth,
-    touches: &[u8; TOUCHES],
+    members: &mut [u8; Sheet::ATOMS],
+    seen: &mut [u8; Sheet::LINKS],
     used: &[u8; Sheet::LINKS],
     a: usize,
+    from: [u16; Sheet::MOST_LINKS],
+    width: usize,
     y: usize,
     j: usize,
+    here: [u16; Sheet::MOST_LINKS],
+    count: usize,
     atoms: usize,
     links: usize,
-) -> Growth
-    requires { ⌜ (j < atoms) × (atoms ≤ sheetAtoms) × (links ≤ sheetLinks) × Sized atoms p ⌝ }
-    ensures { λ r. ⌜ Sized atoms r × WithStep (now (touches .entry)) (now (used .entry)) atoms links p r ⌝ }
+)
+    requires { ⌜ (j < atoms) × (atoms ≤ sheetAtoms) × (links ≤ sheetLinks) × (length (now members) ≡ sheetAtoms) × (length (now seen) ≡ sheetLinks) ⌝ }
+    ensures { λ r. ⌜ (length (now (members .exit)) ≡ sheetAtoms) × (length (now (seen .exit)) ≡ sheetLinks) × WithStep (now (used .entry)) a from width j here count atoms links (now (members .entry)) (now (seen .entry)) (now (members .exit)) (now (seen .exit)) ⌝ }
 {
     if a < atoms {
         if y < links {
-            if p.members[a] == 1 {
+            if members[a] == 1 {
                 if used[y] != 1 {
-                    if touches[y * Sheet::ATOMS + a] == 1 {
-                        if touches[y * Sheet::ATOMS + j] == 1 {
-                            if p.members[j] != 1 {
-                                let mut next = p;
-                                next.seen[y] = 1;
-                                return with_atom(next, j, y, a);
+                    let z = (y + 1) as u16;
+                    if stands(from, width, z) {
+                        if stands(here, count, z) {
+                            if members[j] != 1 {
+                                seen[y] = 1;
+                                members[j] = 1;
+                                return;
                             }
                         }
                     }
@@ -51,89 +68,78 @@ fn with_step(
             }
         }
     }
-    p
 }
 
 // The ends among the links of a member are looked at.
 fn with_ends(
-    p: Growth,
+    seen: &mut [u8; Sheet::LINKS],
     ends: &[u8; Sheet::LINKS],
     links: [u16; Sheet::MOST_LINKS],
     count: usize,
-    atoms: usize,
-) -> Growth
-    requires { ⌜ (count ≤ mostLinks) × Within sheetLinks count links × Sized atoms p ⌝ }
-    ensures { λ r. ⌜ Sized atoms r × WithEnds links count p r ⌝ }
+)
+    requires { ⌜ (count ≤ mostLinks) × Within sheetLinks count links × (length (now seen) ≡ sheetLinks) ⌝ }
+    ensures { λ r. ⌜ (length (now (seen .exit)) ≡ sheetLinks) × WithEnds links count (now (seen .entry)) (now (seen .exit)) ⌝ }
 {
-    let mut next = p;
     let mut k = 0;
     while k < count {
         let y = (links[k] - 1) as usize;
         if ends[y] == 1 {
-            next.seen[y] = 1;
+            seen[y] = 1;
         }
         k += 1;
     }
-    next
-}
-
-// Both for one atom.
-fn with_marked(
-    p: Growth,
-    sheet: Normal,
-    touches: &[u8; TOUCHES],
-    used: &[u8; Sheet::LINKS],
-    ends: &[u8; Sheet::LINKS],
-    a: usize,
-    y: usize,
-    j: usize,
-) -> Growth
-    requires { ⌜ (j < sheet .«atom_count») × Fit sheet × Sized (sheet .«atom_count») p ⌝ }
-    ensures { λ r. ⌜ Sized (sheet .«atom_count») r × WithMarked sheet (now (touches .entry)) (now (used .entry)) p r ⌝ }
-{
-    let next = with_step(
-        p,
-        touches,
-        used,
-        a,
-        y,
-        j,
-        sheet.atom_count,
-        sheet.class_count,
-    );
-    if next.members[j] == 1 {
-        let s = sheet.atoms[j];
-        let links = s.links;
-        return with_ends(next, ends, links, s.count as usize, sheet.atom_count);
-    }
-    next
 }
 
 // The part that the marks make.
 fn grow_part(
+    members: &mut [u8; Sheet::ATOMS],
+    seen: &mut [u8; Sheet::LINKS],
     sheet: Normal,
-    g: Growth,
-    m: Marks,
-    touches: &[u8; TOUCHES],
+    order: &[u8; Sheet::ATOMS],
+    count: usize,
+    way: &[u16; Sheet::ATOMS],
+    marked: &[u8; Sheet::ATOMS],
+    ends: &[u8; Sheet::LINKS],
     used: &[u8; Sheet::LINKS],
     root: usize,
-) -> Growth
-    requires { ⌜ Fit sheet × Sized (sheet .«atom_count») g × (root < sheet .«atom_count») ⌝ }
-    ensures { λ r. ⌜ Sized (sheet .«atom_count») r × HoldsPart sheet (now (touches .entry)) (now (used .entry)) root r ⌝ }
+)
+    requires { ⌜ Fit sheet × (count ≤ sheetAtoms) × ((h : ℕ) → h < count → getD (now order) h 0 < sheet .«atom_count») × (root < sheet .«atom_count») × (now members ≡ replicate 64 0) × (now seen ≡ replicate 96 0) ⌝ }
+    ensures { λ r. ⌜ HoldsPart sheet (now (used .entry)) root (now (members .exit)) (now (seen .exit)) ⌝ }
 {
-    let ends = m.ends;
-    let mut p = start(root);
+    members[root] = 1;
     let mut head = 0;
-    while head < g.count {
-        let j = g.order[head] as usize;
-        if m.atoms[j] == 1 {
-            let y = wide(g.via[j]);
-            let a = wide(g.parent[j]);
-            p = with_marked(p, sheet, touches, used, &ends, a, y, j);
+    while head < count {
+        let j = order[head] as usize;
+        if marked[j] == 1 {
+            let y = wide(way[j]) / Sheet::ATOMS;
+            let a = wide(way[j]) % Sheet::ATOMS;
+            let t = sheet.atoms[a];
+            let from = t.links;
+            let width = t.count as usize;
+            let s = sheet.atoms[j];
+            let here = s.links;
+            let n = s.count as usize;
+            let atoms = sheet.atom_count;
+            with_step(
+                members,
+                seen,
+                used,
+                a,
+                from,
+                width,
+                y,
+                j,
+                here,
+                n,
+                atoms,
+                sheet.class_count,
+            );
+            if members[j] == 1 {
+                with_ends(seen, ends, here, n);
+            }
         }
         head += 1;
     }
-    p
 }
 
 // The context has no port at some link looked at where a figure link goes.
@@ -183,25 +189,51 @@ fn cut(
     true
 }
 
-// The links of a small part, or of the whole component.
+// The links of a small part, or of the whole component, which are `all`.
 pub(crate) fn part(
     sheet: Normal,
-    g: Growth,
-    touches: &[u8; TOUCHES],
+    order: &[u8; Sheet::ATOMS],
+    count: usize,
+    way: &[u16; Sheet::ATOMS],
+    all: [u8; Sheet::LINKS],
     used: &[u8; Sheet::LINKS],
     ports: &[u8; PORTS],
     root: usize,
     contexts: usize,
 ) -> [u8; Sheet::LINKS]
-    requires { ⌜ Fit sheet × Sized (sheet .«atom_count») g × (root < sheet .«atom_count») × (contexts ≤ figureContexts) ⌝ }
-    ensures { λ r. ⌜ Cuts sheet (now (touches .entry)) (now (used .entry)) (now (ports .entry)) root contexts (g .seen) r ⌝ }
+    requires { ⌜ Fit sheet × (count ≤ sheetAtoms) × ((h : ℕ) → h < count → getD (now order) h 0 < sheet .«atom_count») × (root < sheet .«atom_count») × (contexts ≤ figureContexts) ⌝ }
+    ensures { λ r. ⌜ ((chains : List ℕ) → Cuts sheet chains (now (used .entry)) (now (ports .entry)) root contexts all r) ⌝ }
 {
-    let m = mark_all(sheet, g, used, ports, root, contexts);
-    let p = grow_part(sheet, g, m, touches, used, root);
-    let seen = p.seen;
+    let mut marked = [0u8; Sheet::ATOMS];
+    let mut ends = [0u8; Sheet::LINKS];
+    mark_all(
+        &mut marked,
+        &mut ends,
+        sheet,
+        order,
+        count,
+        way,
+        used,
+        ports,
+        root,
+        contexts,
+    );
+    let mut members = [0u8; Sheet::ATOMS];
+    let mut seen = [0u8; Sheet::LINKS];
+    grow_part(
+        &mut members,
+        &mut seen,
+        sheet,
+        order,
+        count,
+        way,
+        &marked,
+        &ends,
+        used,
+        root,
+    );
     if cut(&seen, used, ports, contexts, sheet.class_count) {
         return seen;
     }
-    let all = g.seen;
     all
 }

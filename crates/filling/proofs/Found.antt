@@ -7,7 +7,7 @@ use mathlib.Core.Option.{some}
 use native.Mathlib.Omega.{arith}
 use borrow.Author.Tests.{eqb-true, eqb-false}
 use lib.Dec.{eqb}
-use lib.ListN.{length, take}
+use lib.ListN.{length}
 use Rattle.hyperlmntal.specs.Link.{select}
 use Rattle.hyperlmntal.specs.GraphSubstitution.{Entry, sameFunctor, lookup}
 use Rattle.hyperlmntal.specs.Hypergraph.{Flat}
@@ -27,7 +27,7 @@ use Rattle.placing.proofs.Names.{marks-length}
 use Rattle.placing.proofs.Tests.{says-list}
 use Rattle.filling.specs.Read.{rowsRead, partHeld, fillingRead}
 use Rattle.filling.specs.Fill.{isExact}
-use Rattle.filling.specs.Parts.{withoutHeads, partNormal}
+use Rattle.filling.specs.Parts.{withoutHeads, exactTo}
 use Rattle.filling.proofs.Rows.{read-graph}
 
 module _ (list : List ℕ) where
@@ -68,7 +68,7 @@ module _ (list : List ℕ) where
   exact-numbers x n t = ap marksOf (sym (read-graph (partHeld list x))) ∙ says-list (marksOf (rowsGraph (rowsRead (partHeld list x)))) (numbersTo n) .sound t
 
   -- The test of the marks as the code makes it.
-  pub exact-part : (x n : ℕ) → sameList (take (partNormal list x .«mark_count») (partNormal list x .marks)) (numbersTo n) ≡ isExact (fillingAt x n)
+  pub exact-part : (x n : ℕ) → exactTo list x n ≡ isExact (fillingAt x n)
   exact-part x n =
       let h = withoutHeads (partHeld list x) in
       ap (λ l. sameList l (numbersTo n)) (take-padded (sheetMarks + 1) 0 (marksOf (graphOf h)) ∙ ap marksOf (sym (read-graph (partHeld list x))))

@@ -14,10 +14,11 @@ use Rattle.rows.specs.Format.{rowWidth, letterOf}
 use Rattle.rows.specs.Limits.{rowLimit}
 use Rattle.rows.specs.Held.{Held, nothing, withRow, withAtom, withContext, withFusionRow, withEdgeRow, withHead}
 use Rattle.rows.proofs.RowRange.{good-letter, row-letter}
+use Rattle.rows.proofs.Wired.{row-by}
 use Rattle.sheet.specs.Filling.{headFirst, fromHead, beforeHead, firstFilling, isPassed, fillingOf}
 use Rattle.sheet.specs.Reading.{Verdict, taken, refused, firstOf, tests, passed, settled, readFrom, outcomeOf, noPorts}
 use Rattle.sheet.specs.declared.kind.Kind.the-variants.{Fillings}
-use Rattle.sheet.proofs.read.ReadingLaws.{read-none, row-by}
+use Rattle.sheet.proofs.read.ReadingLaws.{read-none}
 use Rattle.sheet.proofs.read.Taken.{rowAt, Taken, tests-none}
 use Rattle.texts.proofs.OneFilling.{headless-row}
 use Rattle.filling.specs.Read.{partHeld}
@@ -51,7 +52,7 @@ first-row n m h text few row rest = go (eqb (length text) 0) (firstOf (tests Fil
         → length (pick b (passed h) (settled v h (readFrom n Fillings noPorts (withRow h (rowAt text)) (drop rowWidth text))) .held .contexts) ≤ m
     go true v e = few
     go false taken e = let r = row (tests-none Fillings noPorts h text e) in let s = rest (withRow h (rowAt text)) in omega arith
-    go false (refused why) e = few
+    go false (refused why) e = omega arith
 
 row-gone : (text : List ℕ) → drop rowWidth (take rowWidth text) ≡ []
 row-gone text = let b : length (take rowWidth text) ≤ rowWidth = omega (arith, length-take rowWidth text) in drop-of-length-le (take rowWidth text) b

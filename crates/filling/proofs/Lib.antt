@@ -13,7 +13,6 @@ pub mod Written
 pub mod ResultNet
 pub mod FilledNet
 pub mod Loops
-pub mod Keeping
 pub mod Making
 pub mod Answers
 pub mod Says

@@ -1,6 +1,7 @@
 -- One turn of each loop, over plain variables.
-use Prim.Native.Nat.{ℕ, suc, _+_, _-_, _<_, _≤_}
+use Prim.Native.Nat.{ℕ, zero, suc, _+_, _-_, _<_, _≤_}
 use mathlib.Core.Path.{_≡_, refl, ap, ap₂, sym, _∙_, subst}
+use mathlib.Core.Logic.{_⊎_, inl, inr, ⊎-elim}
 use mathlib.Core.Bool.{Bool, true, false}
 use mathlib.Core.List.{List, [], _∷_, _++_, map, map-append, append-nil, append-assoc}
 use native.Mathlib.Decide.{decLe}
@@ -8,7 +9,7 @@ use native.Mathlib.Numerals.{add-one}
 use native.Mathlib.Omega.{arith}
 use borrow.Author.Tests.{eqb-true, eqb-false, lt-ltb, le-ltb}
 use lib.Dec.{eqb}
-use lib.ListN.{length, getD, take, drop, set, length-append, length-take, drop-of-length-le}
+use lib.ListN.{length, getD, take, drop, set, replicate, length-append, length-take, drop-of-length-le}
 use lib.Seq.{take-all, take-append-le, take-suc, take-suc-set, length-take-le, getD-set-same, getD-set-other}
 use Rattle.rows.specs.Pick.{pick, and}
 use Rattle.rows.specs.Limits.{sheetAtoms, sheetLinks}
@@ -16,12 +17,13 @@ use Rattle.rows.specs.Held.{indexOf, isIn}
 use Rattle.rows.specs.declared.Atom.{Atom}
 use Rattle.rows.specs.declared.Context.{Context}
 use Rattle.rows.proofs.Lists.{mapped, index-below}
+use Rattle.rows.proofs.Padding.{getD-filled}
 use Rattle.numbering.proofs.Turns.{part-cons, part-end}
 use Rattle.placing.specs.Smallest.{numbersFrom, numbersTo, sameList}
 use Rattle.placing.proofs.Joined.{numbers-length}
 use Rattle.filling.specs.Read.{fillingRead}
 use Rattle.filling.specs.Fill.{firstDiffering, isExact}
-use Rattle.filling.specs.Parts.{partNormal, firstUnported}
+use Rattle.filling.specs.Parts.{partNormal, exactTo, Exacts, firstUnported}
 use Rattle.filling.specs.Glued.{placeOf, joinedAt, joinedAll, portPairs, contextPairs, allPairs}
 use Rattle.filling.specs.Whole.{partAtoms, contextAtoms, roomFor, wholeAtoms, Grown}
 use Rattle.filling.specs.Classes.{withLabel, withLabels, linksIn}
@@ -65,14 +67,14 @@ module _ (list : List ℕ) (contexts : List Context) (count i : ℕ) (d : Contex
   unfolding joinedAll allPairs
   pairs-end labels p h = rw (part-end contexts count i h)
 
-  pub atoms-next : (labels : List ℕ) (p : ℕ) → count ≤ length contexts → i < count
-      → contextAtoms list labels p (drop i (take count contexts)) ≡ partAtoms labels p (partNormal list (getD contexts i d .number)) ++ contextAtoms list labels (p + 1) (drop (i + 1) (take count contexts))
+  pub atoms-next : (p : ℕ) → count ≤ length contexts → i < count
+      → contextAtoms list p (drop i (take count contexts)) ≡ partAtoms p (partNormal list (getD contexts i d .number)) ++ contextAtoms list (p + 1) (drop (i + 1) (take count contexts))
   unfolding contextAtoms
-  atoms-next labels p a h = rw (part-cons contexts count i d a h)
+  atoms-next p a h = rw (part-cons contexts count i d a h)
 
-  pub atoms-end : (labels : List ℕ) (p : ℕ) → count ≤ i → contextAtoms list labels p (drop i (take count contexts)) ≡ []
+  pub atoms-end : (p : ℕ) → count ≤ i → contextAtoms list p (drop i (take count contexts)) ≡ []
   unfolding contextAtoms
-  atoms-end labels p h = rw (part-end contexts count i h)
+  atoms-end p h = rw (part-end contexts count i h)
 
   pub lacking-next : (ports : List ℕ) → count ≤ length contexts → i < count → (b : Bool) → eqb (getD ports (getD contexts i d .number) 0) (suc (getD contexts i d .count)) ≡ b
       → firstUnported ports (drop i (take count contexts)) ≡ pick b (firstUnported ports (drop (i + 1) (take count contexts))) (getD contexts i d .row)
@@ -207,3 +209,20 @@ list-sizes (x ∷ l) (y ∷ m) h = go (eqb x y) (list-sizes l m (λ e. h (ap suc
 
 pub marks-other : (marks : List ℕ) (c n : ℕ) → c ≤ length marks → (c ≡ n → ⊥) → sameList (take c marks) (numbersTo n) ≡ false
 marks-other marks c n h k = list-sizes (take c marks) (numbersTo n) (λ e. k (sym (length-take-le c marks h) ∙ e ∙ numbers-length 1 n))
+
+-- Fillings of which it is noted that their marks are exact: none, and one more.
+pub exacts-none : (list : List ℕ) (c : ℕ) → Exacts list (replicate c 0)
+exacts-none list c number n e = absurd (omega (arith, e, getD-filled {A = ℕ} 0 c number))
+
+stored : (l : List ℕ) (i k x : ℕ) → (getD (set l i x) k 0 ≡ getD l k 0) ⊎ ((k ≡ i) × (getD (set l i x) k 0 ≡ x))
+stored [] i k x = inl refl
+stored (y ∷ l) zero zero x = inr (refl, refl)
+stored (y ∷ l) zero (suc k) x = inl refl
+stored (y ∷ l) (suc i) zero x = inl refl
+stored (y ∷ l) (suc i) (suc k) x = ⊎-elim (λ e. inl e) (λ e. inr (ap suc (e .0), e .1)) (stored l i k x)
+
+pub exacts-next : (list table : List ℕ) (number n : ℕ) → exactTo list number n ≡ true → Exacts list table → Exacts list (set table number (n + 1))
+exacts-next list table number n t old k m e = ⊎-elim
+    (λ q. old k m (sym q ∙ e))
+    (λ q. let w : n ≡ m = omega (arith, q .1, e) in subst (λ (j : ℕ). exactTo list j m ≡ true) (sym (q .0)) (subst (λ (j : ℕ). exactTo list number j ≡ true) w t))
+    (stored table number k (n + 1))

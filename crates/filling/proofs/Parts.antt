@@ -1,6 +1,6 @@
 -- A figure and the fillings of a list as normal forms: what they agree with, and the bounds of their numbers.
 use Prim.Native.Nat.{ℕ, suc, _+_, _-_, _<_, _≤_, zero}
-use mathlib.Core.Path.{refl, subst}
+use mathlib.Core.Path.{_≡_, refl, ap, subst}
 use mathlib.Core.List.{List, [], _∷_, _++_, map, List·Memᴰ·head, List·Memᴰ·tail, Memᴰ·append-left, Memᴰ·append-right, Memᴰ·map, Memᴰ·of-map}
 use native.Mathlib.Omega.{arith}
 use lib.ListN.{length, getD, take, replicate}
@@ -87,6 +87,11 @@ padded-any P n e d l p q f i = append-any P d l (replicate (n - length l) e) f (
 map-all : {A B : Type 0} (P : B → Type 0) (f : A → B) (l : List A) → ((a : A) → a ∈ l → P (f a)) → (b : B) → b ∈ map f l → P b
 map-all P f l h b i = let t = Memᴰ·of-map f l i in subst P (t .2) (h (t .0) (t .1))
 
+pub taken-map : {A B : Type 0} (f : A → B) (n : ℕ) (l : List A) → take n (map f l) ≡ map f (take n l)
+taken-map f zero l = refl
+taken-map f (suc n) [] = refl
+taken-map f (suc n) (x ∷ l) = ap (_∷_ (f x)) (taken-map f n l)
+
 -- The numbers of a normal form have room.
 module _ (kind : Kind) (h : Held) (w : WithinLimits kind h) (A : Agrees h) where
   pub number-low : (x : Node ℕ) → x ∈ shown (graphOf h) → (1 ≤ numberIn h x) × (numberIn h x < partRoom)
@@ -114,6 +119,8 @@ module _ (kind : Kind) (h : Held) (w : WithinLimits kind h) (A : Agrees h) where
             (λ a i. links-low (take (a .count) (a .links)) (λ x j. ports-in (atomCell a) (inner x) (Memᴰ·append-left (map contextCell (h .contexts)) (Memᴰ·map atomCell i)) (Memᴰ·map inner j))));
         contextCounts = padded-any (λ c. c .count ≤ mostLinks) (figureContexts + 1) noContext pastContexts (map (normalContext h) (h .contexts)) (omega arith) (omega arith)
             (map-all (λ c. c .count ≤ mostLinks) (normalContext h) (h .contexts) (λ c i. every-member (ContextRange kind) (h .contexts) c (w .ranges .contexts) i .count));
+        contextNumbers = padded-any (λ c. c .number < 5) (figureContexts + 1) noContext pastContexts (map (normalContext h) (h .contexts)) (omega arith) (omega arith)
+            (map-all (λ c. c .number < 5) (normalContext h) (h .contexts) (λ c i. let r = every-member (ContextRange kind) (h .contexts) c (w .ranges .contexts) i in omega (arith, r .number .1)));
         contextLinks = padded-any (λ c. (k : ℕ) → getD (c .links) k 0 < partRoom) (figureContexts + 1) noContext pastContexts (map (normalContext h) (h .contexts)) zero-low (λ k. omega arith)
             (map-all (λ c. (k : ℕ) → getD (c .links) k 0 < partRoom) (normalContext h) (h .contexts)
             (λ c i. links-low (take (c .count) (c .links)) (λ x j. ports-in (contextCell c) (inner x) (Memᴰ·append-right (map atomCell (h .atoms)) (Memᴰ·map contextCell i)) (Memᴰ·map inner j))));
@@ -121,13 +128,13 @@ module _ (kind : Kind) (h : Held) (w : WithinLimits kind h) (A : Agrees h) where
             (map-all (λ n. n < partRoom) (λ m. numberIn h (markNode m)) (normalMarks h) (λ m i. number-low (markNode m) (Memᴰ·append-right (portNodes (graphOf h .atoms)) (Memᴰ·map markNode i)) .1));
       }
 
-  pub counted : Counted (packed h)
-  counted =
-      record {
-        few = w .contexts;
-        number = padded-any (λ c. c .number < 5) (figureContexts + 1) noContext pastContexts (h .contexts) (omega arith) (omega arith) (λ c i. let r = every-member (ContextRange kind) (h .contexts) c (w .ranges .contexts) i in omega (arith, r .number .1));
-        count = padded-any (λ c. c .count ≤ mostLinks) (figureContexts + 1) noContext pastContexts (h .contexts) (omega arith) (omega arith) (λ c i. every-member (ContextRange kind) (h .contexts) c (w .ranges .contexts) i .count);
-      }
+pub counted : (kind : Kind) (h : Held) → WithinLimits kind h → Counted (packed h)
+counted kind h w =
+    record {
+      few = w .contexts;
+      number = padded-any (λ c. c .number < 5) (figureContexts + 1) noContext pastContexts (h .contexts) (omega arith) (omega arith) (λ c i. let r = every-member (ContextRange kind) (h .contexts) c (w .ranges .contexts) i in omega (arith, r .number .1));
+      count = padded-any (λ c. c .count ≤ mostLinks) (figureContexts + 1) noContext pastContexts (h .contexts) (omega arith) (omega arith) (λ c i. every-member (ContextRange kind) (h .contexts) c (w .ranges .contexts) i .count);
+    }
 
 pub part-low : (list : List ℕ) (number : ℕ) → Low (partNormal list number)
 part-low list number = normal-low Fillings (withoutHeads (partHeld list number)) (part-within list number) (part-agrees list number)

@@ -31,10 +31,10 @@ use Rattle.filling.specs.Read.{partHeld}
 use Rattle.filling.specs.Fill.{figureHeld}
 use Rattle.filling.specs.Parts.{partNormal, partRoom}
 use Rattle.filling.specs.Glued.{placeOf, Own}
-use Rattle.filling.specs.Whole.{labelledAtom, partAtoms, contextAtoms, allAtoms}
+use Rattle.filling.specs.Whole.{placedAtom, partAtoms, contextAtoms, labelledAtom, allAtoms}
 use Rattle.filling.specs.Classes.{linksIn, markLabels}
 use Rattle.filling.proofs.Rows.{read-graph}
-use Rattle.filling.proofs.Parts.{figure-within, part-within}
+use Rattle.filling.proofs.Parts.{taken-map, figure-within, part-within}
 use Rattle.filling.proofs.Located.{Right, figureGraph, entries, filledSpots, atomCount, partCount, contextAt, heldAt, nodeAt, entry-at}
 use Rattle.filling.proofs.Labelled.{labels, Known, labelAt, label, label-within}
 
@@ -62,21 +62,26 @@ module _ (figure list : List ℕ) (right : Right figure list) (own : List ℕ) (
   atoms-in-range zero = figure-within figure .ranges .atoms
   atoms-in-range (suc j) = part-within list (contextAt figure list j .number) .ranges .atoms
 
-  -- The atoms of a part.
+  -- Atoms with their labels, and those of a part.
+  abbrev tagged : List Atom → List Atom
+  tagged l = map (labelledAtom (labels figure list right own O)) l
+
   abbrev labelled : ℕ → Atom → Atom
-  labelled p a = labelledAtom (labels figure list right own O) p (normalAtom (heldAt figure list p) a)
+  labelled p a = labelledAtom (labels figure list right own O) (placedAtom p (normalAtom (heldAt figure list p) a))
 
   one-like : (p : ℕ) → p ≤ partCount figure list → (a : Atom) → a ∈ heldAt figure list p .atoms → Like (labelled p a) (mapCell (nodeAt figure list p) (atomCell a))
   one-like p h a i =
       let r = every-member AtomRange (heldAt figure list p .atoms) a (atoms-in-range p) i in
-      let L : ℕ → ℕ = λ x. getD (labels figure list right own O) (placeOf p x) 0 in
+      let G : ℕ → ℕ = λ x. getD (labels figure list right own O) x 0 in
+      let L : ℕ → ℕ = λ x. G (placeOf p x) in
       let links = take (a .count) (a .links) in
       let w : a .count ≤ length (a .links) = omega (arith, r .count, r .ports .width) in
       let size : length links ≡ a .count = length-take-le (a .count) (a .links) w in
       let numbers = map (λ x. numberIn (heldAt figure list p) (inner x)) links in
       let u : take (a .count) (normalAtom (heldAt figure list p) a .links) ≡ numbers = used-links (heldAt figure list p) (a .count) (a .links) w in
       let t : take (a .count) (labelled p a .links) ≡ map L numbers =
-      ap (λ l. take (a .count) (padded mostLinks 0 (map L l))) u ∙ taken-padded mostLinks (map L numbers) (a .count) (length-map numbers L ∙ length-map links (λ x. numberIn (heldAt figure list p) (inner x)) ∙ size) in
+      ap (λ l. take (a .count) (padded mostLinks 0 (map G l))) (taken-map (placeOf p) (a .count) (normalAtom (heldAt figure list p) a .links) ∙ ap (map (placeOf p)) u)
+      ∙ ap (λ l. take (a .count) (padded mostLinks 0 l)) (map-map G (placeOf p) numbers) ∙ taken-padded mostLinks (map L numbers) (a .count) (length-map numbers L ∙ length-map links (λ x. numberIn (heldAt figure list p) (inner x)) ∙ size) in
       record {
         name = refl;
         ports = t ∙ map-map L (λ x. numberIn (heldAt figure list p) (inner x)) links
@@ -91,10 +96,11 @@ module _ (figure list : List ℕ) (right : Right figure list) (own : List ℕ) (
   taken-atoms : (h : Held) → take (length (h .atoms)) (packedNormal h .atoms) ≡ map (normalAtom h) (h .atoms)
   taken-atoms h = ap (λ n. take n (packedNormal h .atoms)) (sym (length-map (h .atoms) (normalAtom h))) ∙ take-padded (sheetAtoms + 1) noAtom (map (normalAtom h) (h .atoms))
 
-  part-like : (p : ℕ) → p ≤ partCount figure list → Each Like (partAtoms (labels figure list right own O) p (packedNormal (heldAt figure list p))) (partCells p)
+  part-like : (p : ℕ) → p ≤ partCount figure list → Each Like (tagged (partAtoms p (packedNormal (heldAt figure list p)))) (partCells p)
   part-like p h =
       subst (λ l. Each Like l (partCells p))
-      (sym (ap (map (labelledAtom (labels figure list right own O) p)) (taken-atoms (heldAt figure list p)) ∙ map-map (labelledAtom (labels figure list right own O) p) (normalAtom (heldAt figure list p)) (heldAt figure list p .atoms)))
+      (sym (ap (λ (k : List Atom). tagged (map (placedAtom p) k)) (taken-atoms (heldAt figure list p)) ∙ ap tagged (map-map (placedAtom p) (normalAtom (heldAt figure list p)) (heldAt figure list p .atoms))
+      ∙ map-map (labelledAtom (labels figure list right own O)) (λ a. placedAtom p (normalAtom (heldAt figure list p) a)) (heldAt figure list p .atoms)))
       (each-maps (labelled p) (λ a. mapCell (nodeAt figure list p) (atomCell a)) Like (heldAt figure list p .atoms) (one-like p h))
 
   figure-cells : (i : ℕ) (l : List Atom) → fillCells (entries figure list) i (map atomCell l) .atoms ≡ map (λ a. mapCell (nodeAt figure list 0) (atomCell a)) l
@@ -111,17 +117,19 @@ module _ (figure list : List ℕ) (right : Right figure list) (own : List ℕ) (
       ∙ map-map (mapCell (nodeAt figure list (suc j))) atomCell (held .atoms)
 
   contexts-like : (l : List Context) (j p i : ℕ) → p ≡ suc j → i ≡ atomCount figure list + j → ((k : ℕ) → k < length l → getD l k pastContexts ≡ contextAt figure list (j + k)) → j + length l ≤ partCount figure list
-      → Each Like (contextAtoms list (labels figure list right own O) p (map (normalContext (figureHeld figure)) l)) (fillCells (entries figure list) i (map contextCell l) .atoms)
+      → Each Like (tagged (contextAtoms list p (map (normalContext (figureHeld figure)) l))) (fillCells (entries figure list) i (map contextCell l) .atoms)
   unfolding contextAtoms
   contexts-like [] j p i e f g h = done
   contexts-like (c ∷ l) j p i e f g h =
       let q : c ≡ contextAt figure list j = g 0 (omega arith) ∙ ap (contextAt figure list) (let z : j + 0 ≡ j = omega arith in z) in
-      each-append
-      (subst (λ (d : Context). Each Like (partAtoms (labels figure list right own O) p (partNormal list (d .number))) (fillWith (entryAt (entries figure list) (contextCell d)) i (contextCell d) .atoms)) (sym q)
-      (subst (λ n. Each Like (partAtoms (labels figure list right own O) p (partNormal list (contextAt figure list j .number))) (fillWith (entryAt (entries figure list) (contextCell (contextAt figure list j))) n (contextCell (contextAt figure list j)) .atoms)) (sym f)
-      (subst (λ n. Each Like (partAtoms (labels figure list right own O) n (partNormal list (contextAt figure list j .number))) (fillWith (entryAt (entries figure list) (contextCell (contextAt figure list j))) (atomCount figure list + j) (contextCell (contextAt figure list j)) .atoms)) (sym e)
-      (subst (Each Like (partAtoms (labels figure list right own O) (suc j) (partNormal list (contextAt figure list j .number)))) (sym (put-cells j (omega arith))) (part-like (suc j) (omega arith))))))
-      (contexts-like l (suc j) (p + 1) (suc i) (omega arith) (omega arith) (λ k m. g (suc k) (omega arith) ∙ ap (contextAt figure list) (let z : j + suc k ≡ suc j + k = omega arith in z)) (omega arith))
+      subst (λ (k : List Atom). Each Like k (fillCells (entries figure list) i (map contextCell (c ∷ l)) .atoms))
+      (sym (map-append (labelledAtom (labels figure list right own O)) (partAtoms p (partNormal list (c .number))) (contextAtoms list (p + 1) (map (normalContext (figureHeld figure)) l))))
+      (each-append
+      (subst (λ (d : Context). Each Like (tagged (partAtoms p (partNormal list (d .number)))) (fillWith (entryAt (entries figure list) (contextCell d)) i (contextCell d) .atoms)) (sym q)
+      (subst (λ n. Each Like (tagged (partAtoms p (partNormal list (contextAt figure list j .number)))) (fillWith (entryAt (entries figure list) (contextCell (contextAt figure list j))) n (contextCell (contextAt figure list j)) .atoms)) (sym f)
+      (subst (λ n. Each Like (tagged (partAtoms n (partNormal list (contextAt figure list j .number)))) (fillWith (entryAt (entries figure list) (contextCell (contextAt figure list j))) (atomCount figure list + j) (contextCell (contextAt figure list j)) .atoms)) (sym e)
+      (subst (Each Like (tagged (partAtoms (suc j) (partNormal list (contextAt figure list j .number))))) (sym (put-cells j (omega arith))) (part-like (suc j) (omega arith))))))
+      (contexts-like l (suc j) (p + 1) (suc i) (omega arith) (omega arith) (λ k m. g (suc k) (omega arith) ∙ ap (contextAt figure list) (let z : j + suc k ≡ suc j + k = omega arith in z)) (omega arith)))
 
   pub taken-contexts : take (length (figureHeld figure .contexts)) (packedNormal (figureHeld figure) .contexts) ≡ map (normalContext (figureHeld figure)) (figureHeld figure .contexts)
   taken-contexts =
@@ -131,13 +139,15 @@ module _ (figure list : List ℕ) (right : Right figure list) (own : List ℕ) (
   -- The atoms that the code makes are those of the filled figure.
   pub atoms-like : Each Like (allAtoms list (labels figure list right own O) (packedNormal (figureHeld figure))) (filledSpots figure list .atoms)
   atoms-like =
-      subst (λ l. Each Like (partAtoms (labels figure list right own O) 0 (packedNormal (figureHeld figure)) ++ contextAtoms list (labels figure list right own O) 1 l) (filledSpots figure list .atoms)) (sym taken-contexts)
-      (subst (Each Like (partAtoms (labels figure list right own O) 0 (packedNormal (figureHeld figure)) ++ contextAtoms list (labels figure list right own O) 1 (map (normalContext (figureHeld figure)) (figureHeld figure .contexts))))
+      subst (λ (l : List Context). Each Like (tagged (partAtoms 0 (packedNormal (figureHeld figure)) ++ contextAtoms list 1 l)) (filledSpots figure list .atoms)) (sym taken-contexts)
+      (subst (λ (k : List Atom). Each Like k (filledSpots figure list .atoms))
+      (sym (map-append (labelledAtom (labels figure list right own O)) (partAtoms 0 (packedNormal (figureHeld figure))) (contextAtoms list 1 (map (normalContext (figureHeld figure)) (figureHeld figure .contexts)))))
+      (subst (Each Like (tagged (partAtoms 0 (packedNormal (figureHeld figure))) ++ tagged (contextAtoms list 1 (map (normalContext (figureHeld figure)) (figureHeld figure .contexts)))))
       (sym (append-nil (fillCells (entries figure list) 0 (figureGraph figure list .atoms) .atoms) ∙ ap (λ (G : Flat (Spot ℕ ℕ)). G .atoms) (fillCells-append (entries figure list) 0 (map atomCell (figureHeld figure .atoms)) (map contextCell (figureHeld figure .contexts)))))
       (each-append
-      (subst (Each Like (partAtoms (labels figure list right own O) 0 (packedNormal (figureHeld figure)))) (sym (figure-cells 0 (figureHeld figure .atoms))) (part-like 0 (omega arith)))
+      (subst (Each Like (tagged (partAtoms 0 (packedNormal (figureHeld figure))))) (sym (figure-cells 0 (figureHeld figure .atoms))) (part-like 0 (omega arith)))
       (contexts-like (figureHeld figure .contexts) 0 1 (0 + length (map atomCell (figureHeld figure .atoms))) (omega arith) (omega (arith, length-map (figureHeld figure .atoms) atomCell))
-      (λ k m. ap (contextAt figure list) (let z : k ≡ 0 + k = omega arith in z)) (omega arith))))
+      (λ k m. ap (contextAt figure list) (let z : k ≡ 0 + k = omega arith in z)) (omega arith)))))
 
   -- The nodes that are shown: the ports in order, then the figure's marks.
   abbrev pub spotMark : ℕ → Node (Spot ℕ ℕ)

@@ -1,7 +1,6 @@
 pub mod Read
 pub mod Fill
 pub mod Parts
-pub mod Kept
 pub mod Glued
 pub mod Whole
 pub mod Classes

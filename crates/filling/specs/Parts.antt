@@ -1,8 +1,10 @@
 -- One filling as a normal form of its own, and the bounds of a normal form's numbers.
 use Prim.Native.Nat.{ℕ, suc, _+_, _*_, _<_, _≤_}
+use mathlib.Core.Path.{_≡_}
+use mathlib.Core.Bool.{Bool, true}
 use mathlib.Core.List.{List, [], _∷_}
 use lib.Dec.{eqb}
-use lib.ListN.{getD}
+use lib.ListN.{take, getD}
 use Rattle.rows.specs.Pick.{pick}
 use Rattle.rows.specs.Format.{mostLinks}
 use Rattle.rows.specs.Limits.{sheetAtoms, figureContexts, sheetMarks, fillingLinks}
@@ -12,6 +14,7 @@ use Rattle.rows.specs.declared.Sheet.{Sheet}
 use Rattle.sheet.specs.NormalSheet.{packedNormal}
 use Rattle.sheet.specs.NormalRows.{pastAtoms, pastContexts}
 use Rattle.sheet.specs.declared.normal.Normal.{Normal}
+use Rattle.placing.specs.Smallest.{sameList, numbersTo}
 use Rattle.filling.specs.Read.{partHeld}
 
 -- what is held, without H rows
@@ -21,6 +24,14 @@ withoutHeads h = record { rows = h .rows; atoms = h .atoms; contexts = []; fusio
 -- the filling of this number
 abbrev pub partNormal : List ℕ → ℕ → Normal
 partNormal list number = packedNormal (withoutHeads (partHeld list number))
+
+-- the marks of the filling of this number are 1 to n
+abbrev pub exactTo : List ℕ → ℕ → ℕ → Bool
+exactTo list number n = sameList (take (partNormal list number .«mark_count») (partNormal list number .marks)) (numbersTo n)
+
+-- a table that has, of some numbers, the n to which their fillings' marks go, and 1
+abbrev pub Exacts : List ℕ → List ℕ → Type 0
+Exacts list table = (number n : ℕ) → getD table number 0 ≡ n + 1 → exactTo list number n ≡ true
 
 -- the first context whose number has no such count in a table of port counts and 1
 unfoldable pub firstUnported : List ℕ → List Context → ℕ
@@ -49,5 +60,6 @@ pub record Low (n : Normal) : Type 0 where
   pub atomCounts : (i : ℕ) → getD (n .atoms) i pastAtoms .count ≤ mostLinks
   pub atomLinks : (i k : ℕ) → getD (getD (n .atoms) i pastAtoms .links) k 0 < partRoom
   pub contextCounts : (i : ℕ) → getD (n .contexts) i pastContexts .count ≤ mostLinks
+  pub contextNumbers : (i : ℕ) → getD (n .contexts) i pastContexts .number < 5
   pub contextLinks : (i k : ℕ) → getD (getD (n .contexts) i pastContexts .links) k 0 < partRoom
   pub marked : (k : ℕ) → getD (n .marked) k 0 < partRoom

@@ -1,4 +1,4 @@
--- The atoms of a filled figure with the labels of their links.
+-- The atoms of a filled figure, with the places of their links and with their labels.
 use Prim.Native.Nat.{ℕ, _+_, _≤_}
 use mathlib.Core.Path.{_≡_}
 use mathlib.Core.List.{List, [], _∷_, _++_, map}
@@ -10,27 +10,36 @@ use Rattle.rows.specs.declared.Atom.{Atom}
 use Rattle.rows.specs.declared.Context.{Context}
 use Rattle.sheet.specs.declared.normal.Normal.{Normal}
 use Rattle.filling.specs.Parts.{partNormal}
-use Rattle.filling.specs.Glued.{placeOf}
+use Rattle.filling.specs.Glued.{placeOf, joinedAll, allPairs}
 use Rattle.filling.specs.declared.whole.Whole.{Whole}
 
-abbrev pub labelledLinks : List ℕ → ℕ → ℕ → List ℕ → List ℕ
-labelledLinks labels p count links = padded mostLinks 0 (map (λ x. getD labels (placeOf p x) 0) (take count links))
-
-abbrev pub labelledAtom : List ℕ → ℕ → Atom → Atom
-labelledAtom labels p a = record { name = a .name; count = a .count; links = labelledLinks labels p (a .count) (a .links) }
+-- an atom of part p, with the places of its links
+abbrev pub placedAtom : ℕ → Atom → Atom
+placedAtom p a = record { name = a .name; count = a .count; links = map (placeOf p) (a .links) }
 
 -- the atoms of part p
-abbrev pub partAtoms : List ℕ → ℕ → Normal → List Atom
-partAtoms labels p n = map (labelledAtom labels p) (take (n .«atom_count») (n .atoms))
+abbrev pub partAtoms : ℕ → Normal → List Atom
+partAtoms p n = map (placedAtom p) (take (n .«atom_count») (n .atoms))
 
 -- of the fillings for contexts of which the first is part p
-unfoldable pub contextAtoms : List ℕ → List ℕ → ℕ → List Context → List Atom
-contextAtoms list labels p [] = []
-contextAtoms list labels p (c ∷ l) = partAtoms labels p (partNormal list (c .number)) ++ contextAtoms list labels (p + 1) l
+unfoldable pub contextAtoms : List ℕ → ℕ → List Context → List Atom
+contextAtoms list p [] = []
+contextAtoms list p (c ∷ l) = partAtoms p (partNormal list (c .number)) ++ contextAtoms list (p + 1) l
 
 -- 'the figure's S rows, then for each B row in order its filling's S rows'
+abbrev pub placedAtoms : List ℕ → Normal → List Atom
+placedAtoms list figure = partAtoms 0 figure ++ contextAtoms list 1 (take (figure .«context_count») (figure .contexts))
+
+-- the labels of the first so many of these places
+abbrev pub labelledLinks : List ℕ → ℕ → List ℕ → List ℕ
+labelledLinks labels count links = padded mostLinks 0 (map (λ x. getD labels x 0) (take count links))
+
+abbrev pub labelledAtom : List ℕ → Atom → Atom
+labelledAtom labels a = record { name = a .name; count = a .count; links = labelledLinks labels (a .count) (a .links) }
+
+-- all atoms with their labels
 abbrev pub allAtoms : List ℕ → List ℕ → Normal → List Atom
-allAtoms list labels figure = partAtoms labels 0 figure ++ contextAtoms list labels 1 (take (figure .«context_count») (figure .contexts))
+allAtoms list labels figure = map (labelledAtom labels) (placedAtoms list figure)
 
 -- as many as there is room for
 abbrev pub roomFor : List Atom → List Atom
@@ -43,3 +52,9 @@ wholeAtoms w = take (w .count) (w .atoms)
 pub record Grown (w r : Whole) (more : List Atom) : Type 0 where
   pub atoms : wholeAtoms r ≡ roomFor (wholeAtoms w ++ more)
   pub few : r .count ≤ sheetAtoms + 1
+
+-- w has these atoms, and the ports of the contexts made labels one
+pub record Puts (list : List ℕ) (figure : Normal) (before after : List ℕ) (w : Whole) : Type 0 where
+  pub atoms : wholeAtoms w ≡ roomFor (placedAtoms list figure)
+  pub few : w .count ≤ sheetAtoms + 1
+  pub labels : after ≡ joinedAll before (allPairs list 1 (take (figure .«context_count») (figure .contexts)))

@@ -1,7 +1,6 @@
 // The task fill: a figure with its contexts filled from a list, as normal text, into an output buffer.
-use crate::filled::filled_from;
-use crate::kept::kept_of;
-use crate::part::differing;
+use crate::filled::normal_filled;
+use crate::part::first_differing;
 use crate::part::first_lacking;
 use answers::outcome::Done;
 use rows::Sheet;
@@ -14,6 +13,7 @@ ghost use mathlib.Core.List.{List};
 ghost use Prim.Native.Nat.{ℕ, _≤_};
 ghost use lib.ListN.{length};
 ghost use Rattle.rows.specs.Packed.{packed};
+ghost use Rattle.sheet.specs.Filling.{Passes};
 ghost use Rattle.sheet.specs.NormalText.{slipLength};
 ghost use Rattle.filling.specs.Read.{listHeld};
 ghost use Rattle.answers.specs.Done.{slipAfter};
@@ -21,7 +21,7 @@ ghost use Rattle.filling.specs.Fill.{figureHeld, filledText, filledAnswe
 
 // A figure and a list that passed row by row.
 fn fill_read(figure: Sheet, heads: Sheet, list: &[u8], out: &mut [u8]) -> Done
-    requires { ⌜ ((text : List ℕ) × (figure ≡ packed (figureHeld text))) × (heads ≡ packed (listHeld (now list))) ⌝ }
+    requires { ⌜ ((text : List ℕ) × (figure ≡ packed (figureHeld text))) × (heads ≡ packed (listHeld (now list))) × Passes (now list) ⌝ }
     requires { ⌜ slipLength ≤ length (now out) ⌝ }
     ensures { λ r. ⌜ ((text : List ℕ) → figure ≡ packed (figureHeld text) → r ≡ filledAnswer text (now (list .entry))) ⌝ }
     ensures { λ r. ⌜ ((text : List ℕ) → figure ≡ packed (figureHeld text) → now (out .exit) ≡ slipAfter r (filledText text (now (list .entry))) (now (out .entry))) ⌝ }
@@ -30,12 +30,12 @@ fn fill_read(figure: Sheet, heads: Sheet, list: &[u8], out: &mut [u8]) -> Done
     if lacking != 0 {
         return Done::BlankClash(1, lacking);
     }
-    let kept = kept_of(heads, list);
-    let other = differing(heads, list, kept);
+    let mut exact = [0u16; Sheet::NUMBERS];
+    let normal = normal_filled(figure, list, &mut exact);
+    let other = first_differing(heads, list, &exact);
     if other != 0 {
         return Done::EdgeDiffers(2, other);
     }
-    let normal = filled_from(figure, list, kept);
     if Sheet::ATOMS < normal.atom_count {
         return Done::TooLarge;
     }

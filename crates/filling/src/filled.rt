@@ -1,9 +1,7 @@
 // The normal form of a filled figure.
 use crate::classes::Classes;
 use crate::glue::PLACES;
-use crate::glue::glued;
-use crate::kept::Kept;
-use crate::kept::kept_of;
+use crate::glue::own_labels;
 use crate::whole::Whole;
 use crate::whole::whole_of;
 use rows::Sheet;
@@ -16,12 +14,12 @@ ghost use lib.ListN.{take, getD};
 ghost use Rattle.rows.specs.Format.{mostLinks};
 ghost use Rattle.rows.specs.Limits.{sheetAtoms, sheetMarks};
 ghost use Rattle.rows.specs.Packed.{packed};
+ghost use Rattle.sheet.specs.Filling.{Passes};
 ghost use Rattle.sheet.specs.NormalRows.{pastAtoms};
 ghost use Rattle.filling.specs.Read.{listHeld};
 ghost use Rattle.filling.specs.Fill.{figureHeld, firstLacking, firstDiffering};
 ghost use Rattle.filling.specs.Filled.{FilledIs};
-ghost use Rattle.filling.specs.Parts.{Low};
-ghost use Rattle.filling.specs.Kept.{Keeps};
+ghost use Rattle.filling.specs.Parts.{Low, Exacts};
 ghost use Rattle.filling.specs.Glued.{Glues};
 ghost use Rattle.filling.specs.Whole.{wholeAtoms};
 ghost use Rattle.filling.specs.Classes.{markLabels, Numbered, Made};
@@ -67,29 +65,23 @@ fn numbered(figure: Normal, whole: Whole, labelled: [u16; Sheet::MARK_ROOM]) -> 
 }
 
 // The normal form, where its counts are within a sheet's limits; else one of them is above its limit.
-pub(crate) fn filled(figure: Normal, list: &[u8], kept: Kept) -> Normal
-    requires { ⌜ Low figure × Keeps (now list) kept ⌝ }
+fn filled(figure: Normal, list: &[u8], exact: &mut [u16; Sheet::NUMBERS]) -> Normal
+    requires { ⌜ Low figure × Passes (now list) × Exacts (now list) (now exact) ⌝ }
+    ensures { λ _. ⌜ Exacts (now (list .entry)) (now (exact .exit)) ⌝ }
     ensures { λ r. ⌜ ((labels : List ℕ) × (Glues (now (list .entry)) figure labels × Made (now (list .entry)) labels figure r)) ⌝ }
 {
-    let labels = glued(figure, list, kept);
-    let whole = whole_of(figure, list, kept, &labels);
+    let mut labels = own_labels();
+    let whole = whole_of(figure, list, &mut labels, exact);
     let labelled = mark_labels(&labels, figure);
-    numbered(figure, whole, labelled)
+    numbered(figure, whole.labelled(&labels), labelled)
 }
 
-// The same of a figure that was read.
-pub(crate) fn filled_from(figure: Sheet, list: &[u8], kept: Kept) -> Normal
-    requires { ⌜ ((text : List ℕ) × (figure ≡ packed (figureHeld text))) ⌝ }
-    requires { ⌜ Keeps (now list) kept ⌝ }
+// The normal form of a figure filled from a list that passed and has a filling for each of its contexts;
+// notes of each filling read whether its marks are exact.
+pub fn normal_filled(figure: Sheet, list: &[u8], exact: &mut [u16; Sheet::NUMBERS]) -> Normal
+    requires { ⌜ ((text : List ℕ) × (figure ≡ packed (figureHeld text))) × Passes (now list) × Exacts (now list) (now exact) ⌝ }
+    ensures { λ _. ⌜ Exacts (now (list .entry)) (now (exact .exit)) ⌝ }
     ensures { λ r. ⌜ ((text : List ℕ) → figure ≡ packed (figureHeld text) → firstLacking (listHeld (now (list .entry)) .contexts) (figureHeld text .contexts) ≡ 0 → firstDiffering (now (list .entry)) (listHeld (now (list .entry)) .contexts) ≡ 0 → FilledIs text (now (list .entry)) r) ⌝ }
 {
-    filled(normal_of(figure), list, kept)
-}
-
-// The normal form of a figure filled from a list that has a filling for each of its contexts.
-pub fn normal_filled(figure: Sheet, list: &[u8]) -> Normal
-    requires { ⌜ ((text : List ℕ) × (figure ≡ packed (figureHeld text))) ⌝ }
-    ensures { λ r. ⌜ ((text : List ℕ) → figure ≡ packed (figureHeld text) → firstLacking (listHeld (now (list .entry)) .contexts) (figureHeld text .contexts) ≡ 0 → firstDiffering (now (list .entry)) (listHeld (now (list .entry)) .contexts) ≡ 0 → FilledIs text (now (list .entry)) r) ⌝ }
-{
-    filled_from(figure, list, kept_of(figure, list))
+    filled(normal_of(figure), list, exact)
 }

@@ -1,17 +1,14 @@
 // Which link classes of a figure and of the fillings put in are one: class n of part p has place
 // p * PART + n, part 0 being the figure and part i + 1 the filling put for context i; two places have
 // the same label exactly when they are one.
-use crate::kept::Kept;
 use rows::Sheet;
-use sheet::normal::Normal;
 ghost use mathlib.Core.Path.{_≡_};
 ghost use Prim.Native.Nat.{ℕ, _≤_, _<_};
 ghost use lib.ListN.{length, take, getD};
 ghost use Rattle.rows.specs.Format.{mostLinks};
 ghost use Rattle.rows.specs.Limits.{figureContexts};
-ghost use Rattle.filling.specs.Parts.{partRoom, places, Low};
-ghost use Rattle.filling.specs.Kept.{Keeps};
-ghost use Rattle.filling.specs.Glued.{Own, joinedAt, joinedAll, portPairs, Glues};
+ghost use Rattle.filling.specs.Parts.{partRoom, places};
+ghost use Rattle.filling.specs.Glued.{Own, joinedAt, joinedAll, portPairs};
 
 // Room for the classes of one part, which are counted from 1.
 pub(crate) const PART: usize = Sheet::LINK_ROOM;
@@ -19,7 +16,7 @@ pub(crate) const PART: usize = Sheet::LINK_ROOM;
 pub(crate) const PLACES: usize = (Sheet::FIGURE_CONTEXTS + 1) * PART;
 
 // Each place has a label of its own.
-fn own_labels() -> [u16; PLACES]
+pub(crate) fn own_labels() -> [u16; PLACES]
     ensures { λ r. ⌜ Own r ⌝ }
 {
     let mut labels = [0u16; PLACES];
@@ -50,7 +47,7 @@ fn merged(labels: &mut [u16; PLACES], a: usize, b: usize)
 }
 
 // Mark i of the filling that is part p is link i of its context.
-fn with_ports(
+pub(crate) fn with_ports(
     labels: &mut [u16; PLACES],
     p: usize,
     links: [u16; Sheet::MOST_LINKS],
@@ -70,22 +67,4 @@ fn with_ports(
         );
         k += 1;
     }
-}
-
-// The labels when every context has its filling.
-pub(crate) fn glued(figure: Normal, list: &[u8], kept: Kept) -> [u16; PLACES]
-    requires { ⌜ Low figure × Keeps (now list) kept ⌝ }
-    ensures { λ r. ⌜ Glues (now (list .entry)) figure r ⌝ }
-{
-    let mut labels = own_labels();
-    let mut i = 0;
-    while i < figure.context_count {
-        let context = figure.contexts[i];
-        let links = context.links;
-        let part = kept.part(list, context.number);
-        let marked = part.marked;
-        with_ports(&mut labels, i + 1, links, context.count as usize, marked);
-        i += 1;
-    }
-    labels
 }

@@ -3,6 +3,5 @@ mod classes;
 pub mod fill;
 pub mod filled;
 mod glue;
-mod kept;
 pub mod part;
 mod whole;

@@ -1,20 +1,21 @@
 // One filling of a list, and the refusals over whole texts.
-use crate::kept::Kept;
 use rows::Sheet;
-use sheet::filling::filling_of;
+use sheet::filling::filling_in;
 use sheet::normal::Normal;
 use sheet::normal::normal_of;
 use sheet::read::read_list;
 ghost use mathlib.Core.Path.{_≡_};
-ghost use Prim.Native.Nat.{_≤_};
+ghost use mathlib.Core.List.{List};
+ghost use Prim.Native.Nat.{ℕ, _<_, _≤_};
 ghost use lib.ListN.{take};
-ghost use Rattle.rows.specs.Limits.{figureContexts, sheetMarks};
+ghost use Rattle.rows.specs.Format.{mostLinks};
+ghost use Rattle.rows.specs.Limits.{sheetMarks};
 ghost use Rattle.rows.specs.Held.{Held};
 ghost use Rattle.rows.specs.Packed.{packed};
+ghost use Rattle.sheet.specs.Filling.{Passes};
 ghost use Rattle.placing.specs.Smallest.{sameList, numbersTo};
 ghost use Rattle.filling.specs.Fill.{firstDiffering};
-ghost use Rattle.filling.specs.Parts.{withoutHeads, partNormal, firstUnported, Counted};
-ghost use Rattle.filling.specs.Kept.{Keeps};
+ghost use Rattle.filling.specs.Parts.{withoutHeads, partNormal, exactTo, Exacts, firstUnported, Counted};
 
 // The rows of a filling without its head.
 fn without_heads(mut sheet: Sheet) -> Sheet
@@ -31,9 +32,10 @@ fn without_heads(mut sheet: Sheet) -> Sheet
 
 // The normal form of the filling of this number.
 pub(crate) fn part_of(list: &[u8], number: u16) -> Normal
+    requires { ⌜ Passes (now list) ⌝ }
     ensures { λ r. ⌜ r ≡ partNormal (now (list .entry)) number ⌝ }
 {
-    let reading = read_list(filling_of(list, number));
+    let reading = read_list(filling_in(list, number));
     let sheet = reading.sheet;
     normal_of(without_heads(sheet))
 }
@@ -56,6 +58,27 @@ fn marks_exact(part: Normal, n: u16) -> bool
     true
 }
 
+// Notes of a number that the marks of its filling, which is this part, are exactly its ports.
+pub(crate) fn note_exact(exact: &mut [u16; Sheet::NUMBERS], part: Normal, number: u16, n: u16)
+    requires { ⌜ (part .«mark_count» ≤ sheetMarks) × (number < 5) × (n ≤ mostLinks) ⌝ }
+    ensures { λ _. ⌜ ((list : List ℕ) → part ≡ partNormal list number → Exacts list (now (exact .entry)) → Exacts list (now (exact .exit))) ⌝ }
+{
+    if marks_exact(part, n) {
+        exact[number as usize] = n + 1;
+    }
+}
+
+// Whether the marks of the filling of this number are exactly 1 to n; one that is noted is not read.
+fn is_exact(list: &[u8], exact: &[u16; Sheet::NUMBERS], number: u16, n: u16) -> bool
+    requires { ⌜ Passes (now list) × Exacts (now list) (now exact) × (number < 5) × (n ≤ mostLinks) ⌝ }
+    ensures { λ r. ⌜ r ≡ exactTo (now (list .entry)) number n ⌝ }
+{
+    if exact[number as usize] == n + 1 {
+        return true;
+    }
+    marks_exact(part_of(list, number), n)
+}
+
 // 8 over whole texts: the row of the first context without a filling of its number and count, or 0.
 pub fn first_lacking(figure: Sheet, heads: Sheet) -> usize
     requires { ⌜ Counted figure ⌝ }
@@ -74,26 +97,17 @@ pub fn first_lacking(figure: Sheet, heads: Sheet) -> usize
 }
 
 // 9: the row of the first head whose filling has other marks than its ports, or 0.
-pub(crate) fn differing(heads: Sheet, list: &[u8], kept: Kept) -> usize
-    requires { ⌜ (heads .«context_count» ≤ figureContexts) × Keeps (now list) kept ⌝ }
+pub fn first_differing(heads: Sheet, list: &[u8], exact: &[u16; Sheet::NUMBERS]) -> usize
+    requires { ⌜ Counted heads × Passes (now list) × Exacts (now list) (now exact) ⌝ }
     ensures { λ r. ⌜ r ≡ firstDiffering (now (list .entry)) (take (heads .«context_count») (heads .contexts)) ⌝ }
 {
     let mut i = 0;
     while i < heads.context_count {
         let head = heads.contexts[i];
-        let part = kept.part(list, head.number);
-        if !marks_exact(part, head.count) {
+        if !is_exact(list, exact, head.number, head.count) {
             return head.row as usize;
         }
         i += 1;
     }
     0
-}
-
-// The same with no filling read before.
-pub fn first_differing(heads: Sheet, list: &[u8]) -> usize
-    requires { ⌜ heads .«context_count» ≤ figureContexts ⌝ }
-    ensures { λ r. ⌜ r ≡ firstDiffering (now (list .entry)) (take (heads .«context_count») (heads .contexts)) ⌝ }
-{
-    differing(heads, list, Kept::none())
 }

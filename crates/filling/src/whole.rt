@@ -1,19 +1,23 @@
-// The atoms of a filled figure, with the labels of their link classes.
+// The atoms of a filled figure, first with the places of their link classes, then with their labels.
 use crate::glue::PART;
 use crate::glue::PLACES;
-use crate::kept::Kept;
+use crate::glue::with_ports;
+use crate::part::note_exact;
+use crate::part::part_of;
 use rows::Atom;
 use rows::Sheet;
 use sheet::normal::Normal;
 ghost use mathlib.Core.Path.{_≡_};
-ghost use mathlib.Core.List.{[]};
+ghost use mathlib.Core.List.{[], map};
 ghost use Prim.Native.Nat.{ℕ, _+_, _≤_, _<_};
-ghost use lib.ListN.{getD};
+ghost use lib.ListN.{length, getD};
 ghost use Rattle.rows.specs.Format.{mostLinks};
 ghost use Rattle.rows.specs.Limits.{sheetAtoms, figureContexts};
-ghost use Rattle.filling.specs.Parts.{partRoom, Low};
-ghost use Rattle.filling.specs.Kept.{Keeps};
-ghost use Rattle.filling.specs.Whole.{labelledLinks, partAtoms, allAtoms, roomFor, wholeAtoms, Grown};
+ghost use Rattle.sheet.specs.Filling.{Passes};
+ghost use Rattle.sheet.specs.NormalRows.{pastAtoms};
+ghost use Rattle.filling.specs.Parts.{partRoom, places, Low, Exacts};
+ghost use Rattle.filling.specs.Glued.{placeOf};
+ghost use Rattle.filling.specs.Whole.{labelledLinks, labelledAtom, partAtoms, wholeAtoms, Grown, Puts};
 
 // As many atoms as a sheet has room for: one more than its limit says that there are too many.
 pub(crate) struct Whole {
@@ -21,20 +25,33 @@ pub(crate) struct Whole {
     pub count: usize,
 }
 
-// The labels of the first `count` links of an atom of part p.
+// The places of the links of an atom of part p.
+fn placed(p: usize, links: [u16; Sheet::MOST_LINKS]) -> [u16; Sheet::MOST_LINKS]
+    requires { ⌜ (p ≤ figureContexts) × ((k : ℕ) → getD links k 0 < partRoom) ⌝ }
+    ensures { λ r. ⌜ r ≡ map (placeOf p) links ⌝ }
+{
+    let mut more = links;
+    let mut k = 0;
+    while k < Sheet::MOST_LINKS {
+        more[k] = (p * PART) as u16 + links[k];
+        k += 1;
+    }
+    more
+}
+
+// The labels of the first `count` of these places.
 fn labelled(
     labels: &[u16; PLACES],
-    p: usize,
     links: [u16; Sheet::MOST_LINKS],
     count: usize,
 ) -> [u16; Sheet::MOST_LINKS]
-    requires { ⌜ (p ≤ figureContexts) × (count ≤ mostLinks) × ((k : ℕ) → getD links k 0 < partRoom) ⌝ }
-    ensures { λ r. ⌜ r ≡ labelledLinks (now (labels .entry)) p count links ⌝ }
+    requires { ⌜ (count ≤ mostLinks) × ((k : ℕ) → getD links k 0 < places) ⌝ }
+    ensures { λ r. ⌜ r ≡ labelledLinks (now (labels .entry)) count links ⌝ }
 {
     let mut more = [0u16; Sheet::MOST_LINKS];
     let mut k = 0;
     while k < count {
-        more[k] = labels[p * PART + links[k] as usize];
+        more[k] = labels[links[k] as usize];
         k += 1;
     }
     more
@@ -50,16 +67,16 @@ impl Whole {
     }
 
     // The atoms of part p, as many as there is room for.
-    fn with_part(self, labels: &[u16; PLACES], p: usize, part: Normal) -> Self
+    fn with_part(self, p: usize, part: Normal) -> Self
         requires { ⌜ (self .count ≤ sheetAtoms + 1) × (p ≤ figureContexts) × Low part ⌝ }
-        ensures { λ r. ⌜ Grown self r (partAtoms (now (labels .entry)) p part) ⌝ }
+        ensures { λ r. ⌜ Grown self r (partAtoms p part) ⌝ }
     {
         let mut whole = self;
         let mut i = 0;
         while i < part.atom_count {
             let atom = part.atoms[i];
             let before = atom.links;
-            let links = labelled(labels, p, before, atom.count as usize);
+            let links = placed(p, before);
             let n = whole.count;
             if n < Sheet::ATOM_ROOM {
                 whole.atoms[n] = Atom {
@@ -73,19 +90,55 @@ impl Whole {
         }
         whole
     }
+
+    // Each place made the label that it has.
+    pub(crate) fn labelled(self, labels: &[u16; PLACES]) -> Self
+        requires { ⌜ (self .count ≤ sheetAtoms + 1) × ((i : ℕ) → getD (wholeAtoms self) i pastAtoms .count ≤ mostLinks) ⌝ }
+        requires { ⌜ ((i k : ℕ) → getD (getD (wholeAtoms self) i pastAtoms .links) k 0 < places) ⌝ }
+        ensures { λ r. ⌜ (wholeAtoms r ≡ map (labelledAtom (now (labels .entry))) (wholeAtoms self)) × (r .count ≡ self .count) ⌝ }
+    {
+        let mut atoms = self.atoms;
+        let mut i = 0;
+        while i < self.count {
+            let atom = self.atoms[i];
+            let before = atom.links;
+            let links = labelled(labels, before, atom.count as usize);
+            atoms[i] = Atom {
+                name: atom.name,
+                count: atom.count,
+                links,
+            };
+            i += 1;
+        }
+        Whole {
+            atoms,
+            count: self.count,
+        }
+    }
 }
 
-// The figure's atoms, then for each context in order its filling's.
-pub(crate) fn whole_of(figure: Normal, list: &[u8], kept: Kept, labels: &[u16; PLACES]) -> Whole
-    requires { ⌜ Low figure × Keeps (now list) kept ⌝ }
-    ensures { λ r. ⌜ (wholeAtoms r ≡ roomFor (allAtoms (now (list .entry)) (now (labels .entry)) figure)) × (r .count ≤ sheetAtoms + 1) ⌝ }
+// The figure's atoms, then for each context in order its filling's; each filling is read once, and its
+// ports make labels one.
+pub(crate) fn whole_of(
+    figure: Normal,
+    list: &[u8],
+    labels: &mut [u16; PLACES],
+    exact: &mut [u16; Sheet::NUMBERS],
+) -> Whole
+    requires { ⌜ Low figure × Passes (now list) × (length (now labels) ≡ places) × Exacts (now list) (now exact) ⌝ }
+    ensures { λ _. ⌜ Exacts (now (list .entry)) (now (exact .exit)) ⌝ }
+    ensures { λ r. ⌜ Puts (now (list .entry)) figure (now (labels .entry)) (now (labels .exit)) r ⌝ }
 {
-    let mut whole = Whole::none().with_part(labels, 0, figure);
+    let mut whole = Whole::none().with_part(0, figure);
     let mut i = 0;
     while i < figure.context_count {
         let context = figure.contexts[i];
-        let part = kept.part(list, context.number);
-        whole = whole.with_part(labels, i + 1, part);
+        let links = context.links;
+        let part = part_of(list, context.number);
+        let marked = part.marked;
+        with_ports(&mut *labels, i + 1, links, context.count as usize, marked);
+        note_exact(&mut *exact, part, context.number, context.count);
+        whole = whole.with_part(i + 1, part);
         i += 1;
     }
     whole

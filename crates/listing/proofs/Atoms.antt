@@ -5,36 +5,39 @@ use mathlib.Core.List.{List, [], _∷_, _++_, map, append-nil, append-assoc, Lis
 use mathlib.Core.Bool.{Bool, true, false}
 use mathlib.Core.Logic.{_⊎_, inl, inr}
 use native.Mathlib.Omega.{arith}
-use borrow.Author.Tests.{eq-eqb, ne-eqb}
 use lib.Dec.{eqb}
 use lib.ListN.{length, getD, take, length-append, length-map, length-take}
 use lib.Seq.{length-take-le}
 use Rattle.hyperlmntal.specs.Link.{_∈_}
-use Rattle.rows.specs.Pick.{pick}
 use Rattle.rows.specs.Format.{mostLinks, fieldCount}
 use Rattle.rows.specs.Packed.{padded}
 use Rattle.rows.specs.RowText.{rowBytes}
 use Rattle.rows.proofs.Padding.{take-padded, getD-padding}
 use Rattle.numbering.specs.Numbering.{linkRoom}
+use Rattle.rows.specs.declared.Atom.{Atom}
 use Rattle.sheet.specs.declared.normal.Normal as form
 use Rattle.placing.specs.Net.{NetCell, cellLinks}
-use Rattle.network.specs.NetIn.{atomIn, atomAt, Fit}
+use Rattle.network.specs.NetIn.{atomAt, Fit}
 use Rattle.network.proofs.NetIn.{used-range}
-use Rattle.listing.specs.Writing.{givenAt, givenBelow, symbolsBytes}
+use Rattle.listing.specs.Writing.{cellIf, givenAt, givenBelow, symbolsBytes}
 
 pub cell-links-append : (a b : List NetCell) → cellLinks (a ++ b) ≡ cellLinks a ++ cellLinks b
 cell-links-append [] b = refl
 cell-links-append (c ∷ a) b = rw (cell-links-append a b) (sym (append-assoc (c .1) (cellLinks a) (cellLinks b)))
 
-module _ (sheet : form.Normal) (given : List ℕ) (k i : ℕ) where
-  pub given-one : getD given i 0 ≡ k → givenAt sheet given k i ≡ atomIn (atomAt sheet i) ∷ []
-  given-one e = rw (eq-eqb (getD given i 0) k e)
+-- An atom that is given.
+module _ (t : Bool) (a : Atom) (e : t ≡ true) where
+  pub given-one : length (cellIf t a) ≡ 1
+  given-one = rw e
 
-  pub given-none : (getD given i 0 ≡ k → ⊥) → givenAt sheet given k i ≡ []
-  given-none e = rw (ne-eqb (getD given i 0) k e)
+  pub given-links : cellLinks (cellIf t a) ≡ take (a .count) (a .links)
+  given-links = rw e (append-nil (take (a .count) (a .links)))
 
-  pub one-links : getD given i 0 ≡ k → cellLinks (givenAt sheet given k i) ≡ take (atomAt sheet i .count) (atomAt sheet i .links)
-  one-links e = ap cellLinks (given-one e) ∙ append-nil (take (atomAt sheet i .count) (atomAt sheet i .links))
+  pub given-symbol : (f : ℕ → ℕ) → a .count ≤ length (a .links) → symbolsBytes f (cellIf t a) ≡ rowBytes 83 (a .name ∷ a .count ∷ map f (take (a .count) (a .links)))
+  unfolding symbolsBytes
+  given-symbol f h =
+      rw e (append-nil (rowBytes 83 (a .name ∷ length (take (a .count) (a .links)) ∷ map f (take (a .count) (a .links))))
+      ∙ ap (λ n. rowBytes 83 (a .name ∷ n ∷ map f (take (a .count) (a .links)))) (length-take-le (a .count) (a .links) h))
 
 -- More places, no fewer atoms.
 module _ (sheet : form.Normal) (given : List ℕ) (k : ℕ) where
@@ -53,7 +56,7 @@ module _ (sheet : form.Normal) (fit : Fit sheet) (given : List ℕ) (k : ℕ) wh
   pub atom-low : (i : ℕ) → i < sheet .«atom_count» → (j : ℕ) → j < atomAt sheet i .count → getD (atomAt sheet i .links) j 0 < linkRoom
   atom-low i h j q = let u = (fit .atoms i h) .numbered j q in omega (arith, u .1, fit .class-count)
 
-  few-links : (i : ℕ) → i < sheet .«atom_count» → (t : Bool) → length (cellLinks (pick t (atomIn (atomAt sheet i) ∷ []) [])) ≤ mostLinks
+  few-links : (i : ℕ) → i < sheet .«atom_count» → (t : Bool) → length (cellLinks (cellIf t (atomAt sheet i))) ≤ mostLinks
   few-links i h true =
       let u = fit .atoms i h in
       let a = take (atomAt sheet i .count) (atomAt sheet i .links) in
@@ -75,7 +78,7 @@ module _ (sheet : form.Normal) (fit : Fit sheet) (given : List ℕ) (k : ℕ) wh
         given-few i (omega arith),
       )
 
-  cell-low : (i : ℕ) → i < sheet .«atom_count» → (t : Bool) → (x : ℕ) → x ∈ cellLinks (pick t (atomIn (atomAt sheet i) ∷ []) []) → x < linkRoom
+  cell-low : (i : ℕ) → i < sheet .«atom_count» → (t : Bool) → (x : ℕ) → x ∈ cellLinks (cellIf t (atomAt sheet i)) → x < linkRoom
   cell-low i h true x m =
       let u = fit .atoms i h in
       let r = used-range (sheet .«class_count») (atomAt sheet i .count) (atomAt sheet i .links) u x (subst (λ l. x ∈ l) (append-nil (take (atomAt sheet i .count) (atomAt sheet i .links))) m) in
@@ -110,13 +113,3 @@ module _ (f : ℕ → ℕ) (a b : ℕ) (l nums : List ℕ) (e : nums ≡ padded 
   row-taken h =
       let w : length (a ∷ b ∷ map f (take b l)) ≡ b + 2 = omega (arith, length-map (take b l) f, length-take-le b l h) in
       rw (e, ← w) (take-padded fieldCount 0 (a ∷ b ∷ map f (take b l)))
-
--- The S row of an atom that is given.
-pub one-symbol : (f : ℕ → ℕ) (sheet : form.Normal) (given : List ℕ) (k i : ℕ) → getD given i 0 ≡ k → atomAt sheet i .count ≤ length (atomAt sheet i .links)
-    → symbolsBytes f (givenAt sheet given k i) ≡ rowBytes 83 (atomAt sheet i .name ∷ atomAt sheet i .count ∷ map f (take (atomAt sheet i .count) (atomAt sheet i .links)))
-unfolding symbolsBytes
-one-symbol f sheet given k i e h =
-    let a = atomAt sheet i in
-    ap (symbolsBytes f) (given-one sheet given k i e)
-    ∙ append-nil (rowBytes 83 (a .name ∷ length (take (a .count) (a .links)) ∷ map f (take (a .count) (a .links))))
-    ∙ ap (λ n. rowBytes 83 (a .name ∷ n ∷ map f (take (a .count) (a .links)))) (length-take-le (a .count) (a .links) h)

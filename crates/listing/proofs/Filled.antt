@@ -13,12 +13,11 @@ use Rattle.rows.specs.RowText.{rowBytes}
 use Rattle.rows.specs.declared.Context.{Context}
 use Rattle.rows.proofs.Lists.{getD-mapped}
 use Rattle.rows.proofs.RowBytes.{row-width, over, over-more}
-use Rattle.numbering.specs.Numbering.{linkRoom, noNumbers, withClasses}
-use Rattle.numbering.specs.declared.classes.Numbering.{Numbering}
+use Rattle.numbering.specs.Numbering.{Numbering, linkRoom, noNumbers, withClasses}
 use Rattle.numbering.proofs.Turns.{with-classes-append}
 use Rattle.sheet.specs.declared.normal.Normal as form
 use Rattle.sheet.proofs.normal_text.NormalWritten.{mapped-at, taken-padded}
-use Rattle.sheet.proofs.normal.ClassNumbers.{classes-number, number-low}
+use Rattle.sheet.proofs.normal.ClassNumbers.{classes-number}
 use Rattle.placing.specs.Net.{NetCell, cellLinks}
 use Rattle.placing.proofs.Lists.{member-at, getD-of}
 use Rattle.network.specs.NetIn.{contextIn, Used, Fit}
@@ -35,10 +34,6 @@ three-put l one two new at a b c j k p q room e f g =
     let m : length (a ++ b) ≡ rowWidth + j = length-append a b ∙ rw (p, q) in
     let z : at + rowWidth + j ≡ at + (rowWidth + j) = omega arith in
     (rw (z, first) at g) ∙ over-more l at (a ++ b) (rowWidth + j) m room c k ∙ rw (append-assoc a b c)
-
--- One numbering after the other.
-pub chained : (zero first n : Numbering) (l k : List ℕ) → zero ≡ noNumbers → first ≡ withClasses zero l → n ≡ withClasses first k → n ≡ withClasses (withClasses noNumbers l) k
-chained zero first n l k p q r = r ∙ ap (λ m. withClasses m k) (q ∙ ap (λ m. withClasses m l) p)
 
 module _ (sheet : form.Normal) (fit : Fit sheet) (linksTo given : List ℕ) (c : Context) (u : Used sheetLinks (c .count) (c .links)) where
   abbrev cells : List NetCell
@@ -88,10 +83,6 @@ module _ (sheet : form.Normal) (fit : Fit sheet) (linksTo given : List ℕ) (c :
     module _ (n : Numbering) (numbered : n ≡ withClasses (withClasses noNumbers (cellLinks cells)) (take (c .count) p)) where
       table : n ≡ withClasses noNumbers (appearing cells ports)
       table = numbered ∙ ap (withClasses (withClasses noNumbers (cellLinks cells))) ports-taken ∙ sym (with-classes-append noNumbers (cellLinks cells) ports)
-
-      pub numbers-low : (x : ℕ) → getD (n .numbers) x 0 ≤ 9999
-      numbers-low x =
-          rw table (omega (arith, number-low (appearing cells ports) all-low x, length-append (cellLinks cells) ports, few-cells, fit .atom-count, ports-count, u .few))
 
       agrees : (x : ℕ) → x ∈ appearing cells ports → numberIn (n .numbers) x ≡ numberAmong (appearing cells ports) x
       agrees x m = rw table (classes-number (appearing cells ports) all-low x m)

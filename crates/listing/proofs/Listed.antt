@@ -63,7 +63,7 @@ module _ (sheet figure : form.Normal) (ready : Ready sheet figure) (linksTo give
       let t = member-at (netIn figure .contexts) c m in
       let h : t .0 < figure .«context_count» = omega (arith, t .1, contexts-length figure (ready .figure-fit)) in
       let u = ready .figure-fit .contexts (t .0) h in
-      let e : contextIn (contextAt figure (t .0)) ≡ c = sym (context-at figure (ready .figure-fit) (t .0) h) ∙ getD-of (netIn figure .contexts) (t .0) (0, []) c (t .2) in
+      let e : contextIn (contextAt figure (t .0)) ≡ c = sym (context-at (figure .contexts) (figure .«context_count») (omega (arith, ready .figure-fit .context-count, ready .figure-fit .context-room)) (t .0) h) ∙ getD-of (netIn figure .contexts) (t .0) (0, []) c (t .2) in
       subst (λ d. length (d .1) ≤ mostLinks) e (omega (arith, used-length (figure .«class_count») (contextAt figure (t .0) .count) (contextAt figure (t .0) .links) u, u .few))
 
   all-room : length (listBytes sheet linksTo given ordered) ≤ slipLength

@@ -6,19 +6,19 @@ use native.Mathlib.Numerals.{add-one}
 use native.Mathlib.Omega.{arith}
 use borrow.Author.Tests.{lt-ltb, le-ltb}
 use lib.Dec.{ltb}
-use lib.ListN.{length, getD, take, set, length-map, length-append}
+use lib.ListN.{length, getD, take, set, length-map, length-append, length-take}
 use lib.Seq.{take-suc, length-take-le}
 use Rattle.rows.specs.Pick.{pick}
 use Rattle.rows.specs.Format.{rowWidth}
 use Rattle.rows.specs.Packed.{padded}
 use Rattle.rows.proofs.Padding.{set-padded}
 use Rattle.rows.proofs.RowBytes.{over, over-more}
-use Rattle.numbering.specs.Numbering.{withClass, withClasses}
-use Rattle.numbering.specs.declared.classes.Numbering.{Numbering}
-use Rattle.numbering.proofs.Turns.{with-classes-append, with-classes-snoc}
+use Rattle.numbering.specs.Numbering.{Numbering, withClass, withClasses}
+use Rattle.numbering.proofs.Turns.{with-class-count, with-classes-count, with-classes-append, with-classes-snoc}
+use Rattle.numbering.proofs.Kept.{number-kept, Low, low-class, low-after}
 use Rattle.sheet.specs.declared.normal.Normal as form
 use Rattle.placing.specs.Net.{NetCell, cellLinks}
-use Rattle.listing.specs.Writing.{givenAt, givenBelow, symbolsBytes, portBytes, portsBytes, fillingBytes, listBytes, below}
+use Rattle.listing.specs.Writing.{numberIn, givenAt, givenBelow, symbolsBytes, portBytes, portsBytes, fillingBytes, listBytes, below}
 use Rattle.listing.proofs.Atoms.{cell-links-append}
 use Rattle.listing.proofs.Texts.{symbols-append, symbols-length, ports-snoc, ports-length, list-snoc}
 use Rattle.listing.proofs.Ranks.{below-snoc}
@@ -29,6 +29,29 @@ take-next l k d h = rw (add-one k) (take-suc l k d h)
 -- One link numbered more.
 pub links-next : (from n : Numbering) (l : List ℕ) (k : ℕ) → k < length l → n ≡ withClasses from (take k l) → withClass n (getD l k 0) ≡ withClasses from (take (k + 1) l)
 links-next from n l k h e = ap (λ m. withClass m (getD l k 0)) e ∙ sym (with-classes-snoc from (take k l) (getD l k 0)) ∙ ap (withClasses from) (sym (take-next l k 0 h))
+
+-- How many are numbered then.
+pub links-few : (from n : Numbering) (l : List ℕ) (k : ℕ) → n ≡ withClasses from (take k l) → n .count ≤ from .count + k
+links-few from n l k e = omega (arith, ap (λ m. m .count) e, with-classes-count from (take k l), length-take k l)
+
+-- No number then has more than four digits.
+pub links-low : (from n : Numbering) (l : List ℕ) (k : ℕ) → Low from → n ≡ withClasses from (take k l) → from .count + k ≤ 1000 → (x : ℕ) → numberIn (withClasses n [] .numbers) x ≤ 9999
+unfolding withClasses
+links-low from n l k low e h x = omega (arith, low-after from n (take k l) e low x, links-few from n l k e)
+
+-- A link's number, which nothing that is numbered later changes.
+module _ (n m : Numbering) (x : ℕ) (e : m ≡ withClass n x) (later : List ℕ) where
+  pub number-put : (v : ℕ) → v ≡ getD (m .numbers) x 0 → v ≡ numberIn (withClasses m later .numbers) x
+  number-put v q = q ∙ rw e (sym (number-kept n x later))
+
+  pub number-few : (from : Numbering) (l : List ℕ) (v : ℕ) → Low from → n ≡ withClasses from l → v ≡ getD (m .numbers) x 0 → v ≤ from .count + length l + 1
+  number-few from l v low q w =
+      let a : getD (m .numbers) x 0 ≤ m .count = rw e (low-class n x (low-after from n l q low) x) in
+      omega (arith, ap (λ k. k .count) e, ap (λ k. k .count) q, with-class-count n x, with-classes-count from l)
+
+  pub number-later : withClasses n (x ∷ later) ≡ withClasses m later
+  unfolding withClasses
+  number-later = rw e
 
 -- One sheet atom more.
 module _ (sheet : form.Normal) (given : List ℕ) (k i : ℕ) where

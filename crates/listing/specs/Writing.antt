@@ -1,18 +1,21 @@
 -- Document 01, 'A placing' and 'Rows': the bytes of a list of fillings, as they are written from arrays.
 use Prim.Native.Nat.{ℕ, zero, suc, _+_, _-_, _<_, _≤_}
 use mathlib.Core.List.{List, [], _∷_, _++_, map}
+use mathlib.Core.Bool.{Bool}
 use lib.Dec.{eqb, ltb}
 use lib.ListN.{length, take, getD}
 use Rattle.rows.specs.Pick.{pick}
 use Rattle.rows.specs.Held.{indexOf}
 use Rattle.rows.specs.RowText.{rowBytes}
+use Rattle.rows.specs.declared.Atom.{Atom}
+use Rattle.rows.specs.declared.Context.{Context}
 use Rattle.sheet.specs.Normal.{distinct}
 use Rattle.sheet.specs.declared.normal.Normal as form
 use Rattle.placing.specs.Net.{NetCell, cellLinks}
 use Rattle.placing.specs.Placing.{Placing}
 use Rattle.placing.specs.Fillings.{normalFillingsOf}
 use Rattle.placing.specs.ListText.{listText}
-use Rattle.network.specs.NetIn.{netIn, atomIn, atomAt, contextAt}
+use Rattle.network.specs.NetIn.{netIn, atomIn, contextIn, atomAt, contextAt}
 
 -- a name has three digits at most and the number of a context four, so that they fit the columns of a row
 pub record Columns (sheet figure : form.Normal) : Type 0 where
@@ -47,9 +50,13 @@ unfoldable pub portsBytes : (ℕ → ℕ) → ℕ → List ℕ → List ℕ
 portsBytes f i [] = []
 portsBytes f i (x ∷ l) = portBytes f i x ++ portsBytes f (suc i) l
 
+-- an atom, where it is given
+abbrev pub cellIf : Bool → Atom → List NetCell
+cellIf given a = pick given (atomIn a ∷ []) []
+
 -- sheet atom i, from 0, where it is given to context k
 abbrev pub givenAt : form.Normal → List ℕ → ℕ → ℕ → List NetCell
-givenAt sheet given k i = pick (eqb (getD given i 0) k) (atomIn (atomAt sheet i) ∷ []) []
+givenAt sheet given k i = cellIf (eqb (getD given i 0) k) (atomAt sheet i)
 
 -- those below a place
 unfoldable pub givenBelow : form.Normal → List ℕ → ℕ → ℕ → List NetCell
@@ -85,6 +92,13 @@ fillingBytes sheet linksTo given c =
 unfoldable pub listBytes : form.Normal → List ℕ → List ℕ → List NetCell → List ℕ
 listBytes sheet linksTo given [] = []
 listBytes sheet linksTo given (c ∷ l) = fillingBytes sheet linksTo given c ++ listBytes sheet linksTo given l
+
+-- the first n contexts of an array, and what code reads at an index from 0
+abbrev pub cellsIn : ℕ → List Context → List NetCell
+cellsIn n l = map contextIn (take n l)
+
+abbrev pub cellAt : List Context → ℕ → Context
+cellAt l i = getD l i (record { number = 0; count = 0; links = []; row = 0 })
 
 -- how many contexts have a smaller number
 unfoldable pub below : ℕ → List NetCell → ℕ

@@ -3,7 +3,7 @@ use Prim.Native.Nat.{ℕ, suc, _+_, _-_, _*_, _≤_, _<_}
 use mathlib.Core.Path.{_≡_, ap, ap₂, sym, _∙_, subst, subst₂}
 use mathlib.Core.Logic.{_≢_, inl, inr}
 use mathlib.Core.List.{List, [], _∷_, _++_, append-assoc}
-use mathlib.Core.Bool.{true, false}
+use mathlib.Core.Bool.{Bool, true, false}
 use native.Mathlib.Decide.{ℕ-discrete, decLt}
 use native.Mathlib.Numerals.{add-one}
 use native.Mathlib.Omega.{arith}
@@ -19,9 +19,12 @@ use Rattle.network.specs.NetIn.{netIn}
 use Rattle.network.specs.Begun.{Begun, testAfter, leastAfter}
 use Rattle.network.proofs.NetIn.{atoms-length}
 use Rattle.network.specs.Ready.{Ready, AtomsIn}
-use Rattle.matching.specs.Search.{mayIn, KeepsIn, searchFrom, foundList, foundIn, Skipped}
+use Rattle.matching.specs.Search.{mayIn, KeepsIn, Kept, searchFrom, foundList, foundIn, Skipped}
 use Rattle.narrowing.specs.Sets.{Keeps}
-use Rattle.narrowing.specs.Tables.{mayAtom, mayLink}
+use Rattle.narrowing.specs.Tables.{mayAtom, mayLink, Blank}
+use Rattle.narrowing.specs.Laid.{LaidOut}
+use Rattle.narrowing.specs.Steps.{NarrowedBy}
+use Rattle.narrowing.proofs.Passes.{atom-hopeless}
 use Rattle.symmetry.specs.Follows.{Follows}
 use Rattle.matching.specs.declared.search.Found.{Found}
 use Rattle.matching.proofs.SearchLaws.{nothing-found, none-found, some-found, none-begun, begun-none, restBounds, tried-start, tried-next, tried-end, tried-found}
@@ -157,6 +160,20 @@ pub choice-kept : (sheet figure : form.Normal) → Ready sheet figure → (k t :
 choice-kept sheet figure ready k t h a b l promise pre e keeps =
     subst (λ (i : ℕ). KeepsIn sheet figure (pre ++ (i ∷ [])) b l) (add-one t)
     (promise (netIn sheet) (netIn figure) pre l (omega (arith, atoms-length sheet (ready .sheet-fit), ready .sheet-fit .atom-count)) e (omega (arith, atoms-length figure (ready .figure-fit))) keeps)
+
+-- What narrowing promises, for a sheet and a figure that are laid out.
+module _ (sheet figure : form.Normal) (laid : List ℕ) (n : ℕ) (parts : List ℕ) (m : ℕ) (os : LaidOut sheet laid n) (of : LaidOut figure parts m) where
+  pub laid-ready : Ready sheet figure
+  laid-ready = record { sheet-fit = os .fit; figure-fit = of .fit; sheet-normal = os .normal; figure-normal = of .normal }
+
+  pub narrow-kept : (pre a l b k : List ℕ) (r : Bool) → NarrowedBy laid n parts m a l b k → (r ≡ true → (i : ℕ) × (i < m) × Blank sheetAtoms b i n) → KeepsIn sheet figure pre a l → Kept sheet figure pre b k r
+  narrow-kept pre a l b k r narrowed empty keeps = record { keeps = still; none = lost }
+    where
+      still : KeepsIn sheet figure pre b k
+      still p g s = narrowed sheet figure os of p g (keeps p g s)
+
+      lost : r ≡ true → ¬ Begun (netIn sheet) (netIn figure) pre
+      lost e = let w = empty e in atom-hopeless sheet figure (os .fit) (of .fit) (os .normal) (of .normal) pre b k still (w .0) (omega (arith, w .1, of .count)) (λ t h. w .2 t (omega (arith, h, os .count)))
 
 pub follows-suc : (sheet : form.Normal) (pre : List ℕ) (t u : ℕ) → Follows (netIn sheet) pre (t + 1) (u + 1) → Follows (netIn sheet) pre (suc t) (suc u)
 follows-suc sheet pre t u f = subst₂ (Follows (netIn sheet) pre) (add-one t) (add-one u) f

@@ -3,7 +3,7 @@ use Prim.Native.Nat.{ℕ, suc, _+_, _*_, _<_}
 use mathlib.Core.Path.{_≡_}
 use mathlib.Core.Logic.{_≢_, _⊎_}
 use mathlib.Core.List.{List, _++_}
-use mathlib.Core.Bool.{Bool, false}
+use mathlib.Core.Bool.{Bool, true, false}
 use mathlib.Core.Option.{Option, none, some}
 use lib.Dec.{eqb}
 use lib.ListN.{take, getD}
@@ -13,7 +13,7 @@ use Rattle.sheet.specs.declared.normal.Normal as form
 use Rattle.placing.specs.Net.{Net}
 use Rattle.placing.specs.Placing.{Placing}
 use Rattle.network.specs.NetIn.{netIn}
-use Rattle.network.specs.Begun.{leastAfter}
+use Rattle.network.specs.Begun.{Begun, leastAfter}
 use Rattle.narrowing.specs.Sets.{Keeps}
 use Rattle.narrowing.specs.Tables.{mayAtom, mayLink}
 use Rattle.symmetry.specs.Follows.{Follows}
@@ -58,3 +58,8 @@ Skipped sheet atoms pre failed k t = (mayIn atoms k t ≡ false) ⊎ Excused she
 -- every good placing that begins so stays in the sets
 abbrev pub KeepsIn : form.Normal → form.Normal → (pre atoms links : List ℕ) → Type 0
 KeepsIn sheet figure pre atoms links = Keeps (netIn sheet) (netIn figure) pre (mayAtom atoms) (mayLink links)
+
+-- and there is none where that is known
+pub record Kept (sheet figure : form.Normal) (pre atoms links : List ℕ) (lost : Bool) : Type 0 where
+  pub keeps : KeepsIn sheet figure pre atoms links
+  pub none : lost ≡ true → ¬ Begun (netIn sheet) (netIn figure) pre

@@ -1,3 +1,4 @@
 // Finding a figure in a sheet.
 mod colours;
+mod excuse;
 pub mod search;

@@ -22,7 +22,7 @@ begins-next pre t p b =
     ap (λ (k : ℕ). getD (p .atomsTo) k 0) (let q : suc (length pre) - 1 ≡ length pre = omega arith in q)
     ∙ ap (λ (l : List ℕ). getD l (length pre) 0) (b .1 ∙ append-assoc pre (t ∷ []) (b .0)) ∙ getD-append-seam pre t (b .0) 0
 
-module _ (a b c l : List ℕ) (k t : ℕ) (row : Stays sheetAtoms a b (λ i u. i ≡ k → u ≡ t)) (column : Stays sheetAtoms b c (λ i u. u ≡ t → i ≡ k)) where
+module _ (a b c l : List ℕ) (k t : ℕ) (column : Stays sheetAtoms a b (λ i u. u ≡ t → i ≡ k)) (row : Stays sheetAtoms b c (λ i u. i ≡ k → u ≡ t)) where
   pub choose-keeps : (S F : Net) (pre : List ℕ) → length (S .atoms) ≤ sheetAtoms → length pre ≡ k → k < length (F .atoms)
       → Keeps S F pre (mayAtom a) (mayLink l) → Keeps S F (pre ++ ((t + 1) ∷ [])) (mayAtom c) (mayLink l)
   choose-keeps S F pre few e small h p g b = record { atoms = at; links = o .links }
@@ -43,4 +43,4 @@ module _ (a b c l : List ℕ) (k t : ℕ) (row : Stays sheetAtoms a b (λ i u. i
           let q : u - 1 < sheetAtoms = omega (arith, s .0, s .1) in
           let x : i - 1 ≡ k → u - 1 ≡ t = λ w. omega (arith, there, ap (atomTo p) (let z : i ≡ suc (length pre) = omega (arith, r .0, w) in z)) in
           let y : u - 1 ≡ t → i - 1 ≡ k = λ w. omega (arith, g .sending .different i (suc (length pre)) r mine (let z : u ≡ t + 1 = omega (arith, s .0, w) in z ∙ sym there)) in
-          column (i - 1) (u - 1) q (row (i - 1) (u - 1) q (o .atoms i r) x) y
+          row (i - 1) (u - 1) q (column (i - 1) (u - 1) q (o .atoms i r) y) x

@@ -7,3 +7,5 @@ pub mod Choice
 pub mod Missing
 pub mod Obeying
 pub mod Passes
+-- Atoms laid out in one array.
+pub mod Laying

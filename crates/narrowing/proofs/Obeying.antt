@@ -11,14 +11,11 @@ use Rattle.placing.specs.Net.{Net, Range, Normal}
 use Rattle.placing.specs.Placing.{Placing, cellAt, atomTo, linkTo, Good}
 use Rattle.network.specs.NetIn.{netIn, atomAt, Fit}
 use Rattle.network.proofs.NetIn.{atoms-length}
-use Rattle.narrowing.specs.Sets.{Decided, by-atom, Obeys, Keeps}
+use Rattle.narrowing.specs.Sets.{Decided, by-atom, Obeys}
 use Rattle.narrowing.specs.Tables.{mayAtom, mayLink, Stays}
-use Rattle.narrowing.specs.Steps.{linkOf, Fitting, GivenRow, Narrowed}
+use Rattle.narrowing.specs.Steps.{linkOf, Fitting, GivenRow}
 use Rattle.narrowing.proofs.GoodPlaces.{place-count, place-sent, place-member, decided-real, decided-link}
 use Rattle.narrowing.proofs.NetRows.{atom-count, atom-link}
-
-pub narrowed-keeps : (sheet figure : NormalForm) (a l b k : List ℕ) → Narrowed sheet figure a l b k → (pre : List ℕ) → Keeps (netIn sheet) (netIn figure) pre (mayAtom a) (mayLink l) → Keeps (netIn sheet) (netIn figure) pre (mayAtom b) (mayLink l)
-narrowed-keeps sheet figure a l b k n pre h p g s = let o = h p g s in record { atoms = n p g o .atoms; links = o .links }
 
 module _ (sheet figure : NormalForm) (fs : Fit sheet) (ff : Fit figure) (NS : Normal (netIn sheet)) (NF : Normal (netIn figure)) (p : Placing) (g : Good (netIn sheet) (netIn figure) p) where
   abbrev S : Net
@@ -69,18 +66,18 @@ module _ (sheet figure : NormalForm) (fs : Fit sheet) (ff : Fit figure) (NS : No
       links = λ k h. subst (mayLink l (linkOf (atomAt figure (i - 1)) k)) (sym (link-sent i k r h)) (o .links (linkOf (atomAt figure (i - 1)) k) (link-decided i k r h));
     }
 
-    given-at : (x : ℕ) → Decided F x → (i : ℕ) → Range (length (F .atoms)) i → GivenRow sheet (atomAt figure (i - 1)) a (i - 1) (x - 1) (linkTo p x - 1)
+    given-at : (x : ℕ) → Decided F x → (i : ℕ) → Range (length (F .atoms)) i → GivenRow (atomAt sheet) (sheet .«atom_count») (atomAt figure (i - 1)) a (i - 1) (x - 1) (linkTo p x - 1)
     given-at x d i r k h e =
         let w = decided-link S F NS NF p g x d in
         let u = decided-real S F NS NF p g x d in
         let q : linkOf (atomAt figure (i - 1)) k ≡ x = omega (arith, e, w .0) in
         (atomTo p i - 1, record { sheet-atom = there-index i r; may = o .atoms i r; place = omega (arith, h, same-count i r); there = omega (arith, link-sent i k r h, ap (linkTo p) q, u .0) })
 
-    given : (x : ℕ) → Decided F x → (i : ℕ) → i < figure .«atom_count» → GivenRow sheet (atomAt figure i) a i (x - 1) (linkTo p x - 1)
-    given x d i h = subst (λ (j : ℕ). GivenRow sheet (atomAt figure j) a j (x - 1) (linkTo p x - 1)) (row-place i) (given-at x d (suc i) (row-range i h))
+    given : (x : ℕ) → Decided F x → (i : ℕ) → i < figure .«atom_count» → GivenRow (atomAt sheet) (sheet .«atom_count») (atomAt figure i) a i (x - 1) (linkTo p x - 1)
+    given x d i h = subst (λ (j : ℕ). GivenRow (atomAt sheet) (sheet .«atom_count») (atomAt figure j) a j (x - 1) (linkTo p x - 1)) (row-place i) (given-at x d (suc i) (row-range i h))
 
     pub atoms-obeyed : (b : List ℕ) → Stays sheetAtoms a b (λ i t. i < figure .«atom_count» → t < sheet .«atom_count» → Fitting (atomAt figure i) (atomAt sheet t) l) → Obeys S F (mayAtom b) (mayLink l) p
     atoms-obeyed b s = record { atoms = λ i r. s (i - 1) (atomTo p i - 1) (omega (arith, there-index i r, fs .atom-count)) (o .atoms i r) (λ x y. fitting i r); links = o .links }
 
-    pub links-obeyed : (k : List ℕ) → Stays sheetLinks l k (λ z y. (i : ℕ) → i < figure .«atom_count» → GivenRow sheet (atomAt figure i) a i z y) → Obeys S F (mayAtom a) (mayLink k) p
+    pub links-obeyed : (k : List ℕ) → Stays sheetLinks l k (λ z y. (i : ℕ) → i < figure .«atom_count» → GivenRow (atomAt sheet) (sheet .«atom_count») (atomAt figure i) a i z y) → Obeys S F (mayAtom a) (mayLink k) p
     links-obeyed k s = record { atoms = o .atoms; links = λ x d. s (x - 1) (linkTo p x - 1) (omega (arith, link-place x d, fs .class-count)) (o .links x d) (given x d) }

@@ -19,7 +19,7 @@ use Rattle.narrowing.proofs.Obeying.{there-index, row-range, row-place,
 
 module _ (sheet figure : NormalForm) (fs : Fit sheet) (ff : Fit figure) (NS : Normal (netIn sheet)) (NF : Normal (netIn figure)) where
   -- one figure atom by its links, then these by it
-  pub visit-narrowed : (a₀ l₀ a l b k : List ℕ) (i : ℕ) → i < figure .«atom_count» → Narrowed sheet figure a₀ l₀ a l → Visited sheet (atomAt figure i) i a l b k → Narrowed sheet figure a₀ l₀ b k
+  pub visit-narrowed : (a₀ l₀ a l b k : List ℕ) (i : ℕ) → i < figure .«atom_count» → Narrowed sheet figure a₀ l₀ a l → Visited (atomAt sheet) (sheet .«atom_count») (atomAt figure i) i a l b k → Narrowed sheet figure a₀ l₀ b k
   visit-narrowed a₀ l₀ a l b k i h n v p g o =
       links-obeyed sheet figure fs ff NS NF p g b l (atoms-obeyed sheet figure fs ff NS NF p g a l (n p g o) b
       (stays-more sheetAtoms a b _ (v .atoms) _ (λ j t q f e m. subst (λ (z : ℕ). Fitting (atomAt figure z) (atomAt sheet t) l) e (f (omega (arith, e, h)) m)))) k

@@ -1,19 +1,23 @@
 // Sheet links that no sheet atom left for a figure atom has.
-use crate::Sets;
+use crate::ATOM_PAIRS;
+use crate::LAID;
+use crate::LINK_PAIRS;
+use crate::PLACES;
+use crate::laid::laid_atom;
 use rows::Atom;
 use rows::Sheet;
-use sheet::normal::Normal;
 ghost use mathlib.Core.Path.{_≡_};
 ghost use Prim.Native.Nat.{ℕ, _-_, _<_};
 ghost use Rattle.rows.specs.Format.{mostLinks};
 ghost use Rattle.rows.specs.Limits.{sheetAtoms, sheetLinks};
 ghost use Rattle.placing.specs.Net.{Range};
-ghost use Rattle.network.specs.NetIn.{Fit, Used};
+ghost use Rattle.network.specs.NetIn.{Used};
+ghost use Rattle.narrowing.specs.Laid.{laidAtom, Rowed};
 ghost use Rattle.narrowing.specs.Tables.{Cleared, Stays, StaysCleared};
 ghost use Rattle.narrowing.specs.Steps.{linkOf, Given, GivenRow};
 
 // 0 at each place and link of a sheet atom.
-fn clear_links(there: Atom, missing: &mut [u8; Sets::PLACES])
+fn clear_links(there: Atom, missing: &mut [u8; PLACES])
     requires { ⌜ Used sheetLinks (there .count) (there .links) ⌝ }
     ensures kept { λ _. ⌜ StaysCleared (now (missing .entry)) (now (missing .exit)) ⌝ }
     ensures cleared { λ _. ⌜ ((k : ℕ) → k < there .count → Cleared sheetLinks (now (missing .exit)) k (linkOf there k - 1)) ⌝ }
@@ -28,15 +32,15 @@ fn clear_links(there: Atom, missing: &mut [u8; Sets::PLACES])
 }
 
 // 0 at the places and links of the sheet atoms that figure atom i may go to, and 1 elsewhere.
-fn missing_links(sheet: Normal, i: usize, atoms: &[u8; Sets::ATOM_PAIRS]) -> [u8; Sets::PLACES]
-    requires { ⌜ Fit sheet × (i < sheetAtoms) ⌝ }
-    ensures { λ r. ⌜ ((k y : ℕ) → Given sheet (now (atoms .entry)) i k y → Cleared sheetLinks r k y) ⌝ }
+fn missing_links(sheet: &[u16; LAID], n: usize, i: usize, atoms: &[u8; ATOM_PAIRS]) -> [u8; PLACES]
+    requires { ⌜ Rowed (now sheet) n × (i < sheetAtoms) ⌝ }
+    ensures { λ r. ⌜ ((k y : ℕ) → Given (laidAtom (now (sheet .entry))) n (now (atoms .entry)) i k y → Cleared sheetLinks r k y) ⌝ }
 {
-    let mut missing = [1u8; Sets::PLACES];
+    let mut missing = [1u8; PLACES];
     let mut t = 0;
-    while t < sheet.atom_count {
+    while t < n {
         if atoms[i * Sheet::ATOMS + t] == 1 {
-            let there = sheet.atoms[t];
+            let there = laid_atom(sheet, t);
             clear_links(there, &mut missing);
         }
         t += 1;
@@ -45,12 +49,7 @@ fn missing_links(sheet: Normal, i: usize, atoms: &[u8; Sets::ATOM_PAIRS]) -> [u8
 }
 
 // What is missing at place k is taken out of the row of figure link x. Whether anything was.
-fn drop_missing(
-    x: usize,
-    k: usize,
-    missing: &[u8; Sets::PLACES],
-    links: &mut [u8; Sets::LINK_PAIRS],
-) -> bool
+fn drop_missing(x: usize, k: usize, missing: &[u8; PLACES], links: &mut [u8; LINK_PAIRS]) -> bool
     requires { ⌜ Range sheetLinks x × (k < mostLinks) ⌝ }
     ensures { λ _. ⌜ Stays sheetLinks (now (links .entry)) (now (links .exit)) (λ z y. z ≡ x - 1 → Cleared sheetLinks (now (missing .entry)) k y) ⌝ }
 {
@@ -74,19 +73,20 @@ fn drop_missing(
 
 // The rows of the links of `here`, which is figure atom i. The pass is noted for each that got smaller.
 pub(crate) fn narrow_places(
-    sheet: Normal,
+    sheet: &[u16; LAID],
+    n: usize,
     here: Atom,
     i: usize,
     pass: usize,
-    atoms: &[u8; Sets::ATOM_PAIRS],
-    links: &mut [u8; Sets::LINK_PAIRS],
+    atoms: &[u8; ATOM_PAIRS],
+    links: &mut [u8; LINK_PAIRS],
     changes: &mut [usize; Sheet::LINKS],
 )
-    requires { ⌜ Fit sheet × Used sheetLinks (here .count) (here .links) × (i < sheetAtoms) ⌝ }
-    ensures { λ _. ⌜ Stays sheetLinks (now (links .entry)) (now (links .exit)) (GivenRow sheet here (now (atoms .entry)) i) ⌝ }
+    requires { ⌜ Rowed (now sheet) n × Used sheetLinks (here .count) (here .links) × (i < sheetAtoms) ⌝ }
+    ensures { λ _. ⌜ Stays sheetLinks (now (links .entry)) (now (links .exit)) (GivenRow (laidAtom (now (sheet .entry))) n here (now (atoms .entry)) i) ⌝ }
 {
     let count = here.count as usize;
-    let missing = missing_links(sheet, i, atoms);
+    let missing = missing_links(sheet, n, i, atoms);
     let mut k = 0;
     while k < count {
         let x = here.links[k] as usize;

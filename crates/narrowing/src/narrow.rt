@@ -1,59 +1,58 @@
-// Narrowing until nothing changes, and the question whether there is hope.
-use crate::Sets;
-use crate::empty::atom_lost;
-use crate::empty::mark_lost;
+// Narrowing until nothing changes.
+use crate::ATOM_PAIRS;
+use crate::LAID;
+use crate::LINK_PAIRS;
 use crate::sweep::changed;
 use crate::sweep::sweep;
 use rows::Sheet;
-use sheet::normal::Normal;
 ghost use mathlib.Core.Path.{_≡_};
 ghost use mathlib.Core.Bool.{true};
-ghost use mathlib.Core.List.{List};
-ghost use Prim.Native.Nat.{ℕ};
-ghost use Rattle.placing.specs.Net.{Normal as NormalNet};
-ghost use Rattle.network.specs.Begun.{Begun};
-ghost use Rattle.network.specs.NetIn.{netIn, Fit};
-ghost use Rattle.narrowing.specs.Sets.{Keeps};
-ghost use Rattle.narrowing.specs.Tables.{mayAtom, mayLink};
+ghost use Prim.Native.Nat.{ℕ, _<_};
+ghost use Rattle.rows.specs.Limits.{sheetAtoms};
+ghost use Rattle.narrowing.specs.Laid.{Rowed};
+ghost use Rattle.narrowing.specs.Tables.{Blank};
+ghost use Rattle.narrowing.specs.Steps.{NarrowedBy};
 
-// Atoms by links and links by atoms, until no row changes or one is empty. A pass that changes
-// a row takes at least one pair out, so there are never more passes than pairs.
-pub fn narrow(
-    sheet: Normal,
-    figure: Normal,
-    links: &[u8; Sets::LINK_PAIRS],
-    atoms: &mut [u8; Sets::ATOM_PAIRS],
-)
-    requires { ⌜ Fit sheet × Fit figure × NormalNet (netIn sheet) × NormalNet (netIn figure) ⌝ }
-    ensures { λ _. ⌜ ((pre : List ℕ) → Keeps (netIn sheet) (netIn figure) pre (mayAtom (now (atoms .entry))) (mayLink (now (links .entry))) → Keeps (netIn sheet) (netIn figure) pre (mayAtom (now (atoms .exit))) (mayLink (now (links .entry)))) ⌝ }
+// Atoms by links and links by atoms, from the atoms that are due on, until no row changes or one is
+// empty. Whether one is. A pass that changes a row takes at least one pair out, so there are never more
+// passes than pairs.
+pub fn narrow<'a>(
+    sheet: &'a [u16; LAID],
+    n: usize,
+    figure: &'a [u16; LAID],
+    m: usize,
+    first: &'a [u8; Sheet::ATOMS],
+    atoms: &mut [u8; ATOM_PAIRS],
+    links: &mut [u8; LINK_PAIRS],
+) -> bool
+    requires { ⌜ Rowed (now sheet) n × Rowed (now figure) m ⌝ }
+    ensures narrowed { λ _. ⌜ NarrowedBy (now (sheet .entry)) n (now (figure .entry)) m (now (atoms .entry)) (now (links .entry)) (now (atoms .exit)) (now (links .exit)) ⌝ }
+    ensures empty { λ r. ⌜ (r ≡ true → (i : ℕ) × (i < m) × Blank sheetAtoms (now (atoms .exit)) i n) ⌝ }
 {
-    let mut rows = *links;
-    let mut changes = [Sets::ATOM_PAIRS; Sheet::LINKS];
-    let mut left = Sets::ATOM_PAIRS;
+    let mut due = *first;
+    let mut changes = [ATOM_PAIRS + 1; Sheet::LINKS];
+    let mut left = ATOM_PAIRS;
     while left > 0 {
         let before = left;
         left -= 1;
-        if sweep(sheet, figure, before, left, atoms, &mut rows, &mut changes) {
-            return;
+        if sweep(
+            sheet,
+            n,
+            figure,
+            m,
+            &due,
+            before,
+            left,
+            atoms,
+            links,
+            &mut changes,
+        ) {
+            return true;
         }
         if !changed(left, &changes) {
-            return;
+            return false;
         }
+        due = [0; Sheet::ATOMS];
     }
-}
-
-// Whether some figure atom or some marked figure link may go nowhere.
-pub fn hopeless<'a>(
-    sheet: Normal,
-    figure: Normal,
-    atoms: &'a [u8; Sets::ATOM_PAIRS],
-    links: &'a [u8; Sets::LINK_PAIRS],
-) -> bool
-    requires { ⌜ Fit sheet × Fit figure × NormalNet (netIn sheet) × NormalNet (netIn figure) ⌝ }
-    ensures { λ r. ⌜ (r ≡ true → (pre : List ℕ) → Keeps (netIn sheet) (netIn figure) pre (mayAtom (now (atoms .entry))) (mayLink (now (links .entry))) → ¬ Begun (netIn sheet) (netIn figure) pre) ⌝ }
-{
-    if atom_lost(sheet, figure, atoms) {
-        return true;
-    }
-    mark_lost(sheet, figure, links)
+    false
 }

@@ -1,21 +1,29 @@
 // One pass over the figure atoms, each of which uses at once what the ones before it found.
-use crate::Sets;
+use crate::ATOM_PAIRS;
+use crate::LAID;
+use crate::LINK_PAIRS;
 use crate::empty::no_atom;
 use crate::fit::narrow_row;
+use crate::laid::laid_atom;
 use crate::links::narrow_places;
 use rows::Atom;
 use rows::Sheet;
-use sheet::normal::Normal;
-ghost use Prim.Native.Nat.{_<_};
+ghost use mathlib.Core.Path.{_≡_};
+ghost use mathlib.Core.Bool.{true};
+ghost use Prim.Native.Nat.{ℕ, _<_};
 ghost use Rattle.rows.specs.Limits.{sheetAtoms, sheetLinks};
-ghost use Rattle.placing.specs.Net.{Normal as NormalNet};
-ghost use Rattle.network.specs.NetIn.{netIn, Fit, Used};
-ghost use Rattle.narrowing.specs.Steps.{Visited, Narrowed};
+ghost use Rattle.network.specs.NetIn.{Used};
+ghost use Rattle.narrowing.specs.Laid.{laidAtom, Rowed};
+ghost use Rattle.narrowing.specs.Tables.{Blank};
+ghost use Rattle.narrowing.specs.Steps.{Visited, NarrowedBy};
 
-// Whether the row of one of an atom's links got smaller since the pass `before`.
-fn touched(here: Atom, before: usize, changes: &[usize; Sheet::LINKS]) -> bool
+// Whether an atom is due, or the row of one of its links got smaller since the pass `before`.
+fn touched(here: Atom, due: bool, before: usize, changes: &[usize; Sheet::LINKS]) -> bool
     requires { ⌜ Used sheetLinks (here .count) (here .links) ⌝ }
 {
+    if due {
+        return true;
+    }
     let count = here.count as usize;
     let mut k = 0;
     while k < count {
@@ -30,44 +38,53 @@ fn touched(here: Atom, before: usize, changes: &[usize; Sheet::LINKS]) -> bool
 
 // The row of figure atom i by those of its links, then these by that one. Whether the row is empty.
 fn visit(
-    sheet: Normal,
+    sheet: &[u16; LAID],
+    n: usize,
     here: Atom,
     i: usize,
     pass: usize,
-    forced: bool,
-    atoms: &mut [u8; Sets::ATOM_PAIRS],
-    links: &mut [u8; Sets::LINK_PAIRS],
+    due: bool,
+    atoms: &mut [u8; ATOM_PAIRS],
+    links: &mut [u8; LINK_PAIRS],
     changes: &mut [usize; Sheet::LINKS],
 ) -> bool
-    requires { ⌜ Fit sheet × Used sheetLinks (here .count) (here .links) × (i < sheetAtoms) ⌝ }
-    ensures { λ _. ⌜ Visited sheet here i (now (atoms .entry)) (now (links .entry)) (now (atoms .exit)) (now (links .exit)) ⌝ }
+    requires { ⌜ Rowed (now sheet) n × Used sheetLinks (here .count) (here .links) × (i < sheetAtoms) ⌝ }
+    ensures visited { λ _. ⌜ Visited (laidAtom (now (sheet .entry))) n here i (now (atoms .entry)) (now (links .entry)) (now (atoms .exit)) (now (links .exit)) ⌝ }
+    ensures empty { λ r. ⌜ (r ≡ true → Blank sheetAtoms (now (atoms .exit)) i n) ⌝ }
 {
-    if narrow_row(sheet, here, i, forced, atoms, links) {
-        narrow_places(sheet, here, i, pass, atoms, links, changes);
-        return no_atom(atoms, i, sheet.atom_count);
+    if here.count == 0 {
+        return no_atom(atoms, i, n);
+    }
+    if narrow_row(sheet, n, here, i, due, atoms, links) {
+        narrow_places(sheet, n, here, i, pass, atoms, links, changes);
+        return no_atom(atoms, i, n);
     }
     false
 }
 
-// Every figure atom with a link whose row got smaller. Whether an atom's row is empty.
-pub(crate) fn sweep(
-    sheet: Normal,
-    figure: Normal,
+// Every figure atom that is due or has a link whose row got smaller. Whether an atom's row is empty.
+pub(crate) fn sweep<'a>(
+    sheet: &'a [u16; LAID],
+    n: usize,
+    figure: &'a [u16; LAID],
+    m: usize,
+    due: &'a [u8; Sheet::ATOMS],
     before: usize,
     pass: usize,
-    atoms: &mut [u8; Sets::ATOM_PAIRS],
-    links: &mut [u8; Sets::LINK_PAIRS],
+    atoms: &mut [u8; ATOM_PAIRS],
+    links: &mut [u8; LINK_PAIRS],
     changes: &mut [usize; Sheet::LINKS],
 ) -> bool
-    requires { ⌜ Fit sheet × Fit figure × NormalNet (netIn sheet) × NormalNet (netIn figure) ⌝ }
-    ensures { λ _. ⌜ Narrowed sheet figure (now (atoms .entry)) (now (links .entry)) (now (atoms .exit)) (now (links .exit)) ⌝ }
+    requires { ⌜ Rowed (now sheet) n × Rowed (now figure) m ⌝ }
+    ensures narrowed { λ _. ⌜ NarrowedBy (now (sheet .entry)) n (now (figure .entry)) m (now (atoms .entry)) (now (links .entry)) (now (atoms .exit)) (now (links .exit)) ⌝ }
+    ensures empty { λ r. ⌜ (r ≡ true → (i : ℕ) × (i < m) × Blank sheetAtoms (now (atoms .exit)) i n) ⌝ }
 {
-    let forced = before == Sets::ATOM_PAIRS;
     let mut i = 0;
-    while i < figure.atom_count {
-        let here = figure.atoms[i];
-        if touched(here, before, changes) {
-            if visit(sheet, here, i, pass, forced, atoms, links, changes) {
+    while i < m {
+        let here = laid_atom(figure, i);
+        let first = due[i] == 1;
+        if touched(here, first, before, changes) {
+            if visit(sheet, n, here, i, pass, first, atoms, links, changes) {
                 return true;
             }
         }

@@ -1,14 +1,13 @@
 -- The arrays that a search works on.
-use Prim.Native.Nat.{ℕ, suc, _*_, _+_, _<_}
+use Prim.Native.Nat.{ℕ, suc, _<_}
 use mathlib.Core.Path.{_≡_}
 use mathlib.Core.Logic.{_↔_}
 use mathlib.Core.List.{List, []}
 use lib.ListN.{length, take, getD}
-use Rattle.hyperlmntal.specs.Link.{_∈_}
 use Rattle.rows.specs.Limits.{sheetAtoms, sheetLinks}
 use Rattle.sheet.specs.declared.normal.Normal as form
 use Rattle.placing.specs.Net.{Range, Normal}
-use Rattle.placing.specs.Placing.{Placing, numberAt, cellAt, Taken}
+use Rattle.placing.specs.Placing.{Placing, numberAt, Taken}
 use Rattle.network.specs.NetIn.{netIn, Fit}
 
 -- a sheet and a figure in normal form, within the limits of a sheet
@@ -40,8 +39,3 @@ Flag l i = numberAt l i ≡ 1
 pub record TakenIn (sheet figure : form.Normal) (q : Placing) (l : List ℕ) : Type 0 where
   pub room : length l ≡ sheetAtoms
   pub flags : (j : ℕ) → Range (sheet .«atom_count») j → Flag l j ↔ Taken (netIn sheet) (netIn figure) q j
-
--- 1 at each link y and atom j, both from 0, where the atom stands on the link
-pub record TouchesIn (sheet : form.Normal) (l : List ℕ) : Type 0 where
-  pub room : length l ≡ sheetLinks * sheetAtoms
-  pub flags : (y j : ℕ) → y < sheet .«class_count» → j < sheet .«atom_count» → (getD l (y * sheetAtoms + j) 0 ≡ 1) ↔ (suc y ∈ (cellAt (netIn sheet .atoms) (suc j)) .1)

@@ -12,9 +12,7 @@ use lib.Seq.{drop-cons, length-take-le, getD-take}
 use Rattle.rows.specs.Pick.{pick}
 use Rattle.rows.specs.declared.Atom.{Atom}
 use Rattle.rows.specs.declared.Context.{Context}
-use Rattle.rows.specs.declared.Sheet.{Sheet}
-use Rattle.numbering.specs.Numbering.{labelAt, withClass, withClasses, linkLabels, atomLabels, contextLabels}
-use Rattle.numbering.specs.declared.classes.Numbering.{Numbering}
+use Rattle.numbering.specs.Numbering.{Numbering, withClass, withClasses, linkLabels, atomLabels, contextLabels}
 
 abbrev pub nextClass : Numbering → ℕ → Numbering
 nextClass n c = record { numbers = set (n .numbers) c (n .count + 1); count = n .count + 1 }
@@ -41,9 +39,9 @@ unfolding withClasses
 with-classes-count n [] = omega arith
 with-classes-count n (c ∷ l) = omega (arith, with-class-count n c, with-classes-count (withClass n c) l)
 
-pub with-links-count : (n : Numbering) (s : Sheet) (count : ℕ) (links : List ℕ) → withClasses n (linkLabels s count links) .count ≤ n .count + count
-with-links-count n s count links =
-    omega (arith, with-classes-count n (linkLabels s count links), length-map (take count links) (labelAt s), length-take count links)
+pub with-links-count : (n : Numbering) (f : ℕ → ℕ) (count : ℕ) (links : List ℕ) → withClasses n (linkLabels f count links) .count ≤ n .count + count
+with-links-count n f count links =
+    omega (arith, with-classes-count n (linkLabels f count links), length-map (take count links) f, length-take count links)
 
 pub with-classes-append : (n : Numbering) (l k : List ℕ) → withClasses n (l ++ k) ≡ withClasses (withClasses n l) k
 unfolding withClasses
@@ -78,22 +76,22 @@ module _ (f : ℕ → ℕ) (l : List ℕ) (count k : ℕ) (n : Numbering) where
   unfolding withClasses
   classes-end h = rw (part-end l count k h)
 
-module _ (s : Sheet) (l : List Atom) (count i : ℕ) (n : Numbering) where
+module _ (f : ℕ → ℕ) (l : List Atom) (count i : ℕ) (n : Numbering) where
   pub atoms-next : (d : Atom) → count ≤ length l → i < count
-      → withClasses n (atomLabels s (drop i (take count l))) ≡ withClasses (withClasses n (linkLabels s (getD l i d .count) (getD l i d .links))) (atomLabels s (drop (i + 1) (take count l)))
+      → withClasses n (atomLabels f (drop i (take count l))) ≡ withClasses (withClasses n (linkLabels f (getD l i d .count) (getD l i d .links))) (atomLabels f (drop (i + 1) (take count l)))
   unfolding atomLabels
-  atoms-next d fits h = rw (part-cons l count i d fits h) (with-classes-append n (linkLabels s (getD l i d .count) (getD l i d .links)) (atomLabels s (drop (i + 1) (take count l))))
+  atoms-next d fits h = rw (part-cons l count i d fits h) (with-classes-append n (linkLabels f (getD l i d .count) (getD l i d .links)) (atomLabels f (drop (i + 1) (take count l))))
 
-  pub atoms-end : count ≤ i → withClasses n (atomLabels s (drop i (take count l))) ≡ n
+  pub atoms-end : count ≤ i → withClasses n (atomLabels f (drop i (take count l))) ≡ n
   unfolding atomLabels withClasses
   atoms-end h = rw (part-end l count i h)
 
-module _ (s : Sheet) (l : List Context) (count i : ℕ) (n : Numbering) where
+module _ (f : ℕ → ℕ) (l : List Context) (count i : ℕ) (n : Numbering) where
   pub contexts-next : (d : Context) → count ≤ length l → i < count
-      → withClasses n (contextLabels s (drop i (take count l))) ≡ withClasses (withClasses n (linkLabels s (getD l i d .count) (getD l i d .links))) (contextLabels s (drop (i + 1) (take count l)))
+      → withClasses n (contextLabels f (drop i (take count l))) ≡ withClasses (withClasses n (linkLabels f (getD l i d .count) (getD l i d .links))) (contextLabels f (drop (i + 1) (take count l)))
   unfolding contextLabels
-  contexts-next d fits h = rw (part-cons l count i d fits h) (with-classes-append n (linkLabels s (getD l i d .count) (getD l i d .links)) (contextLabels s (drop (i + 1) (take count l))))
+  contexts-next d fits h = rw (part-cons l count i d fits h) (with-classes-append n (linkLabels f (getD l i d .count) (getD l i d .links)) (contextLabels f (drop (i + 1) (take count l))))
 
-  pub contexts-end : count ≤ i → withClasses n (contextLabels s (drop i (take count l))) ≡ n
+  pub contexts-end : count ≤ i → withClasses n (contextLabels f (drop i (take count l))) ≡ n
   unfolding contextLabels withClasses
   contexts-end h = rw (part-end l count i h)

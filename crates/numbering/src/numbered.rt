@@ -1,92 +1,89 @@
-// A sheet's atoms, contexts and marks with the numbers of their link classes.
-use crate::classes::Numbering;
-use crate::labels::label_of;
+// A text's atoms, contexts and marks with the numbers of their link classes.
+use crate::classes::ROOM;
+use crate::classes::number_class;
+use crate::classes::number_links;
 use crate::labels::mark_label;
 use rows::Atom;
 use rows::Context;
 use rows::Sheet;
 ghost use mathlib.Core.Path.{_≡_};
-ghost use mathlib.Core.List.{_++_, map};
-ghost use Prim.Native.Nat.{_≤_};
+ghost use mathlib.Core.List.{List, [], _++_, map};
+ghost use Prim.Native.Nat.{ℕ, _+_, _*_, _≤_};
 ghost use lib.ListN.{length, take, drop, getD};
 ghost use Rattle.rows.specs.Format.{mostLinks};
-ghost use Rattle.rows.specs.Limits.{fillingLinks};
-ghost use Rattle.rows.specs.Packed.{padded};
-ghost use Rattle.numbering.specs.Numbering.{Numberable, Labels, labelIn, atomBy, contextBy, marksBy};
+ghost use Rattle.rows.specs.Limits.{sheetAtoms, figureContexts, sheetMarks};
+ghost use Rattle.numbering.specs.Numbering.{Labels, MarkLabels, numbering, labelIn, markLabelIn, withClasses, atomLabels, contextLabels, atomBy, contextBy, marksBy};
 
-// The numbers of the classes of the first `count` links.
-fn numbered_links<'a>(
-    numbers: &[u16],
+pub fn numbered_atoms<'a>(
+    numbers: &mut [u16; ROOM],
+    count: &mut usize,
     links: &'a [u16],
     classes: &'a [u16],
     n: usize,
-    ports: [u16; Sheet::MOST_LINKS],
-    count: usize,
-) -> [u16; Sheet::MOST_LINKS]
-    requires { ⌜ Labels (now links) (now classes) n × (count ≤ mostLinks) × (fillingLinks ≤ length (now numbers)) ⌝ }
-    ensures { λ r. ⌜ r ≡ padded mostLinks 0 (map (λ x. getD (now (numbers .entry)) (labelIn (now (links .entry)) (now (classes .entry)) n x) 0) (take count ports)) ⌝ }
+    mut atoms: [Atom; Sheet::ATOM_ROOM],
+    atom_count: usize,
+) -> [Atom; Sheet::ATOM_ROOM]
+    requires { ⌜ Labels (now links) (now classes) n × («atom_count» ≤ sheetAtoms) × (now count + mostLinks * «atom_count» ≤ 1000) ⌝ }
+    requires { ⌜ ((i : ℕ) → getD atoms i (record { name = 0; count = 0; links = [] }) .count ≤ mostLinks) ⌝ }
+    ensures { λ _. ⌜ numbering (now (numbers .exit)) (now (count .exit)) ≡ withClasses (numbering (now (numbers .entry)) (now (count .entry))) (atomLabels (labelIn (now (links .entry)) (now (classes .entry)) n) (take «atom_count» atoms)) ⌝ }
+    ensures { λ _. ⌜ now (count .exit) ≤ now (count .entry) + mostLinks * «atom_count» ⌝ }
+    ensures { λ r. ⌜ ((later : List ℕ) → r ≡ map (atomBy (withClasses (numbering (now (numbers .exit)) (now (count .exit))) later .numbers) (labelIn (now (links .entry)) (now (classes .entry)) n)) (take «atom_count» atoms) ++ drop «atom_count» atoms) ⌝ }
 {
-    let mut numbered = [0u16; Sheet::MOST_LINKS];
-    let mut k = 0;
-    while k < count {
-        let label = label_of(links, classes, n, ports[k]);
-        numbered[k] = numbers[label];
-        k += 1;
-    }
-    numbered
-}
-
-pub fn numbered_atoms(numbers: [u16; Numbering::ROOM], sheet: Sheet) -> [Atom; Sheet::ATOM_ROOM]
-    requires { ⌜ Numberable sheet ⌝ }
-    ensures { λ r. ⌜ r ≡ map (atomBy numbers sheet) (take (sheet .«atom_count») (sheet .atoms)) ++ drop (sheet .«atom_count») (sheet .atoms) ⌝ }
-{
-    let mut atoms = sheet.atoms;
     let mut i = 0;
-    while i < sheet.atom_count {
-        let atom = sheet.atoms[i];
-        let before = atom.links;
-        let numbered = numbered_links(
-            &numbers,
-            &sheet.links,
-            &sheet.classes,
-            sheet.link_count,
-            before,
+    while i < atom_count {
+        let atom = atoms[i];
+        let ports = atom.links;
+        let link_numbers = number_links(
+            numbers,
+            count,
+            links,
+            classes,
+            n,
+            ports,
             atom.count as usize,
         );
         atoms[i] = Atom {
             name: atom.name,
             count: atom.count,
-            links: numbered,
+            links: link_numbers,
         };
         i += 1;
     }
     atoms
 }
 
-pub fn numbered_contexts(
-    numbers: [u16; Numbering::ROOM],
-    sheet: Sheet,
+pub fn numbered_contexts<'a>(
+    numbers: &mut [u16; ROOM],
+    count: &mut usize,
+    links: &'a [u16],
+    classes: &'a [u16],
+    n: usize,
+    mut contexts: [Context; Sheet::CONTEXT_ROOM],
+    context_count: usize,
 ) -> [Context; Sheet::CONTEXT_ROOM]
-    requires { ⌜ Numberable sheet ⌝ }
-    ensures { λ r. ⌜ r ≡ map (contextBy numbers sheet) (take (sheet .«context_count») (sheet .contexts)) ++ drop (sheet .«context_count») (sheet .contexts) ⌝ }
+    requires { ⌜ Labels (now links) (now classes) n × («context_count» ≤ figureContexts) × (now count + mostLinks * «context_count» ≤ 1000) ⌝ }
+    requires { ⌜ ((i : ℕ) → getD contexts i (record { number = 0; count = 0; links = []; row = 0 }) .count ≤ mostLinks) ⌝ }
+    ensures { λ _. ⌜ numbering (now (numbers .exit)) (now (count .exit)) ≡ withClasses (numbering (now (numbers .entry)) (now (count .entry))) (contextLabels (labelIn (now (links .entry)) (now (classes .entry)) n) (take «context_count» contexts)) ⌝ }
+    ensures { λ _. ⌜ now (count .exit) ≤ now (count .entry) + mostLinks * «context_count» ⌝ }
+    ensures { λ r. ⌜ ((later : List ℕ) → r ≡ map (contextBy (withClasses (numbering (now (numbers .exit)) (now (count .exit))) later .numbers) (labelIn (now (links .entry)) (now (classes .entry)) n)) (take «context_count» contexts) ++ drop «context_count» contexts) ⌝ }
 {
-    let mut contexts = sheet.contexts;
     let mut i = 0;
-    while i < sheet.context_count {
-        let context = sheet.contexts[i];
-        let before = context.links;
-        let links = numbered_links(
-            &numbers,
-            &sheet.links,
-            &sheet.classes,
-            sheet.link_count,
-            before,
+    while i < context_count {
+        let context = contexts[i];
+        let ports = context.links;
+        let port_numbers = number_links(
+            numbers,
+            count,
+            links,
+            classes,
+            n,
+            ports,
             context.count as usize,
         );
         contexts[i] = Context {
             number: context.number,
             count: context.count,
-            links,
+            links: port_numbers,
             row: context.row,
         };
         i += 1;
@@ -94,27 +91,26 @@ pub fn numbered_contexts(
     contexts
 }
 
-// The numbers of the classes of these marks, as many as the sheet has.
-pub fn numbered_marks(
-    numbers: [u16; Numbering::ROOM],
-    sheet: Sheet,
-    marks: [u16; Sheet::MARK_ROOM],
+// The numbers of the classes of these marks, as many as there are.
+pub fn numbered_marks<'a>(
+    numbers: &mut [u16; ROOM],
+    count: &mut usize,
+    marks: &'a [u16],
+    marked: &'a [u16],
+    classes: &'a [u16],
+    n: usize,
+    ascending: &'a [u16],
 ) -> [u16; Sheet::MARK_ROOM]
-    requires { ⌜ Numberable sheet ⌝ }
-    ensures { λ r. ⌜ r ≡ marksBy numbers sheet (take (sheet .«mark_count») marks) ⌝ }
+    requires { ⌜ MarkLabels (now marks) (now marked) (now classes) n × (n ≤ sheetMarks) × (n ≤ length (now ascending)) × (now count + n ≤ 1000) ⌝ }
+    ensures { λ _. ⌜ numbering (now (numbers .exit)) (now (count .exit)) ≡ withClasses (numbering (now (numbers .entry)) (now (count .entry))) (map (markLabelIn (now (marks .entry)) (now (marked .entry)) (now (classes .entry)) n) (take n (now (ascending .entry)))) ⌝ }
+    ensures { λ r. ⌜ r ≡ marksBy (now (numbers .exit)) (markLabelIn (now (marks .entry)) (now (marked .entry)) (now (classes .entry)) n) (take n (now (ascending .entry))) ⌝ }
 {
-    let mut marked = [0u16; Sheet::MARK_ROOM];
+    let mut numbered = [0u16; Sheet::MARK_ROOM];
     let mut i = 0;
-    while i < sheet.mark_count {
-        let label = mark_label(
-            &sheet.marks,
-            &sheet.marked,
-            &sheet.classes,
-            sheet.mark_count,
-            marks[i],
-        );
-        marked[i] = numbers[label];
+    while i < n {
+        let label = mark_label(marks, marked, classes, n, ascending[i]);
+        numbered[i] = number_class(numbers, count, label);
         i += 1;
     }
-    marked
+    numbered
 }

@@ -17,11 +17,11 @@ use Rattle.rows.specs.Format.{rowWidth}
 use Rattle.rows.specs.declared.Context.{Context}
 use Rattle.rows.proofs.Bools.{not-false}
 use Rattle.rows.proofs.RowRange.{good-letter}
+use Rattle.rows.proofs.Wired.{row-by}
 use Rattle.sheet.specs.Kinds.{isList}
 use Rattle.sheet.specs.Reading.{outcomeOf, strange, clashes, clashOf}
 use Rattle.sheet.specs.declared.kind.Kind.{Kind}
 use Rattle.sheet.specs.declared.kind.Kind.the-variants.{Plain, Pattern}
-use Rattle.sheet.proofs.read.ReadingLaws.{row-by}
 use Rattle.sheet.proofs.read.Taken.{rowAt, Taken, outcome-keeps}
 use Rattle.sheet.proofs.read.Ranges.{Every, ContextRange}
 use Rattle.sheet.proofs.read.HeldLimits.{head-list, held-within}

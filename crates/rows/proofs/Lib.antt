@@ -1,6 +1,7 @@
 pub mod Bools
 pub mod RowLaws
 pub mod RowRange
+pub mod LastDigit
 pub mod Wired
 pub mod Lists
 pub mod Padding
@@ -8,5 +9,6 @@ pub mod Arrays
 pub mod Ports
 pub mod Rows
 pub mod RowLinks
+pub mod RowMarks
 pub mod TakeRow
 pub mod RowBytes

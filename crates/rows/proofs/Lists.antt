@@ -2,13 +2,15 @@
 use Prim.Native.Nat.{ℕ, zero, suc, _+_, _<_, _≤_}
 use mathlib.Core.Path.{_≡_, refl, ap, _∙_, sym}
 use mathlib.Core.List.{List, [], _∷_, _++_, map, map-append, append-assoc}
-use native.Mathlib.Nat.{add-comm}
+use mathlib.Core.Logic.{⊎-elim}
+use native.Mathlib.Nat.{add-comm, add-zero, zero-add, eq-or-lt-of-le}
 use native.Mathlib.Numerals.{add-one}
 use native.Mathlib.Omega.{arith}
 use lib.ListN.{length, getD, drop, take, set, length-take, length-drop, length-map, drop-of-length-le}
 use lib.Seq.{drop-cons, take-suc, take-all, length-take-le, set-at, getD-at, set-getD, take-suc-set, getD-drop}
 use borrow.Author.Tests.{eq-eqb, ne-eqb}
 use Rattle.rows.specs.Held.{indexOf, relabelled}
+use Rattle.rows.specs.Steps.{cleared}
 use Rattle.rows.proofs.Wired.{indexOf-le}
 
 pub index-below : (x n : ℕ) (l : List ℕ) → indexOf x (take n l) ≤ n
@@ -26,6 +28,21 @@ module _ (l : List ℕ) (x i : ℕ) (h : i < length l) where
   pub index-miss : (getD l i 0 ≡ x → ⊥) → indexOf x (drop i l) ≡ suc (indexOf x (drop (i + 1) l))
   unfolding indexOf
   index-miss e = rw (drop-cons l i 0 h) (rw (ne-eqb _ _ e) (rw add-one))
+
+-- x is not among the m numbers from place i on
+abbrev pub Lacks : List ℕ → ℕ → ℕ → ℕ → Type 0
+Lacks l i x m = (k : ℕ) → k < m → getD l (i + k) 0 ≡ x → ⊥
+
+pub lacks-more : (l : List ℕ) (i x m : ℕ) → Lacks l i x m → (getD l (i + m) 0 ≡ x → ⊥) → Lacks l i x (m + 1)
+lacks-more l i x m before here k h = ⊎-elim (λ e. rw e here) (before k) (eq-or-lt-of-le (let q : k ≤ m = omega arith in q))
+
+pub index-lacks : (l : List ℕ) (x i m : ℕ) → i + m ≤ length l → Lacks l i x m → indexOf x (drop i l) ≡ m + indexOf x (drop (i + m) l)
+index-lacks l x i zero h lacks = rw (add-zero i, zero-add (indexOf x (drop i l)))
+index-lacks l x i (suc m) h lacks =
+    let z : i + suc m ≡ i + 1 + m = omega arith in
+    let first : getD l i 0 ≡ x → ⊥ = rw (add-zero i) at (lacks 0 (omega arith)) in
+    let rest = index-lacks l x (i + 1) m (omega arith) (λ k q e. lacks (suc k) (omega arith) (ap (λ (n : ℕ). getD l n 0) (omega arith) ∙ e)) in
+    rw z (omega (arith, index-miss l x i (omega arith) first, rest))
 
 -- an element of a mapped list
 pub getD-mapped : {A B : Type 0} (f : A → B) (l : List A) (k : ℕ) (d : A) (e : B) → k < length l → getD (map f l) k e ≡ f (getD l k d)
@@ -51,6 +68,10 @@ module _ {A : Type 0} (f : A → A) (d : A) (l : List A) (i : ℕ) (h : i < leng
   mapped-next =
       rw mapped-open (rw (set-at (map f (take i l)) (getD l i d) (drop (i + 1) l) (f (getD l i d)) i front)
       (rw (add-one i) (rw (take-suc l i d h) (rw (map-append f (take i l) (getD l i d ∷ [])) (append-assoc (map f (take i l)) (f (getD l i d) ∷ []) (drop (suc i) l))))))
+
+-- one turn of clearing in place
+pub clear-next : (l s : List ℕ) (i : ℕ) → i < length l → s ≡ cleared i l → set s i 0 ≡ cleared (i + 1) l
+clear-next l s i h e = rw e (sym (mapped-next (λ x. 0) 0 l i h))
 
 -- one turn of relabelling in place
 module _ (from to : ℕ) (l labels : List ℕ) (i : ℕ) (h : i < length l) (e : labels ≡ mapped (relabelled from to) i l) where

@@ -1,13 +1,14 @@
 -- Lists in arrays: a list with padding after it, and stores into it.
 use Prim.Native.Nat.{ℕ, zero, suc, _+_, _-_, _<_, _≤_}
-use mathlib.Core.Path.{_≡_, refl, _∙_, sym}
+use mathlib.Core.Path.{_≡_, refl, ap, _∙_, sym}
 use mathlib.Core.List.{List, [], _∷_, _++_, map, map-append, append-assoc}
 use native.Mathlib.Decide.{decLt}
 use native.Mathlib.Numerals.{add-one}
 use native.Mathlib.Omega.{arith}
-use lib.ListN.{length, getD, take, set, replicate, length-append, length-replicate, length-map, List·getD-append, List·getD-eq-default}
-use lib.Seq.{take-suc, length-take-le, take-append-seam, drop-append-seam, set-append-seam, getD-append-add}
+use lib.ListN.{length, getD, take, set, replicate, length-append, length-replicate, replicate-append-replicate, length-map, List·getD-append, List·getD-eq-default}
+use lib.Seq.{take-suc, length-take-le, take-append-seam, drop-append-seam, set-append-seam, set-getD, getD-append-add}
 use Rattle.rows.specs.Packed.{padded}
+use Rattle.rows.specs.Steps.{cleared}
 use Rattle.rows.proofs.Lists.{mapped}
 
 pub getD-filled : {A : Type 0} (d : A) (n k : ℕ) → getD (replicate n d) k d ≡ d
@@ -45,6 +46,12 @@ module _ {A : Type 0} (n : ℕ) (d : A) (l : List A) where
           let split : i ≡ length l + (i - length l) = omega arith in
           rw (List·getD-eq-default l d le) (rw split (rw (getD-append-add l (replicate (n - length l) d) (i - length l) d) (getD-filled d (n - length l) (i - length l))))
 
+  -- padding stored just after the list changes nothing
+  pub set-padding : set (padded n d l) (length l) d ≡ padded n d l
+  set-padding =
+      let e : getD (padded n d l) (length l) d ≡ d = getD-padding (length l) ∙ List·getD-eq-default l d (omega arith) in
+      ap (set (padded n d l) (length l)) (sym e) ∙ set-getD (padded n d l) (length l) d
+
   -- a store just after the list makes it longer by one
   pub set-padded : (a : A) (k : ℕ) → k ≡ length l → length l < n → set (padded n d l) k a ≡ padded n d (l ++ (a ∷ []))
   unfolding padded
@@ -60,3 +67,14 @@ stored-next n f l r k e h room =
     let front : length (map f (take k l)) ≡ k = length-map (take k l) f ∙ length-take-le k l (omega arith) in
     rw e (rw (set-padded n 0 (map f (take k l)) (f (getD l k 0)) k (sym front) (omega arith))
     (rw (add-one k) (rw (take-suc l k 0 h) (rw (map-append f (take k l) (getD l k 0 ∷ []))))))
+
+-- a list that is cleared is nothing but padding
+zeros : (l : List ℕ) → map {B = ℕ} (λ x. 0) l ≡ replicate (length l) 0
+zeros [] = refl
+zeros (x ∷ l) = ap (λ (r : List ℕ). 0 ∷ r) (zeros l)
+
+pub cleared-padded : (n : ℕ) (l : List ℕ) (k : ℕ) → k ≡ length l → length l ≤ n → cleared k (padded n 0 l) ≡ padded n 0 []
+unfolding padded
+cleared-padded n l k q h =
+    let e : length l + (n - length l) ≡ n - 0 = omega arith in
+    mapped-padded n 0 l (λ x. 0) k q ∙ rw (length-map {B = ℕ} l (λ x. 0)) (rw (zeros l) (rw (replicate-append-replicate {A = ℕ} (length l) (n - length l) 0) (rw e)))

@@ -13,7 +13,7 @@ use lib.Seq.{drop-cons, getD-take, getD-drop, length-take-le}
 use borrow.Author.Tests.{eq-eqb, ne-eqb, ltb-false, eqb-true, eqb-false}
 use Rattle.rows.specs.Pick.{pick, and, or, not}
 use Rattle.rows.specs.Format.{fieldCount, letterOf, ruleOf}
-use Rattle.rows.specs.Row.{Field, malformed, holds, misplacedIn, isNil, fieldOf, needed, suits, rowWith, judged, fieldsOf, rowOf}
+use Rattle.rows.specs.Row.{Field, malformed, holds, misplacedIn, isNil, fieldOf, needed, suits, rowWith, noRow, judged, fieldsOf, rowOf}
 use Rattle.rows.specs.declared.row.Rule.{Rule}
 
 -- A number of i digits stays below ten to the i.
@@ -111,9 +111,9 @@ module _ (s : List ℕ) (letter f : ℕ) (nums : List ℕ) (h : f < fieldCount) 
 
 -- A row, by its letter's place k.
 module _ (s : List ℕ) (k : ℕ) (e : k ≡ letterOf (getD s 0 0)) where
-  pub row-strange : k ≡ 5 → rowOf s ≡ rowWith k false (replicate fieldCount 0)
+  pub row-strange : k ≡ 5 → rowOf s ≡ noRow
   unfolding rowOf
-  row-strange h = rw (h, eq-eqb _ _ (sym e ∙ h))
+  row-strange h = rw (eq-eqb _ _ (sym e ∙ h))
 
   pub row-fields : (k ≡ 5 → ⊥) → rowOf s ≡ fieldsOf s k 0 (replicate fieldCount 0) fieldCount
   unfolding rowOf

@@ -1,5 +1,5 @@
 -- The links of a row, by its letter: how many, from which field on, and what they make of links and classes.
-use Prim.Native.Nat.{ℕ, _+_, _<_, _≤_}
+use Prim.Native.Nat.{ℕ, _+_, _-_, _<_, _≤_}
 use mathlib.Core.Path.{_≡_, refl}
 use mathlib.Core.List.{List, [], _∷_}
 use mathlib.Core.Bool.{Bool, true, false}
@@ -9,8 +9,11 @@ use lib.ListN.{length, getD, take, drop}
 use borrow.Author.Tests.{ltb-true, ne-eqb}
 use Rattle.rows.specs.Pick.{pick}
 use Rattle.rows.specs.Format.{fieldCount, mostLinks}
-use Rattle.rows.specs.Held.{withLinks, withFusion}
-use Rattle.rows.specs.Steps.{Relinks, firstLink, linkCount, linkedBy}
+use Rattle.rows.specs.Limits.{fillingLinks}
+use Rattle.rows.specs.Held.{Wiring, withLinks, withFusion, noWiring}
+use Rattle.rows.specs.Steps.{gone, cleared, Wired, Linked, Relinks, firstLink, linkCount, linkedBy}
+use Rattle.rows.specs.declared.row.Row.{Row}
+use Rattle.rows.proofs.Arrays.{cleared-links}
 use Rattle.rows.proofs.Wired.{wired-links}
 
 -- the first number of a row, and its first two
@@ -40,9 +43,19 @@ module _ (letter : ℕ) (nums : List ℕ) where
   pub count-one : letter ≡ 3 → linkCount letter nums ≡ 1
   count-one e = rw e
 
-  module _ (links classes : List ℕ) (n : ℕ) (links' classes' : List ℕ) (m from count : ℕ) (ef : from ≡ firstLink letter) (ec : count ≡ linkCount letter nums) (f : Relinks links classes n links' classes' m (λ w. withLinks w (take count (drop from nums)))) where
-    pub row-linked : (letter ≡ 2 → ⊥) → Relinks links classes n links' classes' m (linkedBy letter nums)
-    row-linked h w wired k = rw (ne-eqb letter 2 h) (rw (ne-eqb letter 2 h) at (rw (ef, ec) at (f w wired k)))
+-- a row's links taken into arrays from which those of another filling are gone
+module _ (r : Row) (links classes : List ℕ) (n kept : ℕ) (links₁ classes₁ links₂ classes₂ : List ℕ) (m from count : ℕ) (room : n ≤ fillingLinks)
+    (ek : kept ≡ n - gone (r .letter) n) (el : links₁ ≡ cleared (gone (r .letter) n) links) (ec : classes₁ ≡ cleared (gone (r .letter) n) classes)
+    (ef : from ≡ firstLink (r .letter)) (en : count ≡ linkCount (r .letter) (r .nums))
+    (f : Relinks links₁ classes₁ kept links₂ classes₂ m (λ w. withLinks w (take count (drop from (r .nums))))) where
+  added : (w : Wiring) → Wired w → Linked w links classes n → let u = pick (ltb 3 (r .letter)) noWiring w in
+      Wired u × Linked (withLinks u (take (linkCount (r .letter) (r .nums)) (drop (firstLink (r .letter)) (r .nums)))) links₂ classes₂ m
+  added w wired k =
+      let u = cleared-links w wired links classes n k (r .letter) kept links₁ classes₁ (omega arith) ek el ec in
+      (u .0, rw (ef, en) at (f (pick (ltb 3 (r .letter)) noWiring w) (u .0) (u .1)))
 
-    pub row-fused : (out : List ℕ) → letter ≡ 2 → Relinks links' classes' m links' out m (λ w. withFusion w (getD nums 0 0) (getD nums 1 0)) → Relinks links classes n links' out m (linkedBy letter nums)
-    row-fused out e g w wired k = rw e (g (withLinks w (take 2 (drop 0 nums))) (wired-links w _ wired) (rw e at (rw (ef, ec) at (f w wired k))))
+  pub row-linked : (r .letter ≡ 2 → ⊥) → Relinks links classes n links₂ classes₂ m (linkedBy r)
+  row-linked h w wired k = rw (ne-eqb (r .letter) 2 h) (rw (ne-eqb (r .letter) 2 h) at (added w wired k .1))
+
+  pub row-fused : (out : List ℕ) → r .letter ≡ 2 → Relinks links₂ classes₂ m links₂ out m (λ w. withFusion w (getD (r .nums) 0 0) (getD (r .nums) 1 0)) → Relinks links classes n links₂ out m (linkedBy r)
+  row-fused out e g w wired k = rw e (g (withLinks w (take 2 (drop 0 (r .nums)))) (wired-links w _ wired) (rw e at (added w wired k .1)))

@@ -26,7 +26,7 @@ abbrev pub Suited : Row → ℕ → Type 0
 Suited r f = SuitedBy (ruleOf (r .letter) f) f (getD (r .nums) 1 0) (getD (r .nums) f 0)
 
 -- Columns that hold nothing leave the number as it was.
-nothing-read : (filled : Bool) (n : ℕ) (t : List ℕ) (m : ℕ) → fieldOf filled n t ≡ holds false m → (filled ≡ false) × (m ≡ n)
+pub nothing-read : (filled : Bool) (n : ℕ) (t : List ℕ) (m : ℕ) → fieldOf filled n t ≡ holds false m → (filled ≡ false) × (m ≡ n)
 unfolding fieldOf
 nothing-read filled n [] m e = (cc, cc)
 nothing-read filled n (b ∷ t) m e =

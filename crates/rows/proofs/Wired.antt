@@ -10,7 +10,7 @@ use native.Mathlib.Omega.{arith}
 use lib.Dec.{eqb}
 use lib.ListN.{length, getD, length-append, length-map, List·getD-append}
 use lib.Seq.{getD-at}
-use borrow.Author.Tests.{ltb-true, ltb-false, lt-ltb, le-ltb, eq-eqb}
+use borrow.Author.Tests.{ltb-true, ltb-false, lt-ltb, le-ltb, eq-eqb, eqb-true, eqb-false}
 use Rattle.rows.specs.Pick.{pick}
 use Rattle.rows.specs.Held.{Wiring, Held, indexOf, isIn, withLink, withLinks, relabelled, merged, withFusion, withMark, noWiring, linksOf, withAtom, withContext, withFusionRow, withEdgeRow, withHead, withRow, Among}
 use Rattle.rows.specs.Steps.{Wired}
@@ -131,6 +131,14 @@ abbrev pub markAdded : Wiring → ℕ → ℕ → Wiring
 markAdded w a m = record { links = w .links; classes = w .classes; marks = w .marks ++ (m ∷ []); marked = w .marked ++ (indexOf a (w .links) ∷ []) }
 
 module _ (w : Wiring) (a m : ℕ) where
+  pub mark-known : Among m (w .marks) → withMark w a m ≡ merged w (getD (w .marked) (indexOf m (w .marks)) 0) (indexOf a (w .links))
+  unfolding withMark
+  mark-known h = rw (lt-ltb _ _ h)
+
+  pub mark-new : length (w .marks) ≤ indexOf m (w .marks) → withMark w a m ≡ markAdded w a m
+  unfolding withMark
+  mark-new h = rw (le-ltb _ _ h)
+
   -- What holds with two classes made one, and with the mark put behind the others, holds.
   pub mark-by : (P : Wiring → Type 0) → (Among m (w .marks) → P (merged w (getD (w .marked) (indexOf m (w .marks)) 0) (indexOf a (w .links))))
       → (length (w .marks) ≤ indexOf m (w .marks) → P (markAdded w a m)) → P (withMark w a m)
@@ -184,17 +192,34 @@ wired-mark w a m there k = mark-by w a m Wired (λ h. wired-merged w _ _ k) (λ 
     last : (p : ℕ) → p < length (w .marks ++ (m ∷ [])) → (p ≡ length (w .marks)) ⊎ (p < length (w .marks))
     last p l = eq-or-lt-of-le (omega (arith, length-append (w .marks) (m ∷ [])))
 
-pub wired-row : (h : Held) (r : Row) → Wired (h .wiring) → Wired (withRow h r .wiring)
-unfolding withRow withAtom withContext withFusionRow withEdgeRow withHead
-wired-row h r k = go (eqb (r .letter) 0) (eqb (r .letter) 1) (eqb (r .letter) 2) (eqb (r .letter) 3)
-  where
-    go : (s b f e : Bool) → Wired (pick s (withAtom h (r .nums))
-        (pick b (withContext h (r .nums))
-        (pick f (withFusionRow h (getD (r .nums) 0 0) (getD (r .nums) 1 0))
-        (pick e (withEdgeRow h (getD (r .nums) 0 0) (getD (r .nums) 1 0)) (withHead h (r .nums))))) .wiring)
-    go true b f e = wired-links (h .wiring) (linksOf (r .nums)) k
-    go false true f e = wired-links (h .wiring) (linksOf (r .nums)) k
-    go false false true e = wired-fusion _ _ _ (wired-links (h .wiring) (getD (r .nums) 0 0 ∷ getD (r .nums) 1 0 ∷ []) k)
-    go false false false true =
-        wired-mark _ _ _ (links-there (h .wiring) (getD (r .nums) 0 0 ∷ []) 0 (omega arith)) (wired-links (h .wiring) (getD (r .nums) 0 0 ∷ []) k)
-    go false false false false = wired-none
+-- A row more, by its letter: what holds in each case holds.
+module _ (h : Held) (r : Row) where
+  pub row-by : (P : Held → Type 0)
+      → (r .letter ≡ 0 → P (withAtom h (r .nums)))
+      → (r .letter ≡ 1 → P (withContext h (r .nums)))
+      → (r .letter ≡ 2 → P (withFusionRow h (getD (r .nums) 0 0) (getD (r .nums) 1 0)))
+      → (r .letter ≡ 3 → P (withEdgeRow h (getD (r .nums) 0 0) (getD (r .nums) 1 0)))
+      → (3 < r .letter → P (withHead h (r .nums)))
+      → P (withRow h r)
+  unfolding withRow
+  row-by P s b f e l = go (eqb (r .letter) 0) (eqb (r .letter) 1) (eqb (r .letter) 2) (eqb (r .letter) 3) refl refl refl refl
+    where
+      go : (p q u v : Bool) → eqb (r .letter) 0 ≡ p → eqb (r .letter) 1 ≡ q → eqb (r .letter) 2 ≡ u → eqb (r .letter) 3 ≡ v
+          → P (pick p (withAtom h (r .nums))
+          (pick q (withContext h (r .nums))
+          (pick u (withFusionRow h (getD (r .nums) 0 0) (getD (r .nums) 1 0))
+          (pick v (withEdgeRow h (getD (r .nums) 0 0) (getD (r .nums) 1 0)) (withHead h (r .nums))))))
+      go true q u v i j k m = s (eqb-true _ _ i)
+      go false true u v i j k m = b (eqb-true _ _ j)
+      go false false true v i j k m = f (eqb-true _ _ k)
+      go false false false true i j k m = e (eqb-true _ _ m)
+      go false false false false i j k m =
+          l (omega (arith, eqb-false (r .letter) 0 i, eqb-false (r .letter) 1 j, eqb-false (r .letter) 2 k, eqb-false (r .letter) 3 m))
+
+  pub wired-row : Wired (h .wiring) → Wired (withRow h r .wiring)
+  unfolding withAtom withContext withFusionRow withEdgeRow withHead
+  wired-row k =
+      row-by (λ g. Wired (g .wiring)) (λ l. wired-links (h .wiring) (linksOf (r .nums)) k) (λ l. wired-links (h .wiring) (linksOf (r .nums)) k)
+      (λ l. wired-fusion _ _ _ (wired-links (h .wiring) (getD (r .nums) 0 0 ∷ getD (r .nums) 1 0 ∷ []) k))
+      (λ l. wired-mark _ _ _ (links-there (h .wiring) (getD (r .nums) 0 0 ∷ []) 0 (omega arith)) (wired-links (h .wiring) (getD (r .nums) 0 0 ∷ []) k))
+      (λ l. wired-none)

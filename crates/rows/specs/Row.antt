@@ -39,6 +39,10 @@ suits r f count filled n = pick (needed r f count) (and filled (and (leb (r .low
 abbrev pub rowWith : ℕ → Bool → List ℕ → Row
 rowWith letter good nums = record { letter = letter; good = good; nums = nums }
 
+-- a row without a letter
+abbrev pub noRow : Row
+noRow = rowWith 5 false (replicate fieldCount 0)
+
 -- a field that holds a number or nothing goes on where it suits its rule
 unfoldable pub judged : ℕ → ℕ → List ℕ → (ℕ → Row) → Field → Row
 judged letter f nums rest malformed = rowWith letter false nums
@@ -54,5 +58,5 @@ fieldsOf s letter f nums (suc left) =
 -- the row that these bytes are: its letter, and its numbers, 0 for an empty field
 unfoldable pub rowOf : List ℕ → Row
 rowOf s =
-    pick (eqb (letterOf (getD s 0 0)) 5) (rowWith 5 false (replicate fieldCount 0))
+    pick (eqb (letterOf (getD s 0 0)) 5) noRow
     (fieldsOf s (letterOf (getD s 0 0)) 0 (replicate fieldCount 0) fieldCount)

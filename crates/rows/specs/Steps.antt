@@ -1,14 +1,17 @@
--- What the steps of taking in a row ask of a `Sheet`, and what they make of it.
+-- What the steps of taking in a row ask of the arrays of a `Sheet`, and what they make of them.
 use Prim.Native.Nat.{ℕ, _+_, _<_, _≤_}
 use mathlib.Core.Path.{_≡_}
-use mathlib.Core.List.{List, [], _∷_, _++_}
+use mathlib.Core.List.{List, [], _++_, map}
+use mathlib.Core.Bool.{Bool}
 use lib.Dec.{eqb, ltb}
-use lib.ListN.{length, take, drop, getD}
-use Rattle.rows.specs.Pick.{pick}
+use lib.ListN.{length, take, drop, getD, set}
+use Rattle.rows.specs.Pick.{pick, or}
 use Rattle.rows.specs.Format.{mostLinks}
 use Rattle.rows.specs.Limits.{sheetAtoms, figureContexts, sheetMarks, fillingLinks}
-use Rattle.rows.specs.Held.{Wiring, Held, withLinks, withFusion, atomOf, contextOf}
-use Rattle.rows.specs.Packed.{padded, packed}
+use Rattle.rows.specs.Held.{Wiring, withLinks, withFusion, withMark, noWiring, atomOf, contextOf}
+use Rattle.rows.specs.Packed.{padded, noAtom, noContext}
+use Rattle.rows.specs.declared.Atom.{Atom}
+use Rattle.rows.specs.declared.Context.{Context}
 use Rattle.rows.specs.declared.Sheet.{Sheet}
 use Rattle.rows.specs.declared.row.Row.{Row}
 
@@ -17,16 +20,6 @@ pub record Wired (w : Wiring) : Type 0 where
   pub classed : length (w .classes) ≡ length (w .links)
   pub placed : length (w .marked) ≡ length (w .marks)
   pub within : (p : ℕ) → p < length (w .marks) → getD (w .marked) p 0 < length (w .links)
-
--- the sheet t holds what f makes of what the sheet s holds
-abbrev pub Makes : Sheet → Sheet → (Held → Held) → Type 0
-Makes s t f = (h : Held) → Wired (h .wiring) → s ≡ packed h → t ≡ packed (f h)
-
-abbrev pub rewired : Held → Wiring → Held
-rewired h w = record { rows = h .rows; atoms = h .atoms; contexts = h .contexts; fusions = h .fusions; edges = h .edges; wiring = w }
-
-abbrev pub Rewires : Sheet → Sheet → (Wiring → Wiring) → Type 0
-Rewires s t f = Makes s t (λ h. rewired h (f (h .wiring)))
 
 -- the arrays and the count are those of the links and classes of w
 pub record Linked (w : Wiring) (links classes : List ℕ) (n : ℕ) : Type 0 where
@@ -38,6 +31,14 @@ pub record Linked (w : Wiring) (links classes : List ℕ) (n : ℕ) : Type 0 whe
 abbrev pub Relinks : List ℕ → List ℕ → ℕ → List ℕ → List ℕ → ℕ → (Wiring → Wiring) → Type 0
 Relinks links classes n links' classes' n' f = (w : Wiring) → Wired w → Linked w links classes n → Linked (f w) links' classes' n'
 
+-- how many of n links or marks are gone with a row of this letter: a head begins a filling, which has none
+abbrev pub gone : ℕ → ℕ → ℕ
+gone letter n = pick (ltb 3 letter) n 0
+
+-- a list with its first n numbers made 0
+abbrev pub cleared : ℕ → List ℕ → List ℕ
+cleared n l = map (λ x. 0) (take n l) ++ drop n l
+
 -- the field of a row's first link, by its letter, and how many links it has
 abbrev pub firstLink : ℕ → ℕ
 firstLink letter = pick (ltb letter 2) 2 0
@@ -45,11 +46,46 @@ firstLink letter = pick (ltb letter 2) 2 0
 abbrev pub linkCount : ℕ → List ℕ → ℕ
 linkCount letter nums = pick (ltb letter 2) (getD nums 1 0) (pick (eqb letter 2) 2 (pick (eqb letter 3) 1 0))
 
--- what a row's letter and numbers make of links and classes
-abbrev pub linkedBy : ℕ → List ℕ → Wiring → Wiring
-linkedBy letter nums w =
-    let v = withLinks w (take (linkCount letter nums) (drop (firstLink letter) nums)) in
-    pick (eqb letter 2) (withFusion v (getD nums 0 0) (getD nums 1 0)) v
+-- what a row makes of links and classes
+abbrev pub linkedBy : Row → Wiring → Wiring
+linkedBy r w =
+    let u = pick (ltb 3 (r .letter)) noWiring w in
+    let v = withLinks u (take (linkCount (r .letter) (r .nums)) (drop (firstLink (r .letter)) (r .nums))) in
+    pick (eqb (r .letter) 2) (withFusion v (getD (r .nums) 0 0) (getD (r .nums) 1 0)) v
+
+-- the arrays and the count are those of the marks of w
+pub record Marked (w : Wiring) (marks marked : List ℕ) (n : ℕ) : Type 0 where
+  pub numbers : marks ≡ padded (sheetMarks + 1) 0 (w .marks)
+  pub places : marked ≡ padded (sheetMarks + 1) 0 (w .marked)
+  pub count : n ≡ length (w .marks)
+
+-- the arrays are those of w
+abbrev pub Tied : Wiring → List ℕ → List ℕ → ℕ → List ℕ → List ℕ → ℕ → Type 0
+Tied w links classes n marks marked m = Linked w links classes n × Marked w marks marked m
+
+abbrev pub noMarks : Wiring → Wiring
+noMarks w = record { links = w .links; classes = w .classes; marks = []; marked = [] }
+
+-- what a row makes of marks
+abbrev pub markedBy : Row → Wiring → Wiring
+markedBy r w = pick (eqb (r .letter) 3) (withMark w (getD (r .nums) 0 0) (getD (r .nums) 1 0)) (pick (ltb 3 (r .letter)) (noMarks w) w)
+
+-- whether a row of this letter is a blank row or a head
+abbrev pub isContext : ℕ → Bool
+isContext letter = or (eqb letter 1) (ltb 3 letter)
+
+-- what a row puts behind the atoms and the contexts, and into the table of ports
+abbrev pub atomBy : Row → Atom
+atomBy r = pick (eqb (r .letter) 0) (atomOf (r .nums)) noAtom
+
+abbrev pub contextBy : Row → ℕ → Context
+contextBy r at = pick (isContext (r .letter)) (contextOf (r .nums) at) noContext
+
+abbrev pub portsWith : List ℕ → ℕ → ℕ → List ℕ
+portsWith ports number count = pick (eqb (getD ports number 0) 0) (set ports number count) ports
+
+abbrev pub portsBy : Row → List ℕ → List ℕ
+portsBy r ports = pick (isContext (r .letter)) (portsWith ports (getD (r .nums) 0 0) (getD (r .nums) 1 0 + 1)) ports
 
 -- a sheet that has room for one row more
 pub record Room (s : Sheet) : Type 0 where
@@ -64,12 +100,3 @@ pub record Ranged (r : Row) : Type 0 where
   pub few : r .letter < 2 → getD (r .nums) 1 0 ≤ mostLinks
   pub context : r .letter ≡ 1 → getD (r .nums) 0 0 < 5
   pub head : 3 < r .letter → (getD (r .nums) 0 0 < 5) × (getD (r .nums) 1 0 ≤ mostLinks)
-
--- one atom more
-abbrev pub withSymbol : Held → List ℕ → Held
-withSymbol h nums = record { rows = h .rows; atoms = h .atoms ++ (atomOf nums ∷ []); contexts = h .contexts; fusions = h .fusions; edges = h .edges; wiring = h .wiring }
-
--- one context more
-abbrev pub withPorts : Held → List ℕ → ℕ → Held
-withPorts h nums row =
-    record { rows = h .rows; atoms = h .atoms; contexts = h .contexts ++ (contextOf nums row ∷ []); fusions = h .fusions; edges = h .edges; wiring = h .wiring }

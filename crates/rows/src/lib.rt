@@ -1,11 +1,12 @@
 // Rows of 34 bytes: how one is read and written, and what a text holds of its rows.
+pub mod entry;
 pub mod row;
 pub mod take;
 pub mod write;
 
 ghost use mathlib.Core.Path.{_≡_};
 ghost use Rattle.rows.specs.Held.{nothing};
-ghost use Rattle.rows.specs.Packed.{packed};
+ghost use Rattle.rows.specs.Packed.{noAtom, noContext, packed};
 
 // A symbol row: an atom with its name and its links, of which `count` are used.
 pub struct Atom {
@@ -21,6 +22,33 @@ pub struct Context {
     pub count: u16,
     pub links: [u16; Sheet::MOST_LINKS],
     pub row: u16,
+}
+
+impl Atom {
+    // What stands in an array of atoms after the last.
+    pub fn none() -> Self
+        ensures { λ r. ⌜ r ≡ noAtom ⌝ }
+    {
+        Atom {
+            name: 0,
+            count: 0,
+            links: [0; Sheet::MOST_LINKS],
+        }
+    }
+}
+
+impl Context {
+    // What stands in an array of contexts after the last.
+    pub fn none() -> Self
+        ensures { λ r. ⌜ r ≡ noContext ⌝ }
+    {
+        Context {
+            number: 0,
+            count: 0,
+            links: [0; Sheet::MOST_LINKS],
+            row: 0,
+        }
+    }
 }
 
 // What a text holds. Each array has room for one row more than its limit, since a row is taken in
@@ -87,18 +115,8 @@ impl Sheet {
     pub fn empty() -> Self
         ensures { λ r. ⌜ r ≡ packed nothing ⌝ }
     {
-        let links = [0u16; Sheet::MOST_LINKS];
-        let atom = Atom {
-            name: 0,
-            count: 0,
-            links,
-        };
-        let context = Context {
-            number: 0,
-            count: 0,
-            links,
-            row: 0,
-        };
+        let atom = Atom::none();
+        let context = Context::none();
         let atoms = [atom; Sheet::ATOM_ROOM];
         let contexts = [context; Sheet::CONTEXT_ROOM];
         Sheet {

@@ -5,7 +5,7 @@ ghost use mathlib.Core.List.{[]};
 ghost use Prim.Native.Nat.{ℕ, _<_};
 ghost use lib.ListN.{length, getD};
 ghost use Rattle.rows.specs.Format.{rowWidth, letterOf, rules, ruleOf};
-ghost use Rattle.rows.specs.Row.{misplacedIn, suits, rowOf};
+ghost use Rattle.rows.specs.Row.{misplacedIn, suits, noRow, rowOf};
 
 // What a field of a row may hold: a number from low to high where it is filled, nothing elsewhere.
 // A counted field is filled where the row's count, its second field, reaches it.
@@ -75,6 +75,19 @@ pub struct Row {
     pub nums: [u16; Sheet::FIELDS],
 }
 
+impl Row {
+    // A row without a letter.
+    pub(crate) fn none() -> Self
+        ensures { λ r. ⌜ r ≡ noRow ⌝ }
+    {
+        Row {
+            letter: 5,
+            good: false,
+            nums: [0; Sheet::FIELDS],
+        }
+    }
+}
+
 pub(crate) fn letter_of(b: u8) -> usize
     ensures { λ r. ⌜ r ≡ letterOf b ⌝ }
 {
@@ -88,12 +101,18 @@ pub(crate) fn letter_of(b: u8) -> usize
     }
 }
 
-// The table's rules for a letter.
+// The table's rules for a letter. A place that is known when the program is compiled costs nothing to read.
 pub(crate) fn rules_of(letter: usize) -> [Rule; 3]
     requires { ⌜ letter < 5 ⌝ }
     ensures { λ r. ⌜ r ≡ getD rules letter [] ⌝ }
 {
-    RULES[letter]
+    match letter {
+        0 => RULES[0],
+        1 => RULES[1],
+        2 => RULES[2],
+        3 => RULES[3],
+        _ => RULES[4],
+    }
 }
 
 // The rule for field f, of a letter's.
@@ -159,11 +178,7 @@ pub fn read_row(row: &[u8]) -> Row
     let mut nums = [0u16; Sheet::FIELDS];
     let mut good = true;
     if letter == 5 {
-        return Row {
-            letter,
-            good: false,
-            nums,
-        };
+        return Row::none();
     }
     let own = rules_of(letter);
     let mut f = 0;

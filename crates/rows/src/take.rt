@@ -1,26 +1,55 @@
-// A row taken into what a text holds.
-use crate::Atom;
-use crate::Context;
+// The links and the mark of a row, taken into what a text holds.
 use crate::Sheet;
 use crate::row::Row;
 ghost use mathlib.Core.Path.{_≡_};
+ghost use mathlib.Core.Bool.{false};
 ghost use mathlib.Core.List.{_++_, map};
-ghost use Prim.Native.Nat.{ℕ, _+_, _<_, _≤_};
-ghost use lib.Dec.{eqb};
-ghost use lib.ListN.{length, take, drop, getD, set};
+ghost use Prim.Native.Nat.{ℕ, _+_, _-_, _<_, _≤_};
+ghost use lib.Dec.{ltb};
+ghost use lib.ListN.{length, take, drop, getD};
 ghost use Rattle.rows.specs.Pick.{pick};
 ghost use Rattle.rows.specs.Format.{fieldCount, mostLinks};
-ghost use Rattle.rows.specs.Limits.{sheetAtoms, sheetMarks, figureContexts, fillingLinks};
-ghost use Rattle.rows.specs.Held.{indexOf, relabelled, withLink, withLinks, withFusion, withMark, withRow, noWiring, Held};
-ghost use Rattle.rows.specs.Packed.{packed};
-ghost use Rattle.rows.specs.Steps.{Makes, Rewires, Relinks, Wired, Room, Ranged, firstLink, linkCount, linkedBy, withSymbol, withPorts};
+ghost use Rattle.rows.specs.Limits.{sheetMarks, fillingLinks};
+ghost use Rattle.rows.specs.Held.{Wiring, indexOf, relabelled, withLink, withLinks, withFusion, withMark};
+ghost use Rattle.rows.specs.Steps.{gone, cleared, Wired, Linked, Relinks, Marked, Tied, Ranged, firstLink, linkCount, linkedBy, markedBy};
+
+// Whether x is among the eight numbers from place i on. The loop has no way out, so that all are compared at once.
+fn among_eight(s: &[u16], i: usize, x: u16) -> bool
+    requires { ⌜ i + 8 ≤ length (now s) ⌝ }
+    ensures { λ r. ⌜ (r ≡ false → (k : ℕ) → k < 8 → ¬ (getD (now (s .entry)) (i + k) 0 ≡ x)) ⌝ }
+{
+    let mut found = false;
+    let mut k = 0;
+    while k < 8 {
+        if s[i + k] == x {
+            found = true;
+        }
+        k += 1;
+    }
+    found
+}
+
+// A place before which x is not among the first n numbers: eight that lack it are passed over at once.
+fn skipped(s: &[u16], n: usize, x: u16) -> usize
+    requires { ⌜ n ≤ length (now s) ⌝ }
+    ensures { λ r. ⌜ (r ≤ n) × (indexOf x (take n (now (s .entry))) ≡ r + indexOf x (drop r (take n (now (s .entry))))) ⌝ }
+{
+    let mut i = 0;
+    while 8 <= n - i {
+        if among_eight(s, i, x) {
+            return i;
+        }
+        i += 8;
+    }
+    i
+}
 
 // The place of x among the first n numbers, or n where it is not there.
 pub fn index_of(s: &[u16], n: usize, x: u16) -> usize
     requires { ⌜ n ≤ length (now s) ⌝ }
     ensures { λ r. ⌜ r ≡ indexOf x (take n (now (s .entry))) ⌝ }
 {
-    let mut i = 0;
+    let mut i = skipped(s, n, x);
     while i < n {
         if s[i] == x {
             return i;
@@ -37,9 +66,23 @@ pub(crate) fn relabel(classes: &mut [u16], n: usize, from: u16, to: u16)
 {
     let mut i = 0;
     while i < n {
-        if classes[i] == from {
-            classes[i] = to;
+        let mut label = classes[i];
+        if label == from {
+            label = to;
         }
+        classes[i] = label;
+        i += 1;
+    }
+}
+
+// The first n numbers made 0.
+pub(crate) fn clear(s: &mut [u16], n: usize)
+    requires { ⌜ n ≤ length (now s) ⌝ }
+    ensures { λ _. ⌜ now (s .exit) ≡ cleared n (now (s .entry)) ⌝ }
+{
+    let mut i = 0;
+    while i < n {
+        s[i] = 0;
         i += 1;
     }
 }
@@ -125,20 +168,38 @@ pub(crate) fn link_count(letter: usize, nums: [u16; Sheet::FIELDS]) -> usize
     0
 }
 
-// The links of a row, by its letter.
-pub(crate) fn add_row_links(
-    links: &mut [u16],
-    classes: &mut [u16],
-    n: usize,
-    letter: usize,
-    nums: [u16; Sheet::FIELDS],
-) -> usize
-    requires { ⌜ (n ≤ fillingLinks) × (letter < 2 → getD nums 1 0 ≤ mostLinks) × (length (now links) ≡ fillingLinks + mostLinks) × (length (now classes) ≡ fillingLinks + mostLinks) ⌝ }
-    ensures { λ r. ⌜ (letter ≡ 3 → r ≤ n + 1) × Relinks (now (links .entry)) (now (classes .entry)) n (now (links .exit)) (now (classes .exit)) r (linkedBy letter nums) ⌝ }
+// How many of n links or marks are gone with a row of this letter: a filling begins with none.
+pub(crate) fn gone_by(letter: usize, n: usize) -> usize
+    ensures { λ r. ⌜ r ≡ gone letter n ⌝ }
 {
+    if 3 < letter {
+        return n;
+    }
+    0
+}
+
+// Those of n numbers in both arrays that are gone, made 0. How many are left is returned.
+pub(crate) fn clear_gone(a: &mut [u16], b: &mut [u16], n: usize, letter: usize) -> usize
+    requires { ⌜ (n ≤ length (now a)) × (n ≤ length (now b)) ⌝ }
+    ensures { λ r. ⌜ (r ≡ n - gone letter n) × (now (a .exit) ≡ cleared (gone letter n) (now (a .entry))) × (now (b .exit) ≡ cleared (gone letter n) (now (b .entry))) ⌝ }
+{
+    let old = gone_by(letter, n);
+    clear(a, old);
+    clear(b, old);
+    n - old
+}
+
+// The links of a row, by its letter.
+pub fn add_row_links(links: &mut [u16], classes: &mut [u16], n: usize, row: Row) -> usize
+    requires { ⌜ (n ≤ fillingLinks) × Ranged row × (length (now links) ≡ fillingLinks + mostLinks) × (length (now classes) ≡ fillingLinks + mostLinks) ⌝ }
+    ensures { λ r. ⌜ (row .letter ≡ 3 → r ≤ n + 1) × Relinks (now (links .entry)) (now (classes .entry)) n (now (links .exit)) (now (classes .exit)) r (linkedBy row) ⌝ }
+{
+    let nums = row.nums;
+    let letter = row.letter;
+    let kept = clear_gone(links, classes, n, letter);
     let from = first_link(letter);
     let count = link_count(letter, nums);
-    let m = add_links(links, classes, n, nums, from, count);
+    let m = add_links(links, classes, kept, nums, from, count);
     if letter != 2 {
         return m;
     }
@@ -146,124 +207,51 @@ pub(crate) fn add_row_links(
     m
 }
 
-// The links that a symbol or blank row may have; those past its count are 0.
-pub(crate) fn row_links(nums: [u16; Sheet::FIELDS]) -> [u16; Sheet::MOST_LINKS]
-    ensures { λ r. ⌜ r ≡ drop 2 nums ⌝ }
+// A mark on a link that is there. The count of marks with it is returned.
+pub(crate) fn add_mark(
+    links: &[u16],
+    classes: &mut [u16],
+    marks: &mut [u16],
+    marked: &mut [u16],
+    n: usize,
+    m: usize,
+    a: u16,
+    mark: u16,
+) -> usize
+    requires { ⌜ (n < fillingLinks + mostLinks) × (m ≤ sheetMarks) × ((p : ℕ) → getD (now marked) p 0 < fillingLinks) × (length (now links) ≡ fillingLinks + mostLinks) × (length (now classes) ≡ fillingLinks + mostLinks) × (length (now marks) ≡ sheetMarks + 1) × (length (now marked) ≡ sheetMarks + 1) ⌝ }
+    ensures { λ r. ⌜ ((w : Wiring) → Wired w → Tied w (now (links .entry)) (now (classes .entry)) n (now (marks .entry)) (now (marked .entry)) m → Tied (withMark w a mark) (now (links .entry)) (now (classes .exit)) n (now (marks .exit)) (now (marked .exit)) r) ⌝ }
 {
-    let mut links = [0u16; Sheet::MOST_LINKS];
-    let mut k = 0;
-    while k < Sheet::MOST_LINKS {
-        links[k] = nums[k + 2];
-        k += 1;
+    let i = index_of(links, n, a);
+    let p = index_of(marks, m, mark);
+    if p < m {
+        let place = marked[p] as usize;
+        merge(classes, n, place, i);
+        return m;
     }
-    links
+    marks[m] = mark;
+    marked[m] = i as u16;
+    m + 1
 }
 
-// The table of port counts with that of a number, unless it has one.
-pub(crate) fn ports_with(
-    ports: [u16; Sheet::NUMBERS],
-    number: usize,
-    count: u16,
-) -> [u16; Sheet::NUMBERS]
-    requires { ⌜ number < 5 ⌝ }
-    ensures { λ r. ⌜ r ≡ pick (eqb (getD ports number 0) 0) (set ports number count) ports ⌝ }
+// The mark of a row, by its letter, on one of the links that are there with the row. Before a head
+// the marks are those of another filling.
+pub fn add_row_mark(
+    links: &[u16],
+    classes: &mut [u16],
+    marks: &mut [u16],
+    marked: &mut [u16],
+    n: usize,
+    m: usize,
+    row: Row,
+) -> usize
+    requires { ⌜ (row .letter ≡ 3 → n < fillingLinks + mostLinks) × (m ≤ sheetMarks) × ((p : ℕ) → getD (now marked) p 0 < fillingLinks) × (length (now links) ≡ fillingLinks + mostLinks) × (length (now classes) ≡ fillingLinks + mostLinks) × (length (now marks) ≡ sheetMarks + 1) × (length (now marked) ≡ sheetMarks + 1) ⌝ }
+    ensures { λ r. ⌜ ((w v : Wiring) → Wired w → Wired v → Linked w (now (links .entry)) (now (classes .entry)) n → Marked (pick (ltb 3 (row .letter)) v w) (now (marks .entry)) (now (marked .entry)) m → Tied (markedBy row w) (now (links .entry)) (now (classes .exit)) n (now (marks .exit)) (now (marked .exit)) r) ⌝ }
 {
-    let mut table = ports;
-    if table[number] == 0 {
-        table[number] = count;
+    let nums = row.nums;
+    let letter = row.letter;
+    let kept = clear_gone(marks, marked, m, letter);
+    if letter != 3 {
+        return kept;
     }
-    table
-}
-
-impl Sheet {
-    // A mark on a link that the sheet has.
-    pub(crate) fn with_mark(mut self, a: u16, m: u16) -> Self
-        requires { ⌜ (self .«link_count» < fillingLinks + mostLinks) × (self .«mark_count» ≤ sheetMarks) × ((p : ℕ) → getD (self .marked) p 0 < fillingLinks) ⌝ }
-        ensures { λ r. ⌜ Rewires self r (λ w. withMark w a m) ⌝ }
-    {
-        let n = self.mark_count;
-        let i = index_of(&self.links, self.link_count, a);
-        let p = index_of(&self.marks, n, m);
-        if p < n {
-            let place = self.marked[p] as usize;
-            let mut classes = self.classes;
-            merge(&mut classes, self.link_count, place, i);
-            self.classes = classes;
-            return self;
-        }
-        self.marks[n] = m;
-        self.marked[n] = i as u16;
-        self.mark_count = n + 1;
-        self
-    }
-
-    // A symbol row as an atom.
-    pub(crate) fn with_atom(mut self, nums: [u16; Sheet::FIELDS]) -> Self
-        requires { ⌜ self .«atom_count» ≤ sheetAtoms ⌝ }
-        ensures { λ r. ⌜ Makes self r (λ h. withSymbol h nums) ⌝ }
-    {
-        let n = self.atom_count;
-        let links = row_links(nums);
-        self.atoms[n] = Atom {
-            name: nums[0],
-            count: nums[1],
-            links,
-        };
-        self.atom_count = n + 1;
-        self
-    }
-
-    // A blank row or a head as a context, at this row.
-    pub(crate) fn with_ports(mut self, nums: [u16; Sheet::FIELDS], row: u16) -> Self
-        requires { ⌜ (self .«context_count» ≤ figureContexts) × (getD nums 0 0 < 5) × (getD nums 1 0 ≤ mostLinks) ⌝ }
-        ensures { λ r. ⌜ Makes self r (λ h. withPorts h nums row) × (r .«link_count» ≡ self .«link_count») ⌝ }
-    {
-        let n = self.context_count;
-        let links = row_links(nums);
-        let ports = ports_with(self.ports, nums[0] as usize, nums[1] + 1);
-        self.ports = ports;
-        self.contexts[n] = Context {
-            number: nums[0],
-            count: nums[1],
-            links,
-            row,
-        };
-        self.context_count = n + 1;
-        self
-    }
-
-    // A filling begins: no links and no marks.
-    pub(crate) fn unwired(mut self) -> Self
-        ensures { λ r. ⌜ Rewires self r (λ w. noWiring) × (r .«context_count» ≡ self .«context_count») ⌝ }
-    {
-        self.links = [0; Sheet::LINK_ROOM];
-        self.classes = [0; Sheet::LINK_ROOM];
-        self.link_count = 0;
-        self.marks = [0; Sheet::MARK_ROOM];
-        self.marked = [0; Sheet::MARK_ROOM];
-        self.mark_count = 0;
-        self
-    }
-
-    // The sheet with one row more, which is the text's row `at`.
-    pub fn with_row(mut self, row: Row, at: u16) -> Self
-        requires { ⌜ Room self × Ranged row ⌝ }
-        ensures { λ r. ⌜ ((h : Held) → Wired (h .wiring) → self ≡ packed h → at ≡ h .rows + 1 → r ≡ packed (withRow h row)) ⌝ }
-    {
-        let nums = row.nums;
-        let letter = row.letter;
-        let mut links = self.links;
-        let mut classes = self.classes;
-        let n = add_row_links(&mut links, &mut classes, self.link_count, letter, nums);
-        self.links = links;
-        self.classes = classes;
-        self.link_count = n;
-        match letter {
-            0 => self.with_atom(nums),
-            1 => self.with_ports(nums, at),
-            2 => self,
-            3 => self.with_mark(nums[0], nums[1]),
-            _ => self.unwired().with_ports(nums, at),
-        }
-    }
+    add_mark(links, classes, marks, marked, n, kept, nums[0], nums[1])
 }

@@ -8,7 +8,7 @@ use deciding::taken::taken_by;
 use faults::fault::find;
 use rows::Sheet;
 use sheet::normal::Normal;
-use stepping::lookup::touches;
+use stepping::chains::chains;
 ghost use mathlib.Core.Path.{_≡_};
 ghost use mathlib.Core.Bool.{false};
 ghost use lib.ListN.{take};
@@ -46,7 +46,7 @@ fn least(
     requires { ⌜ Ready sheet figure × LinksIn sheet figure to ⌝ }
     ensures { λ r. ⌜ LeastIn sheet figure taken to flags r ⌝ }
 {
-    let table = touches(sheet);
+    let table = chains(sheet);
     let kind = kinds(figure);
     if !completable(sheet, figure, &table, taken, kind, to, flags, 0) {
         return nothing();

@@ -3,10 +3,11 @@ use faults::fault::Fault;
 use faults::fault::find;
 use rows::Sheet;
 use sheet::normal::Normal;
-use stepping::TOUCHES;
+use stepping::CHAINS;
 use stepping::torn::torn;
 ghost use Prim.Native.Nat.{_≤_};
-ghost use Rattle.network.specs.Ready.{Ready, LinksIn, TouchesIn};
+ghost use Rattle.network.specs.Ready.{Ready, LinksIn};
+ghost use Rattle.stepping.specs.Chains.{ChainsIn};
 ghost use Rattle.settling.specs.Completes.{Hinders};
 
 // The last link was settled at sheet link y, 0 where there was none. The fault has no links where no unsettled
@@ -14,13 +15,13 @@ ghost use Rattle.settling.specs.Completes.{Hinders};
 pub(crate) fn obstacle(
     sheet: Normal,
     figure: Normal,
-    touches: &[u8; TOUCHES],
+    chains: &[u16; CHAINS],
     taken: [u8; Sheet::ATOMS],
     to: [u16; Sheet::LINKS],
     flags: [u8; Sheet::LINKS],
     y: u16,
 ) -> Fault
-    requires { ⌜ Ready sheet figure × TouchesIn sheet (now touches) × LinksIn sheet figure to × (y ≤ sheet .«class_count») ⌝ }
+    requires { ⌜ Ready sheet figure × ChainsIn sheet (now chains) × LinksIn sheet figure to × (y ≤ sheet .«class_count») ⌝ }
     ensures { λ r. ⌜ Hinders sheet figure taken to flags r ⌝ }
 {
     if torn(figure, to, flags, y) {
@@ -30,5 +31,5 @@ pub(crate) fn obstacle(
             given: [0; Sheet::ATOMS],
         };
     }
-    find(sheet, figure, touches, taken, to)
+    find(sheet, figure, chains, taken, to)
 }

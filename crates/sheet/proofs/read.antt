@@ -7,3 +7,4 @@ pub mod Walk
 pub mod Clashes
 pub mod Judged
 pub mod Answered
+pub mod Turn

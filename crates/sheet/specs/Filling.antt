@@ -1,5 +1,6 @@
 -- Document 01, 'Rows': the filling of one blank as a part of a list of fillings.
 use Prim.Native.Nat.{ℕ, zero, suc}
+use mathlib.Core.Path.{_≡_}
 use mathlib.Core.List.{List, [], _++_}
 use mathlib.Core.Bool.{Bool, true, false}
 use lib.Dec.{eqb, ltb}
@@ -31,6 +32,10 @@ beforeHead (suc n) text = pick (ltb (length text) rowWidth) [] (pick (headFirst 
 abbrev pub isPassed : Answer → Bool
 isPassed Passed = true
 isPassed (Refused why row) = false
+
+-- no row of the list is refused
+abbrev pub Passes : List ℕ → Type 0
+Passes list = isPassed (outcomeOf Fillings noPorts list .answer) ≡ true
 
 -- an H row and the rows up to the next one
 abbrev pub firstFilling : ℕ → List ℕ → List ℕ

@@ -91,7 +91,7 @@ rowTests kind pattern h r =
 abbrev pub tests : Kind → List ℕ → Held → List ℕ → List (Bool × Refusal)
 tests kind pattern h text = (long h, Long) ∷ (ragged text, Ragged) ∷ rowTests kind pattern h (rowOf (take rowWidth text))
 
--- a reader's answer, and what the rows before the refused one, or all of them, hold
+-- a reader's answer, and what the text holds; a text that is turned down holds nothing
 pub record Outcome : Type 0 where
   pub answer : Answer
   pub held : Held
@@ -101,7 +101,7 @@ passed h = record { answer = Passed; held = h }
 
 -- a text turned down at the row after those of h
 abbrev pub refusedAfter : Held → Refusal → Outcome
-refusedAfter h why = record { answer = Refused why (h .rows + 1); held = h }
+refusedAfter h why = record { answer = Refused why (h .rows + 1); held = nothing }
 
 abbrev pub settled : Verdict → Held → Outcome → Outcome
 settled taken h next = next

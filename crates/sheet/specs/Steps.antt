@@ -1,14 +1,21 @@
 -- What the steps of reading a row answer.
-use Prim.Native.Nat.{ℕ}
+use Prim.Native.Nat.{ℕ, _+_}
+use mathlib.Core.Path.{_≡_}
 use mathlib.Core.List.{List, [], _∷_}
-use mathlib.Core.Bool.{Bool}
+use mathlib.Core.Bool.{Bool, true}
 use lib.Dec.{eqb, ltb, leb}
+use lib.ListN.{take}
 use Rattle.rows.specs.Pick.{and, or, not}
+use Rattle.rows.specs.Format.{rowWidth}
 use Rattle.rows.specs.Limits.{rowLimit, figureContexts, sheetMarks}
+use Rattle.rows.specs.Row.{rowOf}
+use Rattle.rows.specs.declared.Sheet.{Sheet}
 use Rattle.rows.specs.declared.row.Row.{Row}
 use Rattle.sheet.specs.Kinds.{isList, atomLimit, linkLimit, allowed}
-use Rattle.sheet.specs.Reading.{Verdict, taken, refused}
+use Rattle.sheet.specs.Filling.{isPassed}
+use Rattle.sheet.specs.Reading.{ragged, Verdict, taken, refused, firstOf}
 use Rattle.sheet.specs.declared.kind.Kind.{Kind}
+use Rattle.sheet.specs.declared.read.Next.{Next}
 use Rattle.sheet.specs.declared.answer.Refusal.{Refusal}
 use Rattle.sheet.specs.declared.answer.Refusal.the-variants.{Ragged, StrangeRow, BadColumn, Long, Crowded, Joints, Marks, BlankClash}
 use Rattle.sheet.specs.declared.answer.Answer.{Answer}
@@ -32,6 +39,11 @@ earlyTests kind heads k cut r =
     ∷ (not (r .good), BadColumn)
     ∷ []
 
+-- the row with which a text begins, after k rows, and the answer of these tests; where they turn it down no row is asked for
+pub record Looked (kind : Kind) (heads k : ℕ) (text : List ℕ) (n : Next) : Type 0 where
+  pub answer : n .answer ≡ answerOf (firstOf (earlyTests kind heads k (ragged text) (rowOf (take rowWidth text)))) (k + 1)
+  pub row : isPassed (n .answer) ≡ true → n .row ≡ rowOf (take rowWidth text)
+
 -- the tests 5, 6, 7, 8, by the counts with the row
 abbrev pub lateTests : Kind → ℕ → ℕ → ℕ → ℕ → Bool → List (Bool × Refusal)
 lateTests kind atoms contexts links marks clash =
@@ -40,3 +52,20 @@ lateTests kind atoms contexts links marks clash =
     ∷ (ltb sheetMarks marks, Marks)
     ∷ (clash, BlankClash)
     ∷ []
+
+-- a sheet with these links and marks
+abbrev pub rewired : Sheet → List ℕ → List ℕ → ℕ → List ℕ → List ℕ → ℕ → Sheet
+rewired s links classes n marks marked m =
+    record {
+      atoms = s .atoms;
+      «atom_count» = s .«atom_count»;
+      contexts = s .contexts;
+      «context_count» = s .«context_count»;
+      ports = s .ports;
+      links = links;
+      classes = classes;
+      «link_count» = n;
+      marks = marks;
+      marked = marked;
+      «mark_count» = m;
+    }

@@ -2,14 +2,15 @@
 use crate::answer::Answer;
 use crate::read::read_list;
 use rows::Sheet;
-use rows::row::read_row;
 ghost use mathlib.Core.Path.{_≡_};
 ghost use Prim.Native.Nat.{_+_, _-_, _≤_};
 ghost use lib.ListN.{length, take, drop};
-ghost use Rattle.sheet.specs.Filling.{fromHead, beforeHead, fillingOf};
+ghost use Rattle.sheet.specs.Filling.{fromHead, beforeHead, fillingOf, Passes};
 
-// Where the row of the head for this number starts, the list's length where there is none.
+// Where the row of the head for this number starts, in a list that passed; the list's length where there is
+// none. A head's number is one digit, in the last column of its field.
 fn head_at(list: &[u8], number: u16) -> usize
+    requires { ⌜ Passes (now list) ⌝ }
     ensures { λ r. ⌜ (r ≤ length (now (list .entry))) × (drop r (now (list .entry)) ≡ fromHead (length (now (list .entry))) number (now (list .entry))) ⌝ }
 {
     let mut at = 0;
@@ -18,9 +19,8 @@ fn head_at(list: &[u8], number: u16) -> usize
             return list.len();
         }
         if list[at] == b'H' {
-            let row = read_row(&list[at..at + Sheet::ROW]);
-            let nums = row.nums;
-            if nums[0] == number {
+            let digit = list[at + 4] - b'0';
+            if digit as u16 == number {
                 return at;
             }
         }
@@ -47,22 +47,28 @@ fn rows_end(list: &[u8], from: usize) -> usize
     at
 }
 
-// The filling of one context, its head first, as a part of the list; empty where a row of the list
-// is refused or the context has no filling there.
+// The filling of one context, its head first, as a part of a list that passed; empty where the context
+// has no filling there.
+pub fn filling_in(list: &[u8], number: u16) -> &[u8]
+    requires { ⌜ Passes (now list) ⌝ }
+    ensures { λ r. ⌜ now r ≡ fillingOf (now (list .entry)) number ⌝ }
+{
+    let from = head_at(list, number);
+    if list.len() - from < Sheet::ROW {
+        return &list[0..0];
+    }
+    let to = rows_end(list, from + Sheet::ROW);
+    &list[from..to]
+}
+
+// The same of any list; empty where a row of the list is refused.
 pub fn filling_of(list: &[u8], number: u16) -> &[u8]
     ensures { λ r. ⌜ now r ≡ fillingOf (now (list .entry)) number ⌝ }
 {
     let reading = read_list(list);
     let answer = reading.answer;
     match answer {
-        Answer::Passed => {
-            let from = head_at(list, number);
-            if list.len() - from < Sheet::ROW {
-                return &list[0..0];
-            }
-            let to = rows_end(list, from + Sheet::ROW);
-            &list[from..to]
-        }
+        Answer::Passed => filling_in(list, number),
         Answer::Refused(_, _) => &list[0..0],
     }
 }

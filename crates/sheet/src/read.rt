@@ -6,29 +6,42 @@ use crate::kind::is_strange;
 use crate::kind::most_atoms;
 use crate::kind::most_links;
 use crate::kind::ports_clash;
-use rows::Context;
 use rows::Sheet;
+use rows::entry::atom_of;
+use rows::entry::context_of;
+use rows::entry::is_context;
+use rows::entry::row_ports;
 use rows::row::Row;
 use rows::row::read_row;
+use rows::take::add_row_links;
+use rows::take::add_row_mark;
 ghost use mathlib.Core.Path.{_≡_};
 ghost use mathlib.Core.List.{List};
 ghost use mathlib.Core.Bool.{false};
-ghost use Prim.Native.Nat.{_+_, _≤_};
+ghost use Prim.Native.Nat.{_+_, _-_, _*_, _≤_};
 ghost use lib.ListN.{length, take, drop};
+ghost use Rattle.rows.specs.Pick.{pick};
 ghost use Rattle.rows.specs.Format.{rowWidth};
-ghost use Rattle.rows.specs.Limits.{rowLimit, figureContexts};
+ghost use Rattle.rows.specs.Limits.{rowLimit};
 ghost use Rattle.rows.specs.Row.{rowOf};
-ghost use Rattle.rows.specs.Packed.{padded, noContext, portTable};
+ghost use Rattle.rows.specs.Held.{nothing};
+ghost use Rattle.rows.specs.Packed.{packed, portTable};
 ghost use Rattle.rows.specs.Steps.{Ranged};
 ghost use Rattle.rows.specs.declared.Context.{Context};
 ghost use Rattle.sheet.specs.Filling.{isPassed};
 ghost use Rattle.sheet.specs.Reading.{ragged, lastNumber, clashes, firstOf, readingOf, outcomeOf, noPorts};
-ghost use Rattle.sheet.specs.Steps.{answerOf, earlyTests, lateTests};
+ghost use Rattle.sheet.specs.Steps.{answerOf, earlyTests, lateTests, Looked, rewired};
 
-// A reader's answer, and what the rows before the refused one, or all of them, hold.
+// A reader's answer, and what the text holds; a text that is turned down holds nothing.
 pub struct Reading {
     pub answer: Answer,
     pub sheet: Sheet,
+}
+
+// The next row, and whether a test that asks nothing of what is held turns it down.
+struct Next {
+    answer: Answer,
+    row: Row,
 }
 
 fn is_passed(answer: Answer) -> bool
@@ -86,34 +99,51 @@ fn early_answer(kind: Kind, heads: usize, cut: bool, row: Row, k: usize) -> Answ
     Answer::Passed
 }
 
-// The number of the last context, 0 where there is none.
-fn last_number(contexts: [Context; Sheet::CONTEXT_ROOM], n: usize) -> u16
-    requires { ⌜ n ≤ figureContexts ⌝ }
-    ensures { λ r. ⌜ ((l : List Context) → contexts ≡ padded (figureContexts + 1) noContext l → n ≡ length l → r ≡ lastNumber l) ⌝ }
+// The row after k rows, of which so many are heads, with refusals 4, 1, 2 and 3.
+fn next_row(kind: Kind, heads: usize, text: &[u8], k: usize) -> Next
+    requires { ⌜ (k ≤ rowLimit) × (k * rowWidth ≤ length (now text)) ⌝ }
+    ensures { λ r. ⌜ Looked kind heads k (drop (k * rowWidth) (now (text .entry))) r ⌝ }
+{
+    let cut = is_ragged(text, k * Sheet::ROW);
+    let row = row_at(text, k * Sheet::ROW, cut);
+    let answer = early_answer(kind, heads, cut, row, k);
+    Next { answer, row }
+}
+
+// The place of the last of n contexts; where there is none, that of an empty one.
+fn before(n: usize) -> usize
+    ensures { λ r. ⌜ r ≡ n - 1 ⌝ }
 {
     if n == 0 {
         return 0;
     }
-    let last = contexts[n - 1];
-    last.number
+    n - 1
 }
 
-// Refusal 8 in a row, after these n contexts with their table of ports.
+fn counted(more: bool) -> usize
+    ensures { λ r. ⌜ r ≡ pick more 1 0 ⌝ }
+{
+    if more {
+        return 1;
+    }
+    0
+}
+
+// Refusal 8 in a row, after contexts with this table of ports, of which the last has this number.
 fn row_clash(
     kind: Kind,
     pattern: [u16; Sheet::NUMBERS],
     ports: [u16; Sheet::NUMBERS],
-    contexts: [Context; Sheet::CONTEXT_ROOM],
-    n: usize,
+    last: u16,
     row: Row,
 ) -> bool
-    requires { ⌜ (n ≤ figureContexts) × Ranged row ⌝ }
-    ensures { λ r. ⌜ ((l : List Context) → contexts ≡ padded (figureContexts + 1) noContext l → n ≡ length l → ports ≡ portTable l → r ≡ clashes kind pattern l row) ⌝ }
+    requires { ⌜ Ranged row ⌝ }
+    ensures { λ r. ⌜ ((l : List Context) → last ≡ lastNumber l → ports ≡ portTable l → r ≡ clashes kind pattern l row) ⌝ }
 {
     let nums = row.nums;
     let letter = row.letter;
     if letter == 4 {
-        return nums[0] <= last_number(contexts, n);
+        return nums[0] <= last;
     }
     if letter == 1 {
         let number = nums[0] as usize;
@@ -152,45 +182,78 @@ fn late_answer(
     Answer::Passed
 }
 
+// What is read, in the arrays of a sheet.
+fn wired(
+    sheet: Sheet,
+    links: [u16; Sheet::LINK_ROOM],
+    classes: [u16; Sheet::LINK_ROOM],
+    n: usize,
+    marks: [u16; Sheet::MARK_ROOM],
+    marked: [u16; Sheet::MARK_ROOM],
+    m: usize,
+) -> Reading
+    ensures { λ r. ⌜ r ≡ record { answer = Answer.Passed; sheet = rewired sheet links classes n marks marked m } ⌝ }
+{
+    let mut sheet = sheet;
+    sheet.links = links;
+    sheet.classes = classes;
+    sheet.link_count = n;
+    sheet.marks = marks;
+    sheet.marked = marked;
+    sheet.mark_count = m;
+    Reading {
+        answer: Answer::Passed,
+        sheet,
+    }
+}
+
+fn turned_down(answer: Answer) -> Reading
+    ensures { λ r. ⌜ r ≡ record { answer = answer; sheet = packed nothing } ⌝ }
+{
+    Reading {
+        answer,
+        sheet: Sheet::empty(),
+    }
+}
+
 // The one walk over rows. `pattern` has the port counts of the pattern's contexts, for a replacement.
 pub fn read_text(kind: Kind, pattern: [u16; Sheet::NUMBERS], text: &[u8]) -> Reading
     ensures { λ r. ⌜ r ≡ readingOf (outcomeOf kind pattern (now (text .entry))) ⌝ }
 {
     let mut sheet = Sheet::empty();
-    let mut at = 0;
+    let mut links = [0; Sheet::LINK_ROOM];
+    let mut classes = [0; Sheet::LINK_ROOM];
+    let mut marks = [0; Sheet::MARK_ROOM];
+    let mut marked = [0; Sheet::MARK_ROOM];
+    let mut n = 0;
+    let mut m = 0;
     let mut k = 0;
-    while at < text.len() {
-        let n = sheet.context_count;
-        let cut = is_ragged(text, at);
-        let row = row_at(text, at, cut);
-        let answer = early_answer(kind, n, cut, row, k);
+    while k * Sheet::ROW < text.len() {
+        let c = sheet.context_count;
+        let next = next_row(kind, c, text, k);
+        let row = next.row;
+        let answer = next.answer;
         if !is_passed(answer) {
-            return Reading { answer, sheet };
+            return turned_down(answer);
         }
-        let ports = sheet.ports;
-        let contexts = sheet.contexts;
-        let clash = row_clash(kind, pattern, ports, contexts, n, row);
-        let next = sheet.with_row(row, (k + 1) as u16);
-        let answer = late_answer(
-            kind,
-            next.atom_count,
-            next.context_count,
-            next.link_count,
-            next.mark_count,
-            clash,
-            k + 1,
-        );
-        if !is_passed(answer) {
-            return Reading { answer, sheet };
-        }
-        sheet = next;
+        let last = before(c);
+        let clash = row_clash(kind, pattern, sheet.ports, sheet.contexts[last].number, row);
+        let a = sheet.atom_count;
+        sheet.atoms[a] = atom_of(row);
+        sheet.atom_count = a + counted(row.letter == 0);
+        sheet.contexts[c] = context_of(row, (k + 1) as u16);
+        sheet.context_count = c + counted(is_context(row.letter));
+        let ports = row_ports(sheet.ports, row);
+        sheet.ports = ports;
+        n = add_row_links(&mut links, &mut classes, n, row);
+        m = add_row_mark(&links, &mut classes, &mut marks, &mut marked, n, m, row);
         k += 1;
-        at += Sheet::ROW;
+        let answer = late_answer(kind, sheet.atom_count, sheet.context_count, n, m, clash, k);
+        if !is_passed(answer) {
+            return turned_down(answer);
+        }
     }
-    Reading {
-        answer: Answer::Passed,
-        sheet,
-    }
+    wired(sheet, links, classes, n, marks, marked, m)
 }
 
 pub fn read_sheet(text: &[u8]) -> Reading

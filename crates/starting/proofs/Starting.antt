@@ -6,18 +6,27 @@ use native.Mathlib.Omega.{arith}
 use lib.ListN.{length, getD, replicate, getD-replicate}
 use Rattle.hyperlmntal.specs.Link.{_∈_}
 use Rattle.rows.specs.Limits.{sheetAtoms, sheetLinks}
+use Rattle.rows.specs.declared.Atom.{Atom}
 use Rattle.sheet.specs.declared.normal.Normal.{Normal as NormalForm}
 use Rattle.placing.specs.Net.{Net, Range, cellLinks, Normal}
 use Rattle.placing.specs.Placing.{Placing, atomTo, linkTo, Good}
 use Rattle.network.specs.NetIn.{netIn, atomAt, Fit}
+use Rattle.narrowing.specs.Laid.{laidAtom, LaidOut}
 use Rattle.narrowing.specs.Sets.{Decided, Keeps}
 use Rattle.narrowing.specs.Tables.{mayAtom, mayLink, Stays}
 use Rattle.narrowing.proofs.GoodPlaces.{decided-real, decided-link}
 use Rattle.narrowing.proofs.NetRows.{atom-name}
+use Rattle.narrowing.proofs.Staying.{stays-more}
 use Rattle.narrowing.proofs.Obeying.{here, there, same-count, link-sent, link-place}
 use Rattle.starting.specs.Count.{count}
 use Rattle.starting.specs.Steps.{Alike, placesOf, Enough, MarksOn, MarksBack}
 use Rattle.starting.proofs.GoodLinks.{places-among, closed-marks, closed-places}
+
+-- atoms of nets that are alike, as they are laid out
+pub alike-laid : (S F : NormalForm) (sheet : List ℕ) (n : ℕ) (figure : List ℕ) (m : ℕ) → LaidOut S sheet n → LaidOut F figure m → (a b : List ℕ)
+    → Stays sheetAtoms a b (λ i t. i < m → t < n → Alike (laidAtom figure i) (laidAtom sheet t)) → Stays sheetAtoms a b (λ i t. i < m → t < n → Alike (atomAt F i) (atomAt S t))
+alike-laid S F sheet n figure m os of a b s = stays-more sheetAtoms a b _ s _
+    (λ i t q f h k. subst (λ (w : Atom). Alike w (laidAtom sheet t)) (sym (of .atoms i h)) (subst (λ (w : Atom). Alike (atomAt F i) w) (sym (os .atoms t k)) (f h k)))
 
 -- no context has a link that is 1 in the array
 abbrev pub ClosedIn : NormalForm → List ℕ → Type 0

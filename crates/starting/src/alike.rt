@@ -1,14 +1,16 @@
 // Sheet atoms that are like a figure atom.
-use narrowing::Sets;
+use narrowing::ATOM_PAIRS;
+use narrowing::LAID;
+use narrowing::laid::laid_atom;
 use rows::Atom;
 use rows::Sheet;
-use sheet::normal::Normal;
 ghost use mathlib.Core.Path.{_≡_};
 ghost use mathlib.Core.Bool.{true};
-ghost use Prim.Native.Nat.{_<_};
+ghost use Prim.Native.Nat.{_<_, _≤_};
 ghost use Rattle.rows.specs.Format.{mostLinks};
 ghost use Rattle.rows.specs.Limits.{sheetAtoms, sheetLinks};
-ghost use Rattle.network.specs.NetIn.{Fit, Used, atomAt};
+ghost use Rattle.network.specs.NetIn.{Used};
+ghost use Rattle.narrowing.specs.Laid.{laidAtom, Rowed};
 ghost use Rattle.narrowing.specs.Tables.{Stays};
 ghost use Rattle.starting.specs.Steps.{Echoes, Alike};
 
@@ -52,14 +54,13 @@ fn alike(here: Atom, there: Atom) -> bool
 }
 
 // Figure atom i to sheet atoms that are alike.
-fn start_row(sheet: Normal, figure: Normal, i: usize, atoms: &mut [u8; Sets::ATOM_PAIRS])
-    requires { ⌜ Fit sheet × Fit figure × (i < figure .«atom_count») ⌝ }
-    ensures { λ _. ⌜ Stays sheetAtoms (now (atoms .entry)) (now (atoms .exit)) (λ j t. j ≡ i → t < sheet .«atom_count» → Alike (atomAt figure i) (atomAt sheet t)) ⌝ }
+fn start_row(sheet: &[u16; LAID], n: usize, here: Atom, i: usize, atoms: &mut [u8; ATOM_PAIRS])
+    requires { ⌜ (n ≤ sheetAtoms) × (i < sheetAtoms) × Used sheetLinks (here .count) (here .links) ⌝ }
+    ensures { λ _. ⌜ Stays sheetAtoms (now (atoms .entry)) (now (atoms .exit)) (λ j t. j ≡ i → t < n → Alike here (laidAtom (now (sheet .entry)) t)) ⌝ }
 {
-    let here = figure.atoms[i];
     let mut t = 0;
-    while t < sheet.atom_count {
-        let there = sheet.atoms[t];
+    while t < n {
+        let there = laid_atom(sheet, t);
         if !alike(here, there) {
             atoms[i * Sheet::ATOMS + t] = 0;
         }
@@ -68,13 +69,20 @@ fn start_row(sheet: Normal, figure: Normal, i: usize, atoms: &mut [u8; Sets::ATO
 }
 
 // Figure atoms to sheet atoms that are alike.
-pub(crate) fn start_atoms(sheet: Normal, figure: Normal, atoms: &mut [u8; Sets::ATOM_PAIRS])
-    requires { ⌜ Fit sheet × Fit figure ⌝ }
-    ensures { λ _. ⌜ Stays sheetAtoms (now (atoms .entry)) (now (atoms .exit)) (λ i t. i < figure .«atom_count» → t < sheet .«atom_count» → Alike (atomAt figure i) (atomAt sheet t)) ⌝ }
+pub(crate) fn start_atoms<'a>(
+    sheet: &'a [u16; LAID],
+    n: usize,
+    figure: &'a [u16; LAID],
+    m: usize,
+    atoms: &mut [u8; ATOM_PAIRS],
+)
+    requires { ⌜ Rowed (now sheet) n × Rowed (now figure) m ⌝ }
+    ensures { λ _. ⌜ Stays sheetAtoms (now (atoms .entry)) (now (atoms .exit)) (λ i t. i < m → t < n → Alike (laidAtom (now (figure .entry)) i) (laidAtom (now (sheet .entry)) t)) ⌝ }
 {
     let mut i = 0;
-    while i < figure.atom_count {
-        start_row(sheet, figure, i, atoms);
+    while i < m {
+        let here = laid_atom(figure, i);
+        start_row(sheet, n, here, i, atoms);
         i += 1;
     }
 }

@@ -3,17 +3,20 @@ use crate::alike::start_atoms;
 use crate::profile::closed_links;
 use crate::profile::link_of;
 use crate::profile::place_counts;
-use narrowing::Sets;
+use narrowing::ATOM_PAIRS;
+use narrowing::LAID;
+use narrowing::LINK_PAIRS;
 use rows::Sheet;
 use sheet::normal::Normal;
 ghost use mathlib.Core.Path.{_≡_};
 ghost use mathlib.Core.Bool.{true};
 ghost use mathlib.Core.List.{[]};
-ghost use Prim.Native.Nat.{_+_, _-_, _<_};
-ghost use lib.ListN.{getD};
-ghost use Rattle.rows.specs.Limits.{sheetLinks};
+ghost use Prim.Native.Nat.{_+_, _*_, _-_, _<_};
+ghost use lib.ListN.{getD, replicate};
+ghost use Rattle.rows.specs.Limits.{sheetAtoms, sheetLinks};
 ghost use Rattle.placing.specs.Net.{Range, Normal as NormalNet};
 ghost use Rattle.network.specs.NetIn.{netIn, Fit};
+ghost use Rattle.narrowing.specs.Laid.{LaidOut};
 ghost use Rattle.narrowing.specs.Sets.{Keeps};
 ghost use Rattle.narrowing.specs.Tables.{mayAtom, mayLink, Stays};
 ghost use Rattle.starting.specs.Steps.{placesOf, Enough, MarksOn, MarksBack};
@@ -37,7 +40,7 @@ fn enough_row(
     closed: u8,
     wanted: u16,
     counts: &[u16; Sheet::LINKS],
-    links: &mut [u8; Sets::LINK_PAIRS],
+    links: &mut [u8; LINK_PAIRS],
 )
     requires { ⌜ Range sheetLinks x ⌝ }
     ensures { λ _. ⌜ Stays sheetLinks (now (links .entry)) (now (links .exit)) (λ z y. z ≡ x - 1 → Enough closed wanted (getD (now (counts .entry)) y 0)) ⌝ }
@@ -56,7 +59,7 @@ fn start_places(
     sheet: Normal,
     figure: Normal,
     closed: &[u8; Sheet::LINKS],
-    links: &mut [u8; Sets::LINK_PAIRS],
+    links: &mut [u8; LINK_PAIRS],
 )
     requires { ⌜ Fit sheet × Fit figure ⌝ }
     ensures { λ _. ⌜ Stays sheetLinks (now (links .entry)) (now (links .exit)) (λ x y. x < figure .«class_count» → Enough (getD (now (closed .entry)) x 0) (placesOf figure x) (placesOf sheet y)) ⌝ }
@@ -71,7 +74,7 @@ fn start_places(
 }
 
 // Figure link x to sheet link y alone.
-fn only_link(x: usize, y: usize, links: &mut [u8; Sets::LINK_PAIRS])
+fn only_link(x: usize, y: usize, links: &mut [u8; LINK_PAIRS])
     requires { ⌜ Range sheetLinks x ⌝ }
     ensures { λ _. ⌜ Stays sheetLinks (now (links .entry)) (now (links .exit)) (λ z v. z ≡ x - 1 → v + 1 ≡ y) ⌝ }
 {
@@ -85,7 +88,7 @@ fn only_link(x: usize, y: usize, links: &mut [u8; Sets::LINK_PAIRS])
 }
 
 // Marked figure links to the sheet links with their marks.
-fn start_marks(sheet: Normal, figure: Normal, links: &mut [u8; Sets::LINK_PAIRS])
+fn start_marks(sheet: Normal, figure: Normal, links: &mut [u8; LINK_PAIRS])
     requires { ⌜ Fit sheet × Fit figure × NormalNet (netIn sheet) ⌝ }
     ensures { λ _. ⌜ Stays sheetLinks (now (links .entry)) (now (links .exit)) (MarksOn sheet figure) ⌝ }
 {
@@ -99,7 +102,7 @@ fn start_marks(sheet: Normal, figure: Normal, links: &mut [u8; Sets::LINK_PAIRS]
 }
 
 // Sheet link y for figure link x alone, of those that are closed.
-fn only_closed(x: usize, y: usize, closed: &[u8; Sheet::LINKS], links: &mut [u8; Sets::LINK_PAIRS])
+fn only_closed(x: usize, y: usize, closed: &[u8; Sheet::LINKS], links: &mut [u8; LINK_PAIRS])
     requires { ⌜ Range sheetLinks y ⌝ }
     ensures { λ _. ⌜ Stays sheetLinks (now (links .entry)) (now (links .exit)) (λ z v. v ≡ y - 1 → getD (now (closed .entry)) z 0 ≡ 1 → z + 1 ≡ x) ⌝ }
 {
@@ -119,7 +122,7 @@ fn start_closed(
     sheet: Normal,
     figure: Normal,
     closed: &[u8; Sheet::LINKS],
-    links: &mut [u8; Sets::LINK_PAIRS],
+    links: &mut [u8; LINK_PAIRS],
 )
     requires { ⌜ Fit sheet × Fit figure × NormalNet (netIn figure) ⌝ }
     ensures { λ _. ⌜ Stays sheetLinks (now (links .entry)) (now (links .exit)) (λ x y. getD (now (closed .entry)) x 0 ≡ 1 → MarksBack sheet figure x y) ⌝ }
@@ -133,17 +136,21 @@ fn start_closed(
     }
 }
 
-// Every good placing stays in these.
-pub fn start(sheet: Normal, figure: Normal) -> Sets
-    requires { ⌜ Fit sheet × Fit figure × NormalNet (netIn sheet) × NormalNet (netIn figure) ⌝ }
-    ensures { λ r. ⌜ Keeps (netIn sheet) (netIn figure) [] (mayAtom (r .atoms)) (mayLink (r .links)) ⌝ }
+// Of tables in which all may go anywhere, what every good placing stays in.
+pub fn start<'a>(
+    sheet: Normal,
+    figure: Normal,
+    laid: &'a [u16; LAID],
+    parts: &'a [u16; LAID],
+    atoms: &mut [u8; ATOM_PAIRS],
+    links: &mut [u8; LINK_PAIRS],
+)
+    requires { ⌜ LaidOut sheet (now laid) (sheet .«atom_count») × LaidOut figure (now parts) (figure .«atom_count») × (now atoms ≡ replicate (sheetAtoms * sheetAtoms) 1) × (now links ≡ replicate (sheetLinks * sheetLinks) 1) ⌝ }
+    ensures { λ _. ⌜ Keeps (netIn sheet) (netIn figure) [] (mayAtom (now (atoms .exit))) (mayLink (now (links .exit))) ⌝ }
 {
-    let mut atoms = [1u8; Sets::ATOM_PAIRS];
-    start_atoms(sheet, figure, &mut atoms);
+    start_atoms(laid, sheet.atom_count, parts, figure.atom_count, atoms);
     let closed = closed_links(figure);
-    let mut links = [1u8; Sets::LINK_PAIRS];
-    start_places(sheet, figure, &closed, &mut links);
-    start_marks(sheet, figure, &mut links);
-    start_closed(sheet, figure, &closed, &mut links);
-    Sets { atoms, links }
+    start_places(sheet, figure, &closed, links);
+    start_marks(sheet, figure, links);
+    start_closed(sheet, figure, &closed, links);
 }

@@ -2,6 +2,7 @@
 pub mod Tables
 pub mod Rows
 pub mod Reading
+pub mod Chaining
 -- Contexts that are left.
 pub mod Least
 -- Labels of figure links.

@@ -4,20 +4,20 @@ use mathlib.Core.Path.{_≡_, sym, _∙_, ap, subst}
 use mathlib.Core.Logic.{_↔_, _⊎_, inl, inr, _≢_}
 use mathlib.Core.List.{List, []}
 use native.Mathlib.Omega.{arith}
-use lib.ListN.{length, take, getD}
+use lib.ListN.{take, getD}
 use lib.Seq.{getD-take}
 use Rattle.hyperlmntal.specs.Link.{_∈_}
-use Rattle.rows.specs.Limits.{sheetAtoms, sheetLinks}
+use Rattle.rows.specs.Limits.{sheetLinks}
 use Rattle.sheet.specs.declared.normal.Normal as form
 use Rattle.placing.specs.Net.{NetCell, Net, Range}
 use Rattle.placing.specs.Placing.{Placing, cellAt, linkTo, PortAt}
 use Rattle.placing.proofs.Lists.{member-at, getD-of}
 use Rattle.network.specs.NetIn.{contextIn, netIn, atomAt, contextAt, Fit}
 use Rattle.network.specs.NetIn as net
-use Rattle.network.specs.Ready.{TouchesIn, stateIn}
+use Rattle.network.specs.Ready.{stateIn}
 use Rattle.network.proofs.NetIn.{used-in, used-at, used-length, atom-index, context-index, contexts-length, context-of}
 use Rattle.completing.specs.Fault.{Used}
-use Rattle.stepping.specs.Flags.{Within, goesTo, atTouch, atPort, portOfNumber}
+use Rattle.stepping.specs.Flags.{Within, goesTo, atPort, portOfNumber}
 use Rattle.stepping.proofs.Tables.{Marked}
 use Rattle.sheet.proofs.normal.Merging.{getD-in}
 
@@ -48,31 +48,6 @@ module _ (sheet : form.Normal) (f : Fit sheet) where
 
   pub atom-place : (j y : ℕ) → j < sheet .«atom_count» → y ∈ (cellAt (netIn sheet .atoms) (suc j)) .1 → (k : ℕ) × (k < atomAt sheet j .count) × (getD (atomAt sheet j .links) k 0 ≡ y)
   atom-place j y h m = used-place (sheet .«class_count») (atomAt sheet j .count) (atomAt sheet j .links) (f .atoms j h) y (subst (λ (l : List ℕ). y ∈ l) (atom-links j h) m)
-
-  abbrev Touching : ℕ → ℕ → Type 0
-  Touching i p = (k : ℕ) × (k < atomAt sheet i .count) × atTouch (atomAt sheet i .links) i k p
-
-  pub touches-in : (table : List ℕ) → length table ≡ sheetLinks * sheetAtoms → Marked (λ p. ⊥) Touching (sheet .«atom_count») table → TouchesIn sheet table
-  touches-in table room m = record { room = room; flags = λ y j h l. (onward y j l, back y j l) }
-    where
-      onward : (y j : ℕ) → j < sheet .«atom_count» → getD table (y * sheetAtoms + j) 0 ≡ 1 → suc y ∈ (cellAt (netIn sheet .atoms) (suc j)) .1
-      onward y j l q = at (t .0) (t .1) (t .2 .0) (t .2 .1) (t .2 .2)
-        where
-          t : (i : ℕ) × (i < sheet .«atom_count») × Touching i (y * sheetAtoms + j)
-          t = marked-only Touching (sheet .«atom_count») table m (y * sheetAtoms + j) .0 q
-
-          at : (i : ℕ) → i < sheet .«atom_count» → (k : ℕ) → k < atomAt sheet i .count → y * sheetAtoms + j ≡ (getD (atomAt sheet i .links) k 0 - 1) * sheetAtoms + i → suc y ∈ (cellAt (netIn sheet .atoms) (suc j)) .1
-          at i h k n e =
-              let r = f .atoms i h .numbered k n in
-              let a : getD (atomAt sheet i .links) k 0 ≡ suc y = omega (arith, r .0, f .atom-count) in
-              let b : i ≡ j = omega (arith, r .0, f .atom-count) in
-              subst (λ (z : ℕ). suc y ∈ (cellAt (netIn sheet .atoms) (suc z)) .1) b (subst (λ (z : ℕ). z ∈ (cellAt (netIn sheet .atoms) (suc i)) .1) a (atom-on i k h n))
-
-      back : (y j : ℕ) → j < sheet .«atom_count» → suc y ∈ (cellAt (netIn sheet .atoms) (suc j)) .1 → getD table (y * sheetAtoms + j) 0 ≡ 1
-      back y j l i =
-          let t = atom-place j (suc y) l i in
-          let e : getD (atomAt sheet j .links) (t .0) 0 ≡ suc y = t .2 in
-          marked-only Touching (sheet .«atom_count») table m (y * sheetAtoms + j) .1 (j, l, (t .0, t .1, omega arith))
 
 module _ (figure : form.Normal) (f : Fit figure) where
   pub context-cell : (c : ℕ) → c < figure .«context_count» → cellAt (netIn figure .contexts) (suc c) ≡ contextIn (contextAt figure c)

@@ -4,7 +4,7 @@ use mathlib.Core.Path.{_≡_}
 use mathlib.Core.Logic.{_≢_}
 use mathlib.Core.List.{List}
 use lib.ListN.{getD}
-use Rattle.rows.specs.Limits.{sheetAtoms, sheetLinks}
+use Rattle.rows.specs.Limits.{sheetLinks}
 use Rattle.sheet.specs.declared.normal.Normal as form
 use Rattle.placing.specs.Net.{Range}
 use Rattle.network.specs.NetIn.{contextAt}
@@ -16,10 +16,6 @@ Within n count l = (k : ℕ) → k < count → Range n (getD l k 0)
 -- figure link x goes to sheet link y, both from 0, and not to none
 abbrev pub goesTo : List ℕ → ℕ → ℕ → ℕ → Type 0
 goesTo to none x y = (getD to x 0 ≡ y + 1) × (getD to x 0 ≢ none)
-
--- the place of link k of atom j
-abbrev pub atTouch : List ℕ → ℕ → ℕ → ℕ → Type 0
-atTouch links j k p = p ≡ (getD links k 0 - 1) * sheetAtoms + j
 
 -- the place of where port k goes, for context c
 abbrev pub atPort : List ℕ → ℕ → List ℕ → ℕ → ℕ → ℕ → Type 0

@@ -1,3 +1,4 @@
 pub mod Labels
 pub mod Flags
 pub mod Contexts
+pub mod Chains

@@ -10,25 +10,18 @@ ghost use Rattle.rows.specs.Limits.{sheetLinks, figureContexts};
 ghost use Rattle.network.specs.NetIn.{Fit};
 ghost use Rattle.stepping.specs.Contexts.{Least};
 
-// Those that have a port at y too.
-pub fn left_at(
-    left: [u8; Sheet::CONTEXT_ROOM],
-    ports: &[u8; PORTS],
-    y: usize,
-    contexts: usize,
-) -> [u8; Sheet::CONTEXT_ROOM]
-    requires { ⌜ (y < sheetLinks) × (contexts ≤ figureContexts) ⌝ }
-    ensures { λ r. ⌜ ((c : ℕ) → c < contexts → (getD r c 0 ≡ 1) ↔ ((getD left c 0 ≡ 1) × (getD (now (ports .entry)) (c * sheetLinks + y) 0 ≡ 1))) ⌝ }
+// Those that have no port at y leave.
+pub fn left_at(left: &mut [u8; Sheet::CONTEXT_ROOM], ports: &[u8; PORTS], y: usize, contexts: usize)
+    requires { ⌜ (y < sheetLinks) × (contexts ≤ figureContexts) × (length (now left) ≡ figureContexts + 1) ⌝ }
+    ensures { λ r. ⌜ (length (now (left .exit)) ≡ figureContexts + 1) × ((c : ℕ) → c < contexts → (getD (now (left .exit)) c 0 ≡ 1) ↔ ((getD (now (left .entry)) c 0 ≡ 1) × (getD (now (ports .entry)) (c * sheetLinks + y) 0 ≡ 1))) ⌝ }
 {
-    let mut next = left;
     let mut c = 0;
     while c < contexts {
         if ports[c * Sheet::LINKS + y] != 1 {
-            next[c] = 0;
+            left[c] = 0;
         }
         c += 1;
     }
-    next
 }
 
 // Of the contexts that are left, the row of one with the least number; past the last where none is left.

@@ -1,4 +1,5 @@
 // Tables over figure and sheet, and figure links that are linked by steps.
+pub mod chains;
 pub mod contexts;
 pub mod lookup;
 pub mod steps;
@@ -7,6 +8,6 @@ pub mod torn;
 use rows::Sheet;
 
 // Sizes of flat tables.
-pub const TOUCHES: usize = Sheet::LINKS * Sheet::ATOMS;
+pub const CHAINS: usize = Sheet::LINKS + Sheet::ATOMS * Sheet::MOST_LINKS;
 
 pub const PORTS: usize = Sheet::CONTEXT_ROOM * Sheet::LINKS;

@@ -1,6 +1,5 @@
 // What is looked up while a component is grown.
 use crate::PORTS;
-use crate::TOUCHES;
 use rows::Sheet;
 use sheet::normal::Normal;
 ghost use mathlib.Core.Path.{_≡_};
@@ -8,40 +7,10 @@ ghost use mathlib.Core.Logic.{_↔_, _⊎_};
 ghost use Prim.Native.Nat.{ℕ, _+_, _*_, _-_, _<_, _≤_};
 ghost use lib.ListN.{length, getD};
 ghost use Rattle.rows.specs.Format.{mostLinks};
-ghost use Rattle.rows.specs.Limits.{sheetAtoms, sheetLinks};
+ghost use Rattle.rows.specs.Limits.{sheetLinks};
 ghost use Rattle.placing.specs.Net.{Range};
-ghost use Rattle.network.specs.NetIn.{Fit, contextAt};
-ghost use Rattle.network.specs.Ready.{TouchesIn};
-ghost use Rattle.stepping.specs.Flags.{Within, atTouch, atPort, portOf, portOfNumber, goesTo};
-
-// The links of atom j.
-fn touch(table: &mut [u8; TOUCHES], j: usize, links: [u16; Sheet::MOST_LINKS], count: usize)
-    requires { ⌜ (j < sheetAtoms) × (count ≤ mostLinks) × Within sheetLinks count links × (length (now table) ≡ sheetLinks * sheetAtoms) ⌝ }
-    ensures { λ r. ⌜ (length (now (table .exit)) ≡ sheetLinks * sheetAtoms) × ((p : ℕ) → (getD (now (table .exit)) p 0 ≡ 1) ↔ ((getD (now (table .entry)) p 0 ≡ 1) ⊎ ((k : ℕ) × (k < count) × atTouch links j k p))) ⌝ }
-{
-    let mut k = 0;
-    while k < count {
-        let y = (links[k] - 1) as usize;
-        table[y * Sheet::ATOMS + j] = 1;
-        k += 1;
-    }
-}
-
-// For link y and atom j, both from 0: 1 at y * ATOMS + j where the atom stands on the link.
-pub fn touches(sheet: Normal) -> [u8; TOUCHES]
-    requires { ⌜ Fit sheet ⌝ }
-    ensures { λ r. ⌜ TouchesIn sheet r ⌝ }
-{
-    let mut table = [0u8; TOUCHES];
-    let mut j = 0;
-    while j < sheet.atom_count {
-        let a = sheet.atoms[j];
-        let links = a.links;
-        touch(&mut table, j, links, a.count as usize);
-        j += 1;
-    }
-    table
-}
+ghost use Rattle.network.specs.NetIn.{Fit};
+ghost use Rattle.stepping.specs.Flags.{Within, atPort, portOf, portOfNumber, goesTo};
 
 // For each sheet link 1 where a figure link goes.
 pub fn used_links(count: usize, to: [u16; Sheet::LINKS], none: u16) -> [u8; Sheet::LINKS]

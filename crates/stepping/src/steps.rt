@@ -8,7 +8,7 @@ ghost use Rattle.rows.specs.Format.{mostLinks};
 ghost use Rattle.rows.specs.Limits.{sheetLinks};
 ghost use Rattle.sheet.specs.declared.normal.Normal as form;
 ghost use Rattle.placing.specs.Net.{Range};
-ghost use Rattle.network.specs.NetIn.{Fit, contextAt};
+ghost use Rattle.network.specs.NetIn.{Fit};
 ghost use Rattle.stepping.specs.Labels.{Relabelled, Grew, Tied, Labelled, Apart};
 
 // Each link its own label.

@@ -16,6 +16,7 @@ use Rattle.rows.specs.declared.Sheet.{Sheet}
 use Rattle.rows.proofs.Padding.{take-padded}
 use Rattle.sheet.specs.Agrees.{Agrees}
 use Rattle.numbering.specs.Numbering.{Numberable}
+use Rattle.sheet.specs.Filling.{isPassed}
 use Rattle.sheet.specs.Graph.{graphOf}
 use Rattle.sheet.specs.NormalSheet.{normalMarks, packedNormal}
 use Rattle.sheet.specs.NormalText.{textOf, slipLength}
@@ -35,7 +36,7 @@ use Rattle.placing.specs.Filled.{filledGraph, filledNormal}
 use Rattle.placing.specs.ListText.{listText}
 use Rattle.placing.specs.Smallest.{smallest, sameList}
 use Rattle.placing.proofs.Chosen.{chosen-fillings}
-use Rattle.placing.proofs.ListBack.{ListFits}
+use Rattle.placing.proofs.ListBack.{ListFits, list-passes}
 use Rattle.placing.proofs.PlacedText.{text-fits}
 use Rattle.placing.proofs.SmallestLaws.{smallest-good}
 use Rattle.network.specs.NetIn.{netIn}
@@ -168,6 +169,7 @@ module _ (sheet pattern : form.Normal) (replacement : Sheet) (s p q : List ℕ) 
                   subst (λ t. FilledInputs replacement t q) (sym part)
                   (record {
                     of-figure = I .of-replacement ∙ ap (λ (x : Outcome). packed (x .held)) (sym figure);
+                    passes = ap isPassed (list-passes θ list-fits);
                     none-lacking = ap (λ (x : Outcome). firstLacking (listHeld (listText θ) .contexts) (x .held .contexts)) figure
                         ∙ written-lacks θ list-fits read-back (fits .one) (fits .exact) (R .contexts) (replacement-covered p θ fits q);
                     none-differing = written-exact θ list-fits read-back (fits .one) (fits .exact);

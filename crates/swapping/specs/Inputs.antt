@@ -7,6 +7,7 @@ use Rattle.rows.specs.Pick.{pick}
 use Rattle.rows.specs.Packed.{packed}
 use Rattle.rows.specs.declared.Sheet.{Sheet}
 use Rattle.sheet.specs.Graph.{graphOf}
+use Rattle.sheet.specs.Filling.{Passes}
 use Rattle.sheet.specs.declared.normal.Normal as form
 use Rattle.sheet.specs.declared.answer.Answer.the-variants.{Passed}
 use Rattle.filling.specs.Read.{listHeld}
@@ -17,9 +18,10 @@ use Rattle.finding.specs.Place.{patternHeld, placedFillings}
 use Rattle.finding.specs.Inputs.{PlaceInputs}
 use Rattle.swapping.specs.Swap.{replacementRead, replacementHeld, sameMarks, swappedAnswer, swappedText}
 
--- no 8 and no 9 over whole texts
+-- a list that passed, and no 8 and no 9 over whole texts
 pub record FilledInputs (figure : Sheet) (list figureText : List ℕ) : Type 0 where
   pub of-figure : figure ≡ packed (figureHeld figureText)
+  pub passes : Passes list
   pub none-lacking : firstLacking (listHeld list .contexts) (figureHeld figureText .contexts) ≡ 0
   pub none-differing : firstDiffering list (listHeld list .contexts) ≡ 0
 

@@ -49,7 +49,8 @@ fn write_filled(figure: Sheet, list: &[u8], out: &mut [u8]) -> Done
     ensures { λ r. ⌜ ((text : List ℕ) → FilledInputs figure (now (list .entry)) text → r ≡ filledDone text (now (list .entry))) ⌝ }
     ensures { λ r. ⌜ ((text : List ℕ) → FilledInputs figure (now (list .entry)) text → now (out .exit) ≡ slipAfter r (filledText text (now (list .entry))) (now (out .entry))) ⌝ }
 {
-    let normal = normal_filled(figure, list);
+    let mut exact = [0u16; Sheet::NUMBERS];
+    let normal = normal_filled(figure, list, &mut exact);
     if Sheet::ATOMS < normal.atom_count {
         return Done::TooLarge;
     }

@@ -17,6 +17,7 @@ use Rattle.rows.specs.Packed.{portsOf}
 use Rattle.rows.specs.Held.{Held, contextOf, withAtom, withContext, withFusionRow, withEdgeRow, withRow}
 use Rattle.rows.specs.declared.Atom.{Atom}
 use Rattle.rows.specs.declared.Context.{Context}
+use Rattle.rows.proofs.Wired.{row-by}
 use Rattle.sheet.specs.Kinds.{isFigure, isList, atomLimit, linkLimit}
 use Rattle.sheet.specs.Graph.{atomCell, contextCell, edgeOf, graphOf}
 use Rattle.sheet.specs.Normal.{classOf, markNode, shown, numberedBy, normalFormBy, normalForm}
@@ -26,7 +27,6 @@ use Rattle.sheet.specs.declared.kind.Kind.{Kind}
 use Rattle.sheet.specs.declared.kind.Kind.the-variants.{Plain, Pattern, Figure, Replacement, Fillings}
 use Rattle.sheet.specs.Agrees.{Agrees}
 use Rattle.sheet.proofs.read.Ranges.{Every, every-one, MarkRange, AtomRange, ContextRange, EdgeRange, WithinLimits}
-use Rattle.sheet.proofs.read.ReadingLaws.{row-by}
 use Rattle.sheet.proofs.read.Taken.{rowAt, Taken, outcome-keeps}
 use Rattle.sheet.proofs.normal.Marks.{marks-of}
 use Rattle.sheet.proofs.normal.Connected.{no-head, ports-in}

@@ -5,19 +5,17 @@ use mathlib.Core.List.{List, [], _++_, append-assoc, append-nil}
 use mathlib.Core.Bool.{Bool, true, false}
 use mathlib.Core.Logic.{_⊎_, inl, inr, ⊎-elim}
 use native.Mathlib.Omega.{arith}
-use native.Mathlib.Nat.{add-zero, add-sub-cancel-left}
+use native.Mathlib.Nat.{add-zero}
 use lib.Dec.{ltb, eqb}
 use lib.ListN.{length, getD, drop, take, length-drop}
 use lib.Seq.{drop-drop, drop-length, getD-drop, take-add}
-use borrow.Author.Tests.{lt-ltb, le-ltb, ltb-false, eq-eqb, ne-eqb}
+use borrow.Author.Tests.{lt-ltb, le-ltb, ltb-false, ne-eqb}
 use Rattle.rows.specs.Pick.{pick, and}
 use Rattle.rows.specs.Format.{rowWidth}
 use Rattle.rows.specs.Row.{rowOf}
-use Rattle.rows.specs.declared.row.Row.{Row}
 use Rattle.sheet.specs.Filling.{headFirst, fromHead, beforeHead, firstFilling, isPassed, fillingOf}
-use Rattle.sheet.specs.Reading.{outcomeOf, readingOf, noPorts}
+use Rattle.sheet.specs.Reading.{outcomeOf, noPorts}
 use Rattle.sheet.specs.declared.kind.Kind.the-variants.{Fillings}
-use Rattle.sheet.specs.declared.read.Reading.{Reading}
 
 -- A count of rows that is at least the text's length leaves no row out: one more changes nothing.
 head-count : (n number : ℕ) (text : List ℕ) → length text ≤ n → fromHead n number text ≡ fromHead (suc n) number text
@@ -54,18 +52,13 @@ module _ (s : List ℕ) (at : ℕ) where
     long : ltb (length (drop at s)) rowWidth ≡ false
     long = rw (length-drop at s) (le-ltb _ _ h)
 
-    head-row : (number : ℕ) (head same : Bool) → eqb (getD s at 0) 72 ≡ head → eqb (getD (rowOf (take rowWidth (drop at s)) .nums) 0 0) number ≡ same
+    pub head-row : (number : ℕ) (head same : Bool) → eqb (getD s at 0) 72 ≡ head → eqb (getD (rowOf (take rowWidth (drop at s)) .nums) 0 0) number ≡ same
         → fromHead (length s) number (drop at s) ≡ pick (and head same) (drop at s) (fromHead (length s) number (drop (at + rowWidth) s))
     unfolding fromHead
     head-row number head same e f = head-count (length s) number (drop at s) counted ∙ rw (long, first, e, f, drop-drop)
 
     pub head-other : (number : ℕ) → (getD s at 0 ≡ 72 → ⊥) → fromHead (length s) number (drop at s) ≡ fromHead (length s) number (drop (at + rowWidth) s)
     head-other number n = head-row number false _ (ne-eqb _ _ n) refl
-
-    -- `same` is whether the row that was read there has the number.
-    pub head-read : (number : ℕ) (row : Row) (same : Bool) → getD s at 0 ≡ 72 → row ≡ rowOf (take (at + rowWidth - at) (drop at s)) → eqb (getD (row .nums) 0 0) number ≡ same
-        → fromHead (length s) number (drop at s) ≡ pick same (drop at s) (fromHead (length s) number (drop (at + rowWidth) s))
-    head-read number row same e r f = head-row number true same (eq-eqb _ _ e) (rw (← add-sub-cancel-left at rowWidth, ← r) f)
 
     pub before-row : (head : Bool) → eqb (getD s at 0) 72 ≡ head
         → beforeHead (length s) (drop at s) ≡ pick head [] (take rowWidth (drop at s) ++ beforeHead (length s) (drop (at + rowWidth) s))
@@ -123,8 +116,7 @@ module _ (s : List ℕ) (k r : ℕ) (from : drop r s ≡ fromHead (length s) k s
       (λ w. absurd (let e : length s - r ≡ length (fromHead (length s) k s) = sym (length-drop r s) ∙ ap length from in omega arith))
       (head-whole (length s) k s)
 
--- the filling by the reader's answer
-pub filling-by : (list : List ℕ) (number : ℕ) (x : Reading) → x ≡ readingOf (outcomeOf Fillings noPorts list) → (b : Bool) → isPassed (x .answer) ≡ b
-    → fillingOf list number ≡ pick b (firstFilling (length list) (fromHead (length list) number list)) []
+-- the filling by whether the list passes
+pub filling-by : (list : List ℕ) (number : ℕ) (b : Bool) → isPassed (outcomeOf Fillings noPorts list .answer) ≡ b → fillingOf list number ≡ pick b (firstFilling (length list) (fromHead (length list) number list)) []
 unfolding fillingOf
-filling-by list number x e b q = rw (ap (λ (x : Reading). isPassed (x .answer)) (sym e) ∙ q)
+filling-by list number b q = rw q

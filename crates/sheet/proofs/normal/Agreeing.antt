@@ -11,10 +11,9 @@ use Rattle.hyperlmntal.specs.Hypergraph.{Node, inner, name, portNodes, endNodes
 use Rattle.hyperlmntal.proofs.Flats.{portNodes-append, endNodes-append}
 use Rattle.rows.specs.Held.{Wiring, Held, withLink, withLinks, merged, withFusion, withMark, linksOf, withAtom, withContext, withFusionRow, withEdgeRow, withHead, withRow}
 use Rattle.rows.specs.declared.row.Row.{Row}
-use Rattle.rows.proofs.Wired.{link-by, links-there, mark-by}
+use Rattle.rows.proofs.Wired.{link-by, links-there, mark-by, row-by}
 use Rattle.sheet.specs.Graph.{atomCell, contextCell, fusionOf, edgeOf, graphOf}
 use Rattle.sheet.specs.Agrees.{Known, Labels, Agrees}
-use Rattle.sheet.proofs.read.ReadingLaws.{row-by}
 use Rattle.sheet.proofs.normal.Merging.{Adds}
 use Rattle.sheet.proofs.normal.Labelled.{labels-none, labels-links, labels-fusion, labels-mark, added-known, merged-known, marked-known}
 

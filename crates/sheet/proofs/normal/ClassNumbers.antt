@@ -1,22 +1,21 @@
 -- Classes numbered one after the other get the numbers of a list with each label once, in the order in which they first appear.
-use Prim.Native.Nat.{ℕ, suc, _+_, _<_, _≤_}
+use Prim.Native.Nat.{ℕ, suc, _+_, _<_}
 use mathlib.Core.Path.{_≡_, refl, sym, ap, _∙_}
 use mathlib.Core.List.{List, [], _∷_, _++_, append-nil, append-assoc, List·Memᴰ·head, List·Memᴰ·tail}
 use mathlib.Core.Bool.{Bool, true, false}
 use native.Mathlib.Omega.{arith}
-use borrow.Author.Tests.{eqb-true, eqb-false, eq-eqb, ne-eqb, ltb-true, ltb-false}
-use lib.Dec.{eqb, ltb}
-use lib.ListN.{length, getD, set, length-set, length-append, length-replicate, getD-replicate, List·getD-eq-default}
+use borrow.Author.Tests.{eqb-true, eqb-false, eq-eqb, ne-eqb}
+use lib.Dec.{eqb}
+use lib.ListN.{length, getD, set, length-set, length-append, length-replicate, getD-replicate}
 use lib.Seq.{getD-set-same, getD-set-other}
 use Rattle.hyperlmntal.specs.Link.{_∈_}
 use Rattle.rows.specs.Pick.{pick}
 use Rattle.rows.specs.Held.{indexOf}
 use Rattle.rows.proofs.Wired.{indexOf-append, indexOf-added}
 use Rattle.sheet.specs.Normal.{others, distinct}
-use Rattle.numbering.specs.Numbering.{linkRoom, noNumbers, withClass, withClasses}
-use Rattle.numbering.specs.declared.classes.Numbering.{Numbering}
+use Rattle.numbering.specs.Numbering.{Numbering, linkRoom, noNumbers, withClass, withClasses}
 use Rattle.sheet.proofs.normal.Distinct.{index-below, distinct-in}
-use Rattle.numbering.proofs.Turns.{with-class-new, with-class-old, with-classes-count}
+use Rattle.numbering.proofs.Turns.{with-class-new, with-class-old}
 
 -- Whether a number is in a list.
 abbrev has : ℕ → List ℕ → Bool
@@ -171,21 +170,3 @@ module _ (l : List ℕ) (low : (c : ℕ) → c ∈ l → c < linkRoom) where
 
   pub classes-number : (c : ℕ) → c ∈ l → getD (withClasses noNumbers l .numbers) c 0 ≡ suc (indexOf c (distinct l))
   classes-number c m = all-numbered .at c (low c m) ∙ rw (has-in c (distinct l) (distinct-in c l m))
-
-  -- No number is above the length of the list.
-  pub number-low : (c : ℕ) → getD (withClasses noNumbers l .numbers) c 0 ≤ length l
-  number-low c = within (ltb c linkRoom) refl
-    where
-      few : length (distinct l) ≤ length l
-      few = omega (arith, classes-count, with-classes-count noNumbers l)
-
-      known : (t : Bool) → has c (distinct l) ≡ t → pick t (suc (indexOf c (distinct l))) 0 ≤ length l
-      known true e = omega (arith, has-place c (distinct l) e, few)
-      known false e = omega arith
-
-      within : (t : Bool) → ltb c linkRoom ≡ t → getD (withClasses noNumbers l .numbers) c 0 ≤ length l
-      within true e = rw (all-numbered .at c (ltb-true _ _ e)) (known (has c (distinct l)) refl)
-      within false e =
-          let q = ltb-false c linkRoom e in
-          let z : getD (withClasses noNumbers l .numbers) c 0 ≡ 0 = List·getD-eq-default (withClasses noNumbers l .numbers) 0 {n = c} (omega (arith, all-numbered .width)) in
-          omega arith

@@ -26,10 +26,9 @@ use Rattle.sheet.specs.Graph.{atomCell, contextCell, graphOf}
 use Rattle.sheet.specs.Labels.{labelIn}
 use Rattle.sheet.specs.Agrees.{Agrees, Once as Placed}
 use Rattle.sheet.specs.Normal.{classOf, markNode, marksOf, shown, classesBy, numberBy}
-use Rattle.numbering.specs.Numbering.{Numberable, labelAt, markLabelAt, linkRoom, noNumbers, withClasses, linkLabels, atomLabels, contextLabels, atomBy, contextBy, marksBy, sortedInto}
+use Rattle.numbering.specs.Numbering.{Numbering, Numberable, labelAt, markLabelAt, linkRoom, noNumbers, withClasses, linkLabels, atomLabels, contextLabels, atomBy, contextBy, marksBy, sortedInto}
 use Rattle.sheet.specs.NormalSheet.{numberIn, normalAtom, normalContext, packedNormal}
 use Rattle.sheet.specs.declared.normal.Normal.{Normal}
-use Rattle.numbering.specs.declared.classes.Numbering.{Numbering}
 use Rattle.sheet.proofs.normal.Merging.{at-indexOf, among-in}
 use Rattle.sheet.proofs.normal.Classes.{class-connected}
 use Rattle.sheet.proofs.normal.Distinct.{Once, Agree, index-below, length-agree}
@@ -48,18 +47,18 @@ sortedMarks s = padded (sheetMarks + 1) 0 (sortedInto [] (take (s .«mark_count�
 abbrev pub numberingOf : Sheet → Numbering
 numberingOf s =
     withClasses
-    (withClasses (withClasses noNumbers (atomLabels s (take (s .«atom_count») (s .atoms)))) (contextLabels s (take (s .«context_count») (s .contexts))))
+    (withClasses (withClasses noNumbers (atomLabels (labelAt s) (take (s .«atom_count») (s .atoms)))) (contextLabels (labelAt s) (take (s .«context_count») (s .contexts))))
     (map (markLabelAt s) (take (s .«mark_count») (sortedMarks s)))
 
 abbrev pub normalMade : Sheet → Normal
 normalMade s =
     record {
-      atoms = mapped (atomBy (numberingOf s .numbers) s) (s .«atom_count») (s .atoms);
+      atoms = mapped (atomBy (numberingOf s .numbers) (labelAt s)) (s .«atom_count») (s .atoms);
       «atom_count» = s .«atom_count»;
-      contexts = mapped (contextBy (numberingOf s .numbers) s) (s .«context_count») (s .contexts);
+      contexts = mapped (contextBy (numberingOf s .numbers) (labelAt s)) (s .«context_count») (s .contexts);
       «context_count» = s .«context_count»;
       marks = sortedMarks s;
-      marked = marksBy (numberingOf s .numbers) s (take (s .«mark_count») (sortedMarks s));
+      marked = marksBy (numberingOf s .numbers) (markLabelAt s) (take (s .«mark_count») (sortedMarks s));
       «mark_count» = s .«mark_count»;
       «class_count» = numberingOf s .count;
     }
@@ -94,16 +93,16 @@ module _ (h : Held) where
       rw (take-padded (sheetMarks + 1) 0 (h .wiring .marks)) (rw (getD-padding (sheetMarks + 1) 0 (h .wiring .marked) (indexOf m (h .wiring .marks)))
       (getD-padding (fillingLinks + mostLinks) 0 (h .wiring .classes) (getD (h .wiring .marked) (indexOf m (h .wiring .marks)) 0)))
 
-  link-labels : (count : ℕ) (links : List ℕ) → linkLabels (packed h) count links ≡ map (labelIn (h .wiring)) (map inner (take count links))
+  link-labels : (count : ℕ) (links : List ℕ) → linkLabels (labelAt (packed h)) count links ≡ map (labelIn (h .wiring)) (map inner (take count links))
   link-labels count links =
       map-agree (labelAt (packed h)) (λ x. labelIn (h .wiring) (inner x)) (take count links) (λ x i. label-at x) ∙ sym (map-map (labelIn (h .wiring)) inner (take count links))
 
-  atom-labels : (l : List Atom) → atomLabels (packed h) l ≡ map (labelIn (h .wiring)) (portNodes (map atomCell l))
+  atom-labels : (l : List Atom) → atomLabels (labelAt (packed h)) l ≡ map (labelIn (h .wiring)) (portNodes (map atomCell l))
   unfolding atomLabels
   atom-labels [] = refl
   atom-labels (a ∷ l) = rw (link-labels (a .count) (a .links)) (rw (atom-labels l) (sym (map-append (labelIn (h .wiring)) (map inner (take (a .count) (a .links))) (portNodes (map atomCell l)))))
 
-  context-labels : (l : List Context) → contextLabels (packed h) l ≡ map (labelIn (h .wiring)) (portNodes (map contextCell l))
+  context-labels : (l : List Context) → contextLabels (labelAt (packed h)) l ≡ map (labelIn (h .wiring)) (portNodes (map contextCell l))
   unfolding contextLabels
   context-labels [] = refl
   context-labels (c ∷ l) = rw (link-labels (c .count) (c .links)) (rw (context-labels l) (sym (map-append (labelIn (h .wiring)) (map inner (take (c .count) (c .links))) (portNodes (map contextCell l)))))
@@ -111,7 +110,7 @@ module _ (h : Held) where
   mark-labels : (l : List ℕ) → map (markLabelAt (packed h)) l ≡ map (labelIn (h .wiring)) (map markNode l)
   mark-labels l = map-agree (markLabelAt (packed h)) (λ m. labelIn (h .wiring) (markNode m)) l (λ m i. mark-at m) ∙ sym (map-map (labelIn (h .wiring)) markNode l)
 
-  all-labels : (atomLabels (packed h) (h .atoms) ++ contextLabels (packed h) (h .contexts)) ++ map (markLabelAt (packed h)) (marksOf (graphOf h)) ≡ map (labelIn (h .wiring)) (shown (graphOf h))
+  all-labels : (atomLabels (labelAt (packed h)) (h .atoms) ++ contextLabels (labelAt (packed h)) (h .contexts)) ++ map (markLabelAt (packed h)) (marksOf (graphOf h)) ≡ map (labelIn (h .wiring)) (shown (graphOf h))
   all-labels =
       rw (atom-labels (h .atoms)) (rw (context-labels (h .contexts)) (rw (mark-labels (marksOf (graphOf h)))
       (sym (map-append (labelIn (h .wiring)) (portNodes (graphOf h .atoms)) (map markNode (marksOf (graphOf h)))
@@ -141,13 +140,43 @@ module _ (h : Held) (A : Agrees h) where
   numbering-made =
       rw marks-taken (rw (take-padded (sheetAtoms + 1) noAtom (h .atoms)) (rw (take-padded (figureContexts + 1) noContext (h .contexts))
       (rw (← all-labels h) (sym
-      (with-classes-append noNumbers (atomLabels (packed h) (h .atoms) ++ contextLabels (packed h) (h .contexts)) (map (markLabelAt (packed h)) (marksOf (graphOf h)))
-      ∙ ap (λ n. withClasses n (map (markLabelAt (packed h)) (marksOf (graphOf h)))) (with-classes-append noNumbers (atomLabels (packed h) (h .atoms)) (contextLabels (packed h) (h .contexts))))))))
+      (with-classes-append noNumbers (atomLabels (labelAt (packed h)) (h .atoms) ++ contextLabels (labelAt (packed h)) (h .contexts)) (map (markLabelAt (packed h)) (marksOf (graphOf h)))
+      ∙ ap (λ n. withClasses n (map (markLabelAt (packed h)) (marksOf (graphOf h)))) (with-classes-append noNumbers (atomLabels (labelAt (packed h)) (h .atoms)) (contextLabels (labelAt (packed h)) (h .contexts))))))))
 
 normal-≡ : (n k : ℕ) {a a′ : List Atom} {c c′ : List Context} {m m′ p p′ : List ℕ} {i i′ j j′ : ℕ} → a ≡ a′ → c ≡ c′ → m ≡ m′ → p ≡ p′ → i ≡ i′ → j ≡ j′
     → _≡_ {A = Normal} (record { atoms = a; «atom_count» = n; contexts = c; «context_count» = k; marks = m; marked = p; «mark_count» = i; «class_count» = j })
     (record { atoms = a′; «atom_count» = n; contexts = c′; «context_count» = k; marks = m′; marked = p′; «mark_count» = i′; «class_count» = j′ })
 normal-≡ n k ea ec em ep ei ej t = record { atoms = ea t; «atom_count» = n; contexts = ec t; «context_count» = k; marks = em t; marked = ep t; «mark_count» = ei t; «class_count» = ej t }
+
+-- The steps of `normal_of`, each after the one before: the classes of the atoms are numbered, then those of the contexts, then
+-- those of the marks, and what is made of the atoms and contexts holds whatever is numbered later.
+pub normal-steps : (s : Sheet) (a b n : Numbering) (atoms : List Atom) (contexts : List Context) (marks marked : List ℕ)
+    → a ≡ withClasses noNumbers (atomLabels (labelAt s) (take (s .«atom_count») (s .atoms)))
+    → ((later : List ℕ) → atoms ≡ mapped (atomBy (withClasses a later .numbers) (labelAt s)) (s .«atom_count») (s .atoms))
+    → b ≡ withClasses a (contextLabels (labelAt s) (take (s .«context_count») (s .contexts)))
+    → ((later : List ℕ) → contexts ≡ mapped (contextBy (withClasses b later .numbers) (labelAt s)) (s .«context_count») (s .contexts))
+    → marks ≡ sortedMarks s
+    → n ≡ withClasses b (map (markLabelAt s) (take (s .«mark_count») marks))
+    → marked ≡ marksBy (n .numbers) (markLabelAt s) (take (s .«mark_count») marks)
+    → _≡_ {A = Normal} (record { atoms = atoms; «atom_count» = s .«atom_count»; contexts = contexts; «context_count» = s .«context_count»; marks = marks; marked = marked; «mark_count» = s .«mark_count»; «class_count» = n .count })
+    (normalMade s)
+normal-steps s a b n atoms contexts marks marked ea fa eb fb em en ep =
+    normal-≡ (s .«atom_count») (s .«context_count»)
+    (fa (C ++ M) ∙ ap (λ k. mapped (atomBy (k .numbers) (labelAt s)) (s .«atom_count») (s .atoms)) (with-classes-append a C M ∙ ap (λ k. withClasses k M) (sym eb) ∙ all))
+    (fb M ∙ ap (λ k. mapped (contextBy (k .numbers) (labelAt s)) (s .«context_count») (s .contexts)) all)
+    em (ep ∙ rw (em, end)) refl (rw end)
+  where
+    C : List ℕ
+    C = contextLabels (labelAt s) (take (s .«context_count») (s .contexts))
+
+    M : List ℕ
+    M = map (markLabelAt s) (take (s .«mark_count») (sortedMarks s))
+
+    all : withClasses b M ≡ numberingOf s
+    all = rw (eb, ea)
+
+    end : n ≡ numberingOf s
+    end = en ∙ rw em all
 
 -- Each node that is shown gets the number of its class.
 module _ (h : Held) (A : Agrees h) (N : Numberable (packed h)) where
@@ -192,23 +221,23 @@ module _ (h : Held) (A : Agrees h) (N : Numberable (packed h)) where
       (map-agree (λ x. getD (numberingOf (packed h) .numbers) (labelAt (packed h) x) 0) (λ x. numberIn h (inner x)) l
       (λ x i. ap (λ c. getD (numberingOf (packed h) .numbers) c 0) (label-at h x) ∙ number-made (inner x) (port-shown (graphOf h) (p x i))))
 
-  atoms-made : mapped (atomBy (numberingOf (packed h) .numbers) (packed h)) (length (h .atoms)) (packed h .atoms) ≡ packedNormal h .atoms
+  atoms-made : mapped (atomBy (numberingOf (packed h) .numbers) (labelAt (packed h))) (length (h .atoms)) (packed h .atoms) ≡ packedNormal h .atoms
   atoms-made =
-      mapped-padded (sheetAtoms + 1) noAtom (h .atoms) (atomBy (numberingOf (packed h) .numbers) (packed h)) (length (h .atoms)) refl
-      ∙ ap (padded (sheetAtoms + 1) noAtom) (map-agree (atomBy (numberingOf (packed h) .numbers) (packed h)) (normalAtom h) (h .atoms)
+      mapped-padded (sheetAtoms + 1) noAtom (h .atoms) (atomBy (numberingOf (packed h) .numbers) (labelAt (packed h))) (length (h .atoms)) refl
+      ∙ ap (padded (sheetAtoms + 1) noAtom) (map-agree (atomBy (numberingOf (packed h) .numbers) (labelAt (packed h))) (normalAtom h) (h .atoms)
       (λ a i. ap (λ (l : List ℕ). record { name = a .name; count = a .count; links = l }) (links-made (take (a .count) (a .links))
       (λ x j. ports-in (atomCell a) (inner x) (Memᴰ·append-left (map contextCell (h .contexts)) (Memᴰ·map atomCell i)) (Memᴰ·map inner j)))))
 
-  contexts-made : mapped (contextBy (numberingOf (packed h) .numbers) (packed h)) (length (h .contexts)) (packed h .contexts) ≡ packedNormal h .contexts
+  contexts-made : mapped (contextBy (numberingOf (packed h) .numbers) (labelAt (packed h))) (length (h .contexts)) (packed h .contexts) ≡ packedNormal h .contexts
   contexts-made =
-      mapped-padded (figureContexts + 1) noContext (h .contexts) (contextBy (numberingOf (packed h) .numbers) (packed h)) (length (h .contexts)) refl
-      ∙ ap (padded (figureContexts + 1) noContext) (map-agree (contextBy (numberingOf (packed h) .numbers) (packed h)) (normalContext h) (h .contexts)
+      mapped-padded (figureContexts + 1) noContext (h .contexts) (contextBy (numberingOf (packed h) .numbers) (labelAt (packed h))) (length (h .contexts)) refl
+      ∙ ap (padded (figureContexts + 1) noContext) (map-agree (contextBy (numberingOf (packed h) .numbers) (labelAt (packed h))) (normalContext h) (h .contexts)
       (λ c i. ap (λ (l : List ℕ). record { number = c .number; count = c .count; links = l; row = c .row }) (links-made (take (c .count) (c .links))
       (λ x j. ports-in (contextCell c) (inner x) (Memᴰ·append-right (map atomCell (h .atoms)) (Memᴰ·map contextCell i)) (Memᴰ·map inner j)))))
 
-  marked-made : marksBy (numberingOf (packed h) .numbers) (packed h) (take (length (h .wiring .marks)) (sortedMarks (packed h))) ≡ packedNormal h .marked
+  marked-made : marksBy (numberingOf (packed h) .numbers) (markLabelAt (packed h)) (take (length (h .wiring .marks)) (sortedMarks (packed h))) ≡ packedNormal h .marked
   marked-made =
-      ap (marksBy (numberingOf (packed h) .numbers) (packed h)) (marks-taken h A)
+      ap (marksBy (numberingOf (packed h) .numbers) (markLabelAt (packed h))) (marks-taken h A)
       ∙ ap (padded (sheetMarks + 1) 0) (map-agree (λ m. getD (numberingOf (packed h) .numbers) (markLabelAt (packed h) m) 0) (λ m. numberIn h (markNode m)) (marksOf (graphOf h))
       (λ m i. ap (λ c. getD (numberingOf (packed h) .numbers) c 0) (mark-at h m) ∙ number-made (markNode m) (mark-shown (graphOf h) m i)))
 

@@ -1,6 +1,6 @@
 -- Refusal 8 in a row, by the row's letter.
 use Prim.Native.Nat.{ℕ, suc, _+_, _-_, _<_}
-use mathlib.Core.Path.{_≡_, refl, _∙_}
+use mathlib.Core.Path.{_≡_, refl}
 use mathlib.Core.List.{List, [], _∷_}
 use mathlib.Core.Bool.{false}
 use native.Mathlib.Numerals.{add-one}
@@ -41,14 +41,9 @@ last-number (c ∷ b ∷ l) d n = rw e (last-number (b ∷ l) d (λ z. omega ari
     e : suc (suc (length l)) - 1 ≡ suc (suc (length l) - 1)
     e = omega arith
 
-pub last-none : (l : List Context) → length l ≡ 0 → 0 ≡ lastNumber l
-unfolding lastNumber
-last-none [] q = refl
-last-none (c ∷ l) q = absurd (omega arith)
-
-pub last-at : (contexts l : List Context) (n : ℕ) → contexts ≡ padded (figureContexts + 1) noContext l → n ≡ length l → (n ≡ 0 → ⊥)
-    → getD contexts (n - 1) (record { number = 0; count = 0; links = []; row = 0 }) .number ≡ lastNumber l
-last-at contexts l n e q some =
-    let none : length l ≡ 0 → ⊥ = λ z. some (q ∙ z) in
-    rw e (rw q (rw (getD-padded (figureContexts + 1) noContext l (length l - 1) (record { number = 0; count = 0; links = []; row = 0 }) (omega (arith, none)))
-    (last-number l (record { number = 0; count = 0; links = []; row = 0 }) none)))
+pub last-at : (l : List Context) → getD (padded (figureContexts + 1) noContext l) (length l - 1) (record { number = 0; count = 0; links = []; row = 0 }) .number ≡ lastNumber l
+unfolding lastNumber padded
+last-at [] = refl
+last-at (c ∷ l) =
+    rw (getD-padded (figureContexts + 1) noContext (c ∷ l) (length (c ∷ l) - 1) (record { number = 0; count = 0; links = []; row = 0 }) (omega arith))
+    (last-number (c ∷ l) (record { number = 0; count = 0; links = []; row = 0 }) (λ z. omega arith))

@@ -1,5 +1,4 @@
--- What a text holds, passed or up to the row where it is turned down, is within the table's ranges
--- and limits.
+-- What a text holds is within the table's ranges and limits.
 use Prim.Native.Nat.{ℕ, zero, suc, _+_, _<_}
 use mathlib.Core.Path.{_≡_, refl, _∙_}
 use mathlib.Core.List.{List, [], _∷_}
@@ -16,13 +15,13 @@ use Rattle.rows.specs.Row.{rowOf}
 use Rattle.rows.specs.Held.{Wiring, Held, nothing, withLink, withLinks, merged, withFusion, withMark, linksOf, atomOf, contextOf, withAtom, withContext, withFusionRow, withEdgeRow, withHead, withRow}
 use Rattle.rows.specs.declared.Context.{Context}
 use Rattle.rows.proofs.RowRange.{Within, Linked, good-letter, good-field, row-length, atom-range, context-range, fusion-range, mark-range, head-range}
-use Rattle.rows.proofs.Wired.{link-by, links-marks, mark-by, mark-links, wired-none, wired-row}
+use Rattle.rows.proofs.Wired.{link-by, links-marks, mark-by, mark-links, wired-none, wired-row, row-by}
 use Rattle.sheet.specs.Kinds.{isList}
 use Rattle.sheet.specs.Reading.{strange, outcomeOf}
 use Rattle.sheet.specs.declared.kind.Kind.{Kind}
 use Rattle.sheet.specs.declared.kind.Kind.the-variants.{Plain, Pattern, Figure, Replacement, Fillings}
 use Rattle.sheet.specs.declared.answer.Answer.the-variants.{Passed}
-use Rattle.sheet.proofs.read.ReadingLaws.{row-by, row-counted}
+use Rattle.sheet.proofs.read.ReadingLaws.{row-counted}
 use Rattle.sheet.proofs.read.Taken.{rowAt, Taken, outcome-keeps}
 use Rattle.sheet.proofs.read.Ranges.{Every, every-one, every-of, LinkRange, MarkRange, Ports, AtomRange, ContextRange, FusionRange, EdgeRange, InRange, WithinLimits}
 

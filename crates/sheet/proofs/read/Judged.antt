@@ -5,7 +5,7 @@ use mathlib.Core.List.{List, [], _∷_, _++_}
 use mathlib.Core.Bool.{Bool, true, false, true≢false}
 use lib.ListN.{length}
 use Rattle.rows.specs.Pick.{pick}
-use Rattle.rows.specs.Held.{Held, withRow}
+use Rattle.rows.specs.Held.{Held, nothing, withRow}
 use Rattle.rows.specs.Packed.{packed}
 use Rattle.rows.specs.declared.Sheet.{Sheet}
 use Rattle.rows.specs.declared.row.Row.{Row}
@@ -45,7 +45,7 @@ pub answer-taken : (v : Verdict) (n : ℕ) → isPassed (answerOf v n) ≡ true 
 answer-taken taken n e = refl
 answer-taken (refused why) n e = absurd (true≢false (sym e))
 
-pub answer-refused : (u v : Verdict) (h : Held) (o : Outcome) (x : Answer) (s : Sheet) (n : ℕ) → x ≡ answerOf v n → isPassed x ≡ false → s ≡ packed h → n ≡ h .rows + 1
+pub answer-refused : (u v : Verdict) (h : Held) (o : Outcome) (x : Answer) (s : Sheet) (n : ℕ) → x ≡ answerOf v n → isPassed x ≡ false → s ≡ packed nothing → n ≡ h .rows + 1
     → ((why : Refusal) → v ≡ refused why → u ≡ refused why) → _≡_ {A = Reading} (record { answer = x; sheet = s }) (readingOf (settled u h o))
 answer-refused u taken h o x s n e p q r f = absurd (true≢false (sym (ap isPassed e) ∙ p))
 answer-refused u (refused why) h o x s n e p q r f = rw (f why refl) (rw e (rw q (rw r)))
@@ -64,26 +64,34 @@ module _ (kind : Kind) (pattern : List ℕ) (h : Held) (text : List ℕ) where
   unfolding strange
   both = refl
 
-  module _ (heads k : ℕ) (cut : Bool) (r : Row) (ek : h .rows ≡ k) (eh : heads ≡ length (h .contexts)) (ec : cut ≡ ragged text) (er : cut ≡ false → r ≡ rowAt text) where
-    -- the row that the code has is asked only where it is whole
-    same : firstOf before ≡ firstOf (earlyTests kind heads k cut r)
-    unfolding firstOf
-    same = rw ek (rw eh (rw (← ec) (go cut er)))
-      where
-        go : (c : Bool) → (c ≡ false → r ≡ rowAt text) → firstOf (earlyTests kind (length (h .contexts)) k c (rowAt text)) ≡ firstOf (earlyTests kind (length (h .contexts)) k c r)
-        go true f = refl
-        go false f = rw (f refl)
+  module _ (heads k : ℕ) (ek : h .rows ≡ k) (eh : heads ≡ length (h .contexts)) where
+    abbrev early : List (Bool × Refusal)
+    early = earlyTests kind heads k (ragged text) (rowAt text)
 
-    pub early-refused : (why : Refusal) → firstOf (earlyTests kind heads k cut r) ≡ refused why → firstOf (tests kind pattern h text) ≡ refused why
+    same : firstOf before ≡ firstOf early
+    same = rw ek (rw eh)
+
+    pub early-refused : (why : Refusal) → firstOf early ≡ refused why → firstOf (tests kind pattern h text) ≡ refused why
     early-refused why e = both ∙ first-refused after before why (same ∙ e)
 
-    module _ (p : firstOf (earlyTests kind heads k cut r) ≡ taken) where
-      pub early-whole : cut ≡ false
-      early-whole = none-first _ _ (none-first _ _ p .1) .0
+    pub late-verdict : firstOf early ≡ taken → (t : Sheet) (clash : Bool) → t ≡ packed (withRow h (rowAt text)) → clash ≡ clashes kind pattern (h .contexts) (rowAt text)
+        → firstOf (tests kind pattern h text) ≡ firstOf (lateTests kind (t .«atom_count») (t .«context_count») (t .«link_count») (t .«mark_count») clash)
+    late-verdict p t clash et ecl = both ∙ first-taken after before (same ∙ p) ∙ rw et (rw ecl)
 
-      pub early-good : r .good ≡ true
-      early-good = not-false _ (none-first _ _ (none-first _ _ (none-first _ _ (none-first _ _ p .1) .1) .1) .0)
+-- of the tests before a row is taken in
+module _ (kind : Kind) (heads k : ℕ) (cut : Bool) (r : Row) (p : firstOf (earlyTests kind heads k cut r) ≡ taken) where
+  pub early-whole : cut ≡ false
+  early-whole = none-first _ _ (none-first _ _ p .1) .0
 
-      pub late-verdict : (t : Sheet) (clash : Bool) → t ≡ packed (withRow h (rowAt text)) → clash ≡ clashes kind pattern (h .contexts) (rowAt text)
-          → firstOf (tests kind pattern h text) ≡ firstOf (lateTests kind (t .«atom_count») (t .«context_count») (t .«link_count») (t .«mark_count») clash)
-      late-verdict t clash et ecl = both ∙ first-taken after before (same ∙ p) ∙ rw et (rw ecl)
+  pub early-good : r .good ≡ true
+  early-good = not-false _ (none-first _ _ (none-first _ _ (none-first _ _ (none-first _ _ p .1) .1) .1) .0)
+
+-- the row that the code has is asked only where it is whole
+pub early-same : (kind : Kind) (heads k : ℕ) (text : List ℕ) (cut : Bool) (r : Row) → cut ≡ ragged text → (cut ≡ false → r ≡ rowAt text)
+    → firstOf (earlyTests kind heads k cut r) ≡ firstOf (earlyTests kind heads k (ragged text) (rowAt text))
+unfolding firstOf
+early-same kind heads k text cut r ec = rw (← ec) (go cut)
+  where
+    go : (c : Bool) → (c ≡ false → r ≡ rowAt text) → firstOf (earlyTests kind heads k c r) ≡ firstOf (earlyTests kind heads k c (rowAt text))
+    go true f = refl
+    go false f = rw (f refl)

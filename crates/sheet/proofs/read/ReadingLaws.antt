@@ -8,7 +8,7 @@ use native.Mathlib.Nat.{zero-add, suc-add}
 use native.Mathlib.Omega.{arith}
 use borrow.Author.Tests.{ltb-true, ltb-false, lt-ltb, le-ltb, le-leb, eqb-true, eqb-false, eq-eqb, ne-eqb}
 use lib.Dec.{eqb, ltb}
-use lib.ListN.{length, take, drop, getD, replicate, length-take}
+use lib.ListN.{length, take, drop, replicate, length-take}
 use lib.Seq.{take-take, getD-take, take-nil}
 use Rattle.rows.specs.Pick.{pick}
 use Rattle.rows.specs.Format.{mostLinks, rowWidth}
@@ -18,6 +18,7 @@ use Rattle.rows.specs.Held.{Held, nothing, withAtom, withContext, withFusionRow
 use Rattle.rows.specs.Packed.{padded, noAtom, noContext, portsOf, packed}
 use Rattle.rows.specs.declared.Sheet.{Sheet}
 use Rattle.rows.specs.declared.row.Row.{Row}
+use Rattle.rows.proofs.Wired.{row-by}
 use Rattle.sheet.specs.Reading.{ragged, firstOf, passed, refusedAfter, readFrom, outcomeOf}
 use Rattle.sheet.specs.declared.kind.Kind.{Kind}
 use Rattle.sheet.specs.declared.answer.Refusal.the-variants.{Long}
@@ -54,33 +55,11 @@ pub packed-nothing : packed nothing ≡ emptySheet
 unfolding padded portsOf
 packed-nothing = refl
 
--- A row more, by its letter: what holds in each case holds.
+-- A row more is counted.
 module _ (h : Held) (r : Row) where
-  pub row-by : (P : Held → Type 0)
-      → (r .letter ≡ 0 → P (withAtom h (r .nums)))
-      → (r .letter ≡ 1 → P (withContext h (r .nums)))
-      → (r .letter ≡ 2 → P (withFusionRow h (getD (r .nums) 0 0) (getD (r .nums) 1 0)))
-      → (r .letter ≡ 3 → P (withEdgeRow h (getD (r .nums) 0 0) (getD (r .nums) 1 0)))
-      → (3 < r .letter → P (withHead h (r .nums)))
-      → P (withRow h r)
-  unfolding withRow
-  row-by P s b f e l = go (eqb (r .letter) 0) (eqb (r .letter) 1) (eqb (r .letter) 2) (eqb (r .letter) 3) refl refl refl refl
-    where
-      go : (p q u v : Bool) → eqb (r .letter) 0 ≡ p → eqb (r .letter) 1 ≡ q → eqb (r .letter) 2 ≡ u → eqb (r .letter) 3 ≡ v
-          → P (pick p (withAtom h (r .nums))
-          (pick q (withContext h (r .nums))
-          (pick u (withFusionRow h (getD (r .nums) 0 0) (getD (r .nums) 1 0))
-          (pick v (withEdgeRow h (getD (r .nums) 0 0) (getD (r .nums) 1 0)) (withHead h (r .nums))))))
-      go true q u v i j k m = s (eqb-true _ _ i)
-      go false true u v i j k m = b (eqb-true _ _ j)
-      go false false true v i j k m = f (eqb-true _ _ k)
-      go false false false true i j k m = e (eqb-true _ _ m)
-      go false false false false i j k m =
-          l (omega (arith, eqb-false (r .letter) 0 i, eqb-false (r .letter) 1 j, eqb-false (r .letter) 2 k, eqb-false (r .letter) 3 m))
-
   pub row-counted : withRow h r .rows ≡ h .rows + 1
   unfolding withAtom withContext withFusionRow withEdgeRow withHead
-  row-counted = row-by (λ g. g .rows ≡ h .rows + 1) (λ z. refl) (λ z. refl) (λ z. refl) (λ z. refl) (λ z. refl)
+  row-counted = row-by h r (λ g. g .rows ≡ h .rows + 1) (λ z. refl) (λ z. refl) (λ z. refl) (λ z. refl) (λ z. refl)
 
 -- The first m bytes after the first n.
 pub drop-of-take : (n m : ℕ) (l : List ℕ) → drop n (take (n + m) l) ≡ take m (drop n l)

@@ -94,24 +94,24 @@ module _ (kind : Kind) (pattern : List ℕ) (h : Held) (text : List ℕ) where
       let w : rowWidth ≤ length text = ltb-false _ _ (or-false _ _ (t .whole) .0) in
       rw (ne-eqb (length text) 0 (omega arith), none-tests t)
 
--- What holds before every row, and after each one that is taken in, holds of what an outcome holds.
+-- What holds of nothing, and after each row that is taken in, holds of what an outcome holds.
 module _ (kind : Kind) (pattern : List ℕ) (P : Held → Type 0)
     (more : (h : Held) (text : List ℕ) → Taken kind pattern h text → P h → P (withRow h (rowAt text))) where
-  pub read-keeps : (n : ℕ) (h : Held) (text : List ℕ) → P h → P (readFrom n kind pattern h text .held)
+  pub read-keeps : P nothing → (n : ℕ) (h : Held) (text : List ℕ) → P h → P (readFrom n kind pattern h text .held)
   unfolding readFrom
-  read-keeps zero h text p = p
-  read-keeps (suc n) h text p = go (eqb (length text) 0) (firstOf (tests kind pattern h text)) refl (λ q. read-keeps n (withRow h (rowAt text)) (drop rowWidth text) q)
+  read-keeps none zero h text p = p
+  read-keeps none (suc n) h text p = go (eqb (length text) 0) (firstOf (tests kind pattern h text)) refl (λ q. read-keeps none n (withRow h (rowAt text)) (drop rowWidth text) q)
     where
       go : (b : Bool) (v : Verdict) → firstOf (tests kind pattern h text) ≡ v
           → (P (withRow h (rowAt text)) → P (readFrom n kind pattern (withRow h (rowAt text)) (drop rowWidth text) .held))
           → P (pick b (passed h) (settled v h (readFrom n kind pattern (withRow h (rowAt text)) (drop rowWidth text))) .held)
       go true v e ih = p
       go false taken e ih = ih (more h text (tests-none kind pattern h text e) p)
-      go false (refused why) e ih = p
+      go false (refused why) e ih = none
 
   pub outcome-keeps : (text : List ℕ) → P nothing → P (outcomeOf kind pattern text .held)
   unfolding outcomeOf
-  outcome-keeps text p = read-keeps (rowLimit + 1) nothing text p
+  outcome-keeps text p = read-keeps p (rowLimit + 1) nothing text p
 
 -- Rows that were all taken in, and a text after them: the reading goes on from what they hold.
 module _ (kind : Kind) (pattern : List ℕ) where

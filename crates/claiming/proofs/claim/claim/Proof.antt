@@ -1,6 +1,7 @@
 -- An input that is refused at a row, and inputs that passed.
 use borrow.Author.Needs.{needs}
 use mathlib.Core.Path.{refl, ap, sym, _∙_}
+use Rattle.sheet.specs.Filling.{isPassed}
 use Rattle.sheet.specs.Reading.{noPorts}
 use Rattle.sheet.specs.declared.kind.Kind.the-variants.{Plain}
 use Rattle.sheet.specs.declared.read.Reading.{Reading}
@@ -59,6 +60,7 @@ claim-read-requires c κs =
         ),
       ),
       ap (λ (x : Reading). x .sheet) (l .read-list .ensures),
+      ap isPassed (sym (ap (λ (x : Reading). x .answer) (l .read-list .ensures)) ∙ c .before .before .before .before .enum-told3 .given .1),
     )
 
 returns : tie.Need-returns

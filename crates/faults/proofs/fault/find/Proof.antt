@@ -45,7 +45,7 @@ returns-2 c = let s = c .before .before .before .before .before .before .before 
     let y = c .before .before .before .before .before .before .apart in
     λ atoms un t p. served-found (a .sheet) (a .figure) (s .pre .0) (a .to) (s .pre .2) atoms un (c .served .result) (subst (Apart (a .figure) (a .to) (a .sheet .«class_count» + 1)) (c .before .before .before .before .before .if1 .left) (y .ensures))
     (c .served .ensures (stateIn (a .figure) atoms (a .to))
-    (tables-in (a .sheet) (a .figure) (s .pre .0) (a .to) (s .pre .2) atoms un (a .touches .now) (c .before .before .before .before .used-links .result) (c .before .before .before .port-table .result) (s .pre .1) p (c .before .before .before .before .used-links .ensures) (c .before .before .before .port-table .ensures))
+    (tables-in (a .sheet) (a .figure) (s .pre .0) (a .to) (s .pre .2) atoms un (a .chains .now) (c .before .before .before .before .used-links .result) (c .before .before .before .port-table .result) (s .pre .1) p (c .before .before .before .before .used-links .ensures) (c .before .before .before .port-table .ensures))
     (taken-flags (a .sheet) (a .figure) (s .pre .0) (a .to) (s .pre .2) atoms un (a .taken) t))
 
 pub find-spec : {M : Type 1} → statement M

@@ -1,82 +1,100 @@
 -- Invariant: a connected part; the links of its atoms so far were looked at.
 use borrow.Author.Needs.{needs}
-use Prim.Native.Nat.{suc, _-_, _≤_, _<_}
-use mathlib.Core.Path.{_≡_, sym, subst}
+use Prim.Native.Nat.{ℕ, suc, _+_, _-_, _≤_, _<_}
+use mathlib.Core.Path.{_≡_, refl, sym, subst}
+use mathlib.Core.List.{List}
 use native.Mathlib.Omega.{arith}
-use lib.ListN.{getD}
-use Rattle.rows.specs.Limits.{sheetAtoms}
+use lib.ListN.{length, getD, set, replicate}
+use Rattle.rows.specs.Limits.{sheetAtoms, sheetLinks, figureContexts}
 use Rattle.placing.specs.Net.{Net}
 use Rattle.placing.specs.Placing.{Placing}
 use Rattle.network.specs.NetIn.{netIn}
 use Rattle.completing.specs.Fault.{Other}
-use Rattle.faults.specs.Grows.{Sized, Tables, Grows}
-use Rattle.faults.specs.declared.growth.Growth.{Growth}
+use Rattle.faults.specs.Grows.{growth, Sized, Tables, Grows}
 use Rattle.stepping.proofs.Rows.{atom-row}
 use Rattle.faults.proofs.Whole.{LinksSeen, sized-start, grows-start, seen-next, grows-next, whole-at}
 use Rattle.faults.proofs.growth.grown.Statement.{statement}
 use Rattle.faults.proofs.growth.grown.Tie as tie
 
 abbrev Inv-loop : tie.InvT-loop
-Inv-loop touches used ports root contexts sheet g₀ head₀ g head = (head ≤ g .count) × Sized (sheet .«atom_count») g × LinksSeen sheet g head × ((F : Net) (q : Placing) → Tables (netIn sheet) F q touches used ports (sheet .«atom_count») contexts → Other (netIn sheet) F q (suc root) → Grows (netIn sheet) F q (suc root) contexts g)
+Inv-loop order₀ members₀ way₀ seen₀ left₀ chains used ports root contexts sheet count₀ head₀ order members way seen left count head = (head ≤ count) × Sized (sheet .«atom_count») (growth order count members) × (length seen ≡ sheetLinks) × (length left ≡ figureContexts + 1) × LinksSeen sheet (growth order count members) seen head × ((F : Net) (q : Placing) → Tables (netIn sheet) F q chains used ports (sheet .«atom_count») contexts → Other (netIn sheet) F q (suc root) → Grows (netIn sheet) F q (suc root) contexts (growth order count members) seen left)
 
 abbrev μ-loop : tie.MeasureT-loop
-μ-loop touches used ports root contexts sheet g₀ head₀ g head = sheetAtoms - head
+μ-loop order₀ members₀ way₀ seen₀ left₀ chains used ports root contexts sheet count₀ head₀ order members way seen left count head = sheetAtoms - head
 
-start-requires : tie.Need-start-requires Inv-loop μ-loop
-start-requires c κs = omega (arith, c .pre .0 .atom-count)
+cast-order : tie.Need-cast-order Inv-loop μ-loop
+cast-order c = omega (arith, c .pre .0 .atom-count, c .pre .1)
+
+element-write-order : tie.Need-element-write-order Inv-loop μ-loop
+element-write-order c = search needs
+
+element-write-members : tie.Need-element-write-members Inv-loop μ-loop
+element-write-members c = omega (arith, c .pre .0 .atom-count, c .pre .1)
 
 loop-holds : tie.Need-loop-holds Inv-loop μ-loop
-loop-holds c = let s = c .before in
-    let a = s .args in
-    let P : Growth → Type 0 = λ g. Sized (a .t1 .«atom_count») g × ((F : Net) (q : Placing) → Tables (netIn (a .t1)) F q (a .touches .now) (a .used .now) (a .ports .now) (a .t1 .«atom_count») (a .contexts) → Other (netIn (a .t1)) F q (suc (a .root)) → Grows (netIn (a .t1)) F q (suc (a .root)) (a .contexts) g) in
-    let w : P (c .start .result) = subst P (sym (c .start .ensures)) (sized-start (a .t1 .«atom_count») (a .root) (s .pre .1) (s .pre .0 .atom-count), λ F q t o. grows-start (a .t1 .«atom_count») (a .root) (s .pre .1) (s .pre .0 .atom-count) (netIn (a .t1)) F q (a .contexts) (let h = s .pre .2 in omega arith) o) in
-    (omega arith, w .0, (λ h k i. absurd (omega arith)), w .1)
+loop-holds c = let a = c .args in
+    let n = a .t6 .«atom_count» in
+    let o = set (a .order .now) 0 (a .root) in
+    let P : List ℕ → List ℕ → List ℕ → Type 0 = λ m v b. Sized n (growth o 1 (set m (a .root) 1)) × (length v ≡ sheetLinks) × (length b ≡ figureContexts + 1) × ((F : Net) (q : Placing) → Tables (netIn (a .t6)) F q (a .chains .now) (a .used .now) (a .ports .now) n (a .contexts) → Other (netIn (a .t6)) F q (suc (a .root)) → Grows (netIn (a .t6)) F q (suc (a .root)) (a .contexts) (growth o 1 (set m (a .root) 1)) v b) in
+    let w : P (a .members .now) (a .seen .now) (a .left .now) = subst (λ m. P m (a .seen .now) (a .left .now)) (sym (c .pre .4)) (subst (λ v. P (replicate 64 0) v (a .left .now)) (sym (c .pre .5)) (subst (P (replicate 64 0) (replicate 96 0)) (sym (c .pre .6)) (
+      sized-start n (a .root) (c .pre .1) (c .pre .0 .atom-count) (a .order .now) (c .pre .3),
+      refl,
+      refl,
+      λ F q t k. grows-start n (a .root) (c .pre .1) (c .pre .0 .atom-count) (a .order .now) (c .pre .3) (netIn (a .t6)) F q (a .contexts) (let h = c .pre .2 in omega arith) k,
+    ))) in
+    (omega arith, w .0, w .1, w .2, (λ h k i. absurd (omega arith)), w .3)
 
 element-copy-out-j : tie.Need-element-copy-out-j Inv-loop μ-loop
 element-copy-out-j c = search needs
 
 cast-j : tie.Need-cast-j Inv-loop μ-loop
-cast-j c = let l = c .before .before .loop in let s = c .before .before .before .before in let r = l .inv .1 .listed (l .head) (omega arith) in omega (arith, s .pre .0 .atom-count)
+cast-j c = let l = c .before .before .loop in let s = c .before .before .before in let r = l .inv .1 .listed (l .head) (omega arith) in omega (arith, s .pre .0 .atom-count)
 
 mul-a : tie.Need-mul-a Inv-loop μ-loop
-mul-a c = let l = c .before .before .loop in let s = c .before .before .before .before in let r = l .inv .1 .listed (l .head) (omega arith) in omega (arith, s .pre .0 .atom-count)
+mul-a c = let l = c .before .before .loop in let s = c .before .before .before in let r = l .inv .1 .listed (l .head) (omega arith) in omega (arith, s .pre .0 .atom-count)
 
 element-copy-out-a : tie.Need-element-copy-out-a Inv-loop μ-loop
-element-copy-out-a c = let l = c .before .before .loop in let s = c .before .before .before .before in let r = l .inv .1 .listed (l .head) (omega arith) in omega (arith, s .pre .0 .atom-count)
+element-copy-out-a c = let l = c .before .before .loop in let s = c .before .before .before in let r = l .inv .1 .listed (l .head) (omega arith) in omega (arith, s .pre .0 .atom-count)
 
 cast-with-links : tie.Need-cast-with-links Inv-loop μ-loop
 cast-with-links c = search needs
 
 with-links-requires : tie.Need-with-links-requires Inv-loop μ-loop
-with-links-requires c κs = let l = c .before .before .before .before .before .loop in
-    let s = c .before .before .before .before .before .before .before in
-    let w = atom-row (s .args .t1) (s .pre .0) (getD (l .g .order) (l .head) 0) (l .inv .1 .listed (l .head) (omega arith)) in
-    (w .0, w .1, s .pre .0 .atom-count, s .pre .2, l .inv .1, (let r = l .inv .1 .listed (l .head) (omega arith) in omega (arith, s .pre .0 .atom-count)))
+with-links-requires c κs = let l = c .before .before .before .before .before .before .before .before .before .before .loop in
+    let s = c .before .before .before .before .before .before .before .before .before .before .before in
+    let r = l .inv .1 .listed (l .head) (omega arith) in
+    let w = atom-row (s .args .t6) (s .pre .0) (getD (l .order) (l .head) 0) r in
+    (w .0, w .1, s .pre .0 .atom-count, s .pre .2, l .inv .1, l .inv .2, l .inv .3, omega (arith, s .pre .0 .atom-count), s .pre .7)
 
 add-head : tie.Need-add-head Inv-loop μ-loop
 add-head c = search needs
 
 loop-less : tie.Need-loop-less Inv-loop μ-loop
-loop-less c = let l = c .before .before .before .before .before .before .loop in let m = l .inv .1 .most in omega arith
+loop-less c = let l = c .before .before .before .before .before .before .before .before .before .before .before .loop in let m = l .inv .1 .most in omega arith
 
 loop-again : tie.Need-loop-again Inv-loop μ-loop
-loop-again c = let l = c .before .before .before .before .before .before .loop in
-    let s = c .before .before .before .before .before .before .before .before in
+loop-again c = let l = c .before .before .before .before .before .before .before .before .before .before .before .loop in
+    let s = c .before .before .before .before .before .before .before .before .before .before .before .before in
     let a = s .args in
     let v = c .with-links .ensures in
-    let h : l .head < l .g .count = omega arith in (
-      omega (arith, v .1 .count-kept),
-      v .0,
-      seen-next (a .t1) (s .pre .0) (a .touches .now) (a .used .now) (a .ports .now) (a .contexts) (l .g) (c .with-links .result) (l .head) h (l .inv .1) (v .1) (v .2) (l .inv .2),
-      λ F q t o. grows-next (a .t1) (s .pre .0) (a .touches .now) (a .used .now) (a .ports .now) (a .contexts) (l .g) (c .with-links .result) (l .head) h (l .inv .1) (v .1) (v .2) F q (suc (a .root)) t (l .inv .3 F q t o),
+    let e = c .with-links .last in
+    let g = growth (l .order) (l .count) (l .members) in
+    let n = growth (e .0) (c .with-links .result) (e .1 .0) in
+    let h : l .head < l .count = omega (arith, c .before .before .before .before .before .before .before .before .before .before .loop-test .taken) in (
+      omega (arith, v .0 .longer .count-kept),
+      v .0 .sized,
+      v .0 .flags-room,
+      v .0 .left-room,
+      seen-next (a .t6) (s .pre .0) (a .chains .now) (a .used .now) (a .ports .now) (a .contexts) g (l .seen) (l .left) n (e .1 .1 .1 .0) (e .1 .1 .1 .1 .0) (l .head) h (l .inv .1) (v .0) (v .1) (l .inv .4),
+      λ F q t o. grows-next (a .t6) (s .pre .0) (a .chains .now) (a .used .now) (a .ports .now) (a .contexts) g (l .seen) (l .left) n (e .1 .1 .1 .0) (e .1 .1 .1 .1 .0) (l .head) h (l .inv .1) (v .0) (v .1) F q (suc (a .root)) t (l .inv .5 F q t o),
     )
 
 returns : tie.Need-returns Inv-loop μ-loop
 returns c = let l = c .before .loop in
-    let s = c .before .before .before in
+    let s = c .before .before in
     let a = s .args in
-    let e : l .head ≡ l .g .count = omega arith in
-    (l .inv .1, λ F q t o. whole-at (a .t1) (s .pre .0) (a .touches .now) (a .used .now) (a .ports .now) (a .contexts) (l .g) F q (suc (a .root)) (l .inv .1) (λ h k i. l .inv .2 h k (omega arith)) (l .inv .3 F q t o))
+    let e : l .head ≡ l .count = omega arith in
+    (l .inv .1, λ F q t o. whole-at (a .t6) (s .pre .0) (a .chains .now) (a .used .now) (a .ports .now) (a .contexts) (growth (l .order) (l .count) (l .members)) (l .seen) (l .left) F q (suc (a .root)) (l .inv .1) (λ h k i. l .inv .4 h k (omega arith)) (l .inv .5 F q t o))
 
 pub grown-spec : {M : Type 1} → statement M
 grown-spec =
@@ -84,7 +102,9 @@ grown-spec =
     (tie.spec
     Inv-loop
     μ-loop
-    start-requires
+    cast-order
+    element-write-order
+    element-write-members
     loop-holds
     element-copy-out-j
     cast-j

@@ -1,64 +1,118 @@
--- Invariant: the atoms so far that stand on the link joined.
+-- Invariant: the atoms of the nodes so far, which are those on the link, joined.
 use borrow.Author.Needs.{needs}
-use Prim.Native.Nat.{_+_, _-_, _≤_}
-use mathlib.Core.Path.{_≡_, refl, sym, _∙_, subst}
-use mathlib.Core.Logic.{inl, inr, ⊎-elim}
+use Prim.Native.Nat.{_-_, _/_, _%_, _≤_, _<_}
+use mathlib.Core.Path.{_≡_, sym, subst}
+use mathlib.Core.Logic.{_≢_, ⊎-elim}
+use native.Mathlib.Nat.{div-add-mod', mod-lt}
 use native.Mathlib.Omega.{arith}
-use Rattle.faults.specs.Grows.{Sized, Longer, WithAtoms, added}
-use Rattle.faults.specs.declared.growth.Growth.{Growth}
-use Rattle.faults.proofs.Growing.{added-room, longer-same, longer-then, sized-added, longer-added, atoms-joined, atoms-skipped}
+use lib.ListN.{getD}
+use Rattle.rows.specs.Format.{mostLinks}
+use Rattle.rows.specs.Limits.{sheetLinks}
+use Rattle.stepping.specs.Chains.{nodeOf}
+use Rattle.faults.specs.Grows.{Growth, growth, Sized, Longer, WithAtoms, added}
+use Rattle.faults.proofs.Growing.{added-room, longer-same, longer-then, sized-added, longer-added, joins, stays, atoms-start, atoms-next}
 use Rattle.faults.proofs.growth.with_atoms.Statement.{statement}
 use Rattle.faults.proofs.growth.with_atoms.Tie as tie
 
 abbrev Inv-loop : tie.InvT-loop
-Inv-loop touches y atoms from next₀ i₀ next i = (i ≤ atoms) × Sized atoms next × Longer next₀ next × WithAtoms touches y atoms i next₀ next
+Inv-loop order₀ members₀ way₀ count chains y atoms from next₀ v₀ order members way next v = (v < nodeOf atoms 0) × (v ≢ 0 → sheetLinks ≤ v) × Sized atoms (growth order next members) × Longer (growth order₀ count members₀) (growth order next members) × WithAtoms chains y atoms v (growth order₀ count members₀) (growth order next members)
 
 abbrev μ-loop : tie.MeasureT-loop
-μ-loop touches y atoms from next₀ i₀ next i = atoms - i
+μ-loop order₀ members₀ way₀ count chains y atoms from next₀ v₀ order members way next v = v
+
+mul-v : tie.Need-mul-v Inv-loop μ-loop
+mul-v c = search needs
+
+element-copy-out-v : tie.Need-element-copy-out-v Inv-loop μ-loop
+element-copy-out-v c = search needs
+
+cast-v : tie.Need-cast-v Inv-loop μ-loop
+cast-v c = let w = c .before .pre .4 .within (c .before .args .y) in let few = c .before .pre .1 in omega arith
 
 loop-holds : tie.Need-loop-holds Inv-loop μ-loop
-loop-holds c = let a = c .args in (omega arith, c .pre .2, longer-same (a .g), record { same-seen = refl; same-left = refl; holds = λ S F q root seen u hy m n k. (k, λ j l. absurd (omega arith)) })
+loop-holds c = let s = c .before in
+    let a = s .args in
+    let g = growth (a .order .now) (a .count) (a .members .now) in
+    (s .pre .4 .within (a .y), s .pre .4 .above (a .y), s .pre .2, longer-same g, atoms-start (a .chains .now) (a .y) (a .atoms) (s .pre .0) g)
 
-mul-if1 : tie.Need-mul-if1 Inv-loop μ-loop
-mul-if1 c = search needs
-
-add-if1 : tie.Need-add-if1 Inv-loop μ-loop
-add-if1 c = search needs
+sub-i : tie.Need-sub-i Inv-loop μ-loop
+sub-i c = omega (arith, c .before .loop .inv .1 (c .loop-test .taken))
 
 element-copy-out-if1 : tie.Need-element-copy-out-if1 Inv-loop μ-loop
-element-copy-out-if1 c = search needs
+element-copy-out-if1 c = let s = c .before .before .before in let l = c .before .loop in let low = l .inv .1 (c .loop-test .taken) in let d = div-add-mod' (l .v - 96) 6 in let few = s .pre .1 in omega arith
 
-element-copy-out-if2 : tie.Need-element-copy-out-if2 Inv-loop μ-loop
-element-copy-out-if2 c = search needs
+cast-order : tie.Need-cast-order Inv-loop μ-loop
+cast-order c = let s = c .before .before .before .before .before in let l = c .before .before .before .loop in let low = l .inv .1 (c .before .before .loop-test .taken) in let d = div-add-mod' (l .v - 96) 6 in let few = s .pre .1 in omega arith
 
-with-atom-requires : tie.Need-with-atom-requires Inv-loop μ-loop
-with-atom-requires c κs = let l = c .before .before .before .before .before .loop in let s = c .before .before .before .before .before .before in (omega arith, added-room (s .args .atoms) (l .next) (l .i) (s .args .y) (s .args .from) (s .pre .1) (l .inv .1) (omega arith) (c .if2 .taken), s .pre .0, s .pre .3)
+element-write-order : tie.Need-element-write-order Inv-loop μ-loop
+element-write-order c = let s = c .before .before .before .before .before in let l = c .before .before .before .loop in let low = l .inv .1 (c .before .before .loop-test .taken) in let d = div-add-mod' (l .v - 96) 6 in let few = s .pre .1 in added-room (s .args .atoms) (growth (l .order) (l .next) (l .members)) ((l .v - 96) / 6) (s .pre .1) (l .inv .2) (omega arith) (c .if1 .taken)
 
-add-i : tie.Need-add-i Inv-loop μ-loop
-add-i c = search needs
+element-write-members : tie.Need-element-write-members Inv-loop μ-loop
+element-write-members c = let s = c .before .before .before .before .before in let l = c .before .before .before .loop in let low = l .inv .1 (c .before .before .loop-test .taken) in let d = div-add-mod' (l .v - 96) 6 in let few = s .pre .1 in omega arith
+
+mul-way : tie.Need-mul-way Inv-loop μ-loop
+mul-way c = search needs
+
+add-way : tie.Need-add-way Inv-loop μ-loop
+add-way c = search needs
+
+cast-way : tie.Need-cast-way Inv-loop μ-loop
+cast-way c = search needs
+
+mul-way-2 : tie.Need-mul-way-2 Inv-loop μ-loop
+mul-way-2 c = let s = c .before .before .before .before .before in let l = c .before .before .before .loop in let low = l .inv .1 (c .before .before .loop-test .taken) in let d = div-add-mod' (l .v - 96) 6 in let few = s .pre .1 in omega arith
+
+element-write-way : tie.Need-element-write-way Inv-loop μ-loop
+element-write-way c = let s = c .before .before .before .before .before in let l = c .before .before .before .loop in let low = l .inv .1 (c .before .before .loop-test .taken) in let d = div-add-mod' (l .v - 96) 6 in let few = s .pre .1 in omega arith
+
+add-next : tie.Need-add-next Inv-loop μ-loop
+add-next c = search needs
+
+mul-v-2 : tie.Need-mul-v-2 Inv-loop μ-loop
+mul-v-2 c = let s = c .before .before .before .before .before in let l = c .before .before .before .loop in let low = l .inv .1 (c .before .before .loop-test .taken) in let d = div-add-mod' (l .v - 96) 6 in let few = s .pre .1 in omega arith
+
+element-copy-out-v-2 : tie.Need-element-copy-out-v-2 Inv-loop μ-loop
+element-copy-out-v-2 c = let s = c .before .before .before .before .before in let l = c .before .before .before .loop in let low = l .inv .1 (c .before .before .loop-test .taken) in let d = div-add-mod' (l .v - 96) 6 in let few = s .pre .1 in omega arith
+
+cast-v-2 : tie.Need-cast-v-2 Inv-loop μ-loop
+cast-v-2 c = let s = c .before .before .before .before .before .before in let l = c .before .before .before .before .loop in let low = l .inv .1 (c .before .before .before .loop-test .taken) in let d = div-add-mod' (l .v - 96) 6 in let few = s .pre .1 in let w = s .pre .4 .within (l .v) in omega arith
 
 loop-less : tie.Need-loop-less Inv-loop μ-loop
-loop-less c = search needs
+loop-less c = let s = c .before .before .before .before .before .before in let l = c .before .before .before .before .loop in let low = l .inv .1 (c .before .before .before .loop-test .taken) in let d = div-add-mod' (l .v - 96) 6 in let few = s .pre .1 in s .pre .4 .falls (l .v) low
 
 loop-again : tie.Need-loop-again Inv-loop μ-loop
-loop-again c = let l = c .before .before .before .loop in
-    let s = c .before .before .before .before in
+loop-again c = let s = c .before .before .before .before .before .before in
+    let l = c .before .before .before .before .loop in
     let a = s .args in
-    let t = a .touches .now in
-    let P : Growth → Type 0 = λ m. Sized (a .atoms) m × Longer (a .g) m × WithAtoms t (a .y) (a .atoms) (l .i + 1) (a .g) m in
-    let w : P (c .if1 .next) = ⊎-elim
-    (λ w. subst P (sym (w .4 ∙ w .3 .ensures)) (
-      sized-added (a .atoms) (l .next) (l .i) (a .y) (a .from) (s .pre .1) (l .inv .1) (omega arith) (w .2 .taken),
-      longer-then (a .g) (l .next) (added (l .next) (l .i) (a .y) (a .from)) (l .inv .2) (longer-added (a .atoms) (l .next) (l .i) (a .y) (a .from) (s .pre .1) (l .inv .1) (omega arith) (w .2 .taken)),
-      atoms-joined t (a .y) (a .atoms) (l .i) (a .g) (l .next) (s .pre .1) (omega arith) (l .inv .1) (l .inv .3) (a .from) (w .0 .taken) (w .2 .taken),
+    let low = l .inv .1 (c .before .before .before .loop-test .taken) in
+    let d = div-add-mod' (l .v - 96) 6 in
+    let i = (l .v - 96) / 6 in
+    let k = (l .v - 96) % 6 in
+    let rest : k < mostLinks = mod-lt (l .v - 96) (omega arith) in
+    let e : l .v ≡ nodeOf i k = omega arith in
+    let h : i < a .atoms = omega arith in
+    let g₀ = growth (a .order .now) (a .count) (a .members .now) in
+    let g = growth (l .order) (l .next) (l .members) in
+    let P : Growth → Type 0 = λ m. Sized (a .atoms) m × Longer g₀ m × WithAtoms (a .chains .now) (a .y) (a .atoms) (getD (a .chains .now) (l .v) 0) g₀ m in
+    let w : P (growth (c .before .if1 .order) (c .before .if1 .next) (c .before .if1 .members)) = ⊎-elim
+    (λ w.
+    let f : growth (c .before .if1 .order) (c .before .if1 .next) (c .before .if1 .members) ≡ added g i = cc in
+    subst P (sym f) (
+      sized-added (a .atoms) g i (s .pre .1) (l .inv .2) h (w .0 .taken),
+      longer-then g₀ g (added g i) (l .inv .3) (longer-added (a .atoms) g i (s .pre .1) (l .inv .2) h (w .0 .taken)),
+      atoms-next (a .chains .now) (a .y) (a .atoms) (s .pre .0) (l .v) i k g₀ g (added g i) rest e (joins (a .atoms) g i (s .pre .1) (l .inv .2) h (w .0 .taken)) (l .inv .4),
     ))
-    (⊎-elim (λ w. subst P (sym (w .3)) (l .inv .1, l .inv .2, atoms-skipped t (a .y) (a .atoms) (l .i) (a .g) (l .next) (s .pre .1) (omega arith) (l .inv .1) (l .inv .3) (inr (w .2 .left))))
-    (λ w. subst P (sym (w .1)) (l .inv .1, l .inv .2, atoms-skipped t (a .y) (a .atoms) (l .i) (a .g) (l .next) (s .pre .1) (omega arith) (l .inv .1) (l .inv .3) (inl (w .0 .left)))))
-    (c .if1 .came) in
-    (omega arith, w .0, w .1, w .2)
+    (λ w.
+    let f : growth (c .before .if1 .order) (c .before .if1 .next) (c .before .if1 .members) ≡ g = cc in
+    subst P (sym f) (l .inv .2, l .inv .3, atoms-next (a .chains .now) (a .y) (a .atoms) (s .pre .0) (l .v) i k g₀ g g rest e (stays (a .atoms) i g (w .0 .left)) (l .inv .4)))
+    (c .before .if1 .came) in
+    (s .pre .4 .within (l .v), s .pre .4 .above (l .v), w .0, w .1, w .2)
 
 returns : tie.Need-returns Inv-loop μ-loop
-returns c = let l = c .before .loop in let a = c .before .before .args in let e : l .i ≡ a .atoms = omega arith in (l .inv .1, l .inv .2, subst (λ n. WithAtoms (a .touches .now) (a .y) (a .atoms) n (a .g) (l .next)) e (l .inv .3))
+returns c = let l = c .before .loop in
+    let a = c .before .before .before .args in
+    let e : l .v ≡ 0 = omega arith in
+    (l .inv .2, l .inv .3, subst (λ n. WithAtoms (a .chains .now) (a .y) (a .atoms) n (growth (a .order .now) (a .count) (a .members .now)) (growth (l .order) (l .next) (l .members))) e (l .inv .4))
 
 pub with-atoms-spec : {M : Type 1} → statement M
 with-atoms-spec =
@@ -66,13 +120,24 @@ with-atoms-spec =
     (tie.spec
     Inv-loop
     μ-loop
+    mul-v
+    element-copy-out-v
+    cast-v
     loop-holds
-    mul-if1
-    add-if1
+    sub-i
     element-copy-out-if1
-    element-copy-out-if2
-    with-atom-requires
-    add-i
+    cast-order
+    element-write-order
+    element-write-members
+    mul-way
+    add-way
+    cast-way
+    mul-way-2
+    element-write-way
+    add-next
+    mul-v-2
+    element-copy-out-v-2
+    cast-v-2
     loop-less
     loop-again
     returns)

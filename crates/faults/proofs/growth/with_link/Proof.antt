@@ -1,8 +1,14 @@
 -- What is new is looked at: its atoms join, or contexts leave.
 use borrow.Author.Needs.{needs}
-use mathlib.Core.Path.{_∙_, ap}
-use lib.ListN.{getD}
-use Rattle.faults.proofs.Growing.{lookedAt, longer-same, longer-then, sized-looked, longer-looked, looked-now, grows-used, grows-unused}
+use Prim.Native.Nat.{_<_}
+use mathlib.Core.Logic.{inl}
+use native.Mathlib.Omega.{arith}
+use lib.ListN.{length, length-set}
+use lib.Seq.{getD-set-same}
+use Rattle.faults.specs.Grows.{growth}
+use Rattle.stepping.proofs.Tables.{store-flag}
+use Rattle.faults.proofs.Growing.{longer-same, grows-used, grows-unused}
+use borrow.Author.Needs.{needs}
 use Rattle.faults.proofs.growth.with_link.Statement.{statement}
 use Rattle.faults.proofs.growth.with_link.Tie as tie
 
@@ -10,10 +16,15 @@ element-copy-out-if1 : tie.Need-element-copy-out-if1
 element-copy-out-if1 c = search needs
 
 returns : tie.Need-returns
-returns c = let a = c .before .before .args in (c .before .before .pre .3, longer-same (a .t1), c .if1 .taken, λ S F q root j t hy m on w. w)
+returns c = let s = c .before .before in
+    let a = s .args in (
+      record { sized = s .pre .3; longer = longer-same (growth (a .order .now) (a .count) (a .members .now)); flags-room = s .pre .4; flags-kept = λ z e. e; left-room = s .pre .5 },
+      c .if1 .taken,
+      λ S F q root j t hy m on w. w,
+    )
 
-element-write-next : tie.Need-element-write-next
-element-write-next c = search needs
+element-write-seen : tie.Need-element-write-seen
+element-write-seen c = search needs
 
 element-copy-out-if2 : tie.Need-element-copy-out-if2
 element-copy-out-if2 c = search needs
@@ -24,26 +35,25 @@ left-at-requires c κs = search needs
 returns-2 : tie.Need-returns-2
 returns-2 c = let s = c .before .before .before .before .before .before in
     let a = s .args in
-    let v = c .left-at .result in (
-      sized-looked (a .t1) (a .y) v (a .atoms) (s .pre .0) (s .pre .3),
-      longer-looked (a .t1) (a .y) v (a .atoms) (s .pre .0) (s .pre .3),
-      looked-now (a .t1) (a .y) v (a .atoms) (s .pre .0) (s .pre .3),
-      grows-used (a .t1) (a .y) v (a .atoms) (s .pre .0) (s .pre .3) (a .touches .now) (a .used .now) (a .ports .now) (a .contexts) (c .before .before .if2 .taken) (c .left-at .ensures),
+    let g = growth (a .order .now) (a .count) (a .members .now) in
+    let room : a .y < length (a .seen .now) = (let e = s .pre .4 in omega (arith, s .pre .0)) in (
+      record { sized = s .pre .3; longer = longer-same g; flags-room = simp length-set (s .pre .4); flags-kept = λ z e. store-flag (a .seen .now) (a .y) room z .1 (inl e); left-room = c .left-at .ensures .0 },
+      getD-set-same (a .seen .now) (a .y) 1 0 room,
+      grows-used (a .chains .now) (a .used .now) (a .ports .now) (a .y) (a .atoms) (a .contexts) g (a .seen .now) (a .left .now) room (c .left-at .last .0) (c .before .before .if2 .taken) (c .left-at .ensures .1),
     )
 
 with-atoms-requires : tie.Need-with-atoms-requires
-with-atoms-requires c κs = let s = c .before .before .before .before in let a = s .args in (s .pre .0, s .pre .1, sized-looked (a .t1) (a .y) (a .t1 .left) (a .atoms) (s .pre .0) (s .pre .3), s .pre .4)
+with-atoms-requires c κs = search needs
 
 returns-3 : tie.Need-returns-3
-returns-3 c = let s = c .before .before .before .before .before in
+returns-3 c = let s = c .before .before .before .before .before .before .before .before in
     let a = s .args in
-    let r = c .with-atoms .result in
+    let g = growth (a .order .now) (a .count) (a .members .now) in
     let v = c .with-atoms .ensures in
-    let z = a .t1 .left in (
-      v .0,
-      longer-then (a .t1) (lookedAt (a .t1) (a .y) z) r (longer-looked (a .t1) (a .y) z (a .atoms) (s .pre .0) (s .pre .3)) (v .1),
-      ap (λ l. getD l (a .y) 0) (v .2 .same-seen) ∙ looked-now (a .t1) (a .y) z (a .atoms) (s .pre .0) (s .pre .3),
-      grows-unused (a .t1) r (a .y) (a .atoms) (a .contexts) (a .touches .now) (a .used .now) (a .ports .now) (s .pre .0) (s .pre .3) (v .0) (v .1) (c .before .if2 .left) (v .2),
+    let room : a .y < length (a .seen .now) = (let e = s .pre .4 in omega (arith, s .pre .0)) in (
+      record { sized = v .0; longer = v .1; flags-room = simp length-set (s .pre .4); flags-kept = λ z e. store-flag (a .seen .now) (a .y) room z .1 (inl e); left-room = s .pre .5 },
+      getD-set-same (a .seen .now) (a .y) 1 0 room,
+      grows-unused (a .chains .now) (a .used .now) (a .ports .now) (a .y) (a .atoms) (a .contexts) g (a .seen .now) (a .left .now) room (growth (c .with-atoms .last .0) (c .with-atoms .result) (c .with-atoms .last .1 .0)) (v .0) (v .1) (c .before .before .before .before .if2 .left) (v .2),
     )
 
 pub with-link-spec : {M : Type 1} → statement M
@@ -52,7 +62,7 @@ with-link-spec =
     (tie.spec
     element-copy-out-if1
     returns
-    element-write-next
+    element-write-seen
     element-copy-out-if2
     left-at-requires
     returns-2

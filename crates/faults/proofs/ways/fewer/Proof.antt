@@ -5,16 +5,16 @@ use Rattle.faults.proofs.ways.fewer.Statement.{statement}
 use Rattle.faults.proofs.ways.fewer.Tie as tie
 
 abbrev Inv-loop : tie.InvT-loop
-Inv-loop ports y contexts left c₀ c = c ≤ contexts
+Inv-loop left ports y contexts c₀ c = c ≤ contexts
 
 abbrev μ-loop : tie.MeasureT-loop
-μ-loop ports y contexts left c₀ c = contexts - c
+μ-loop left ports y contexts c₀ c = contexts - c
 
 loop-holds : tie.Need-loop-holds Inv-loop μ-loop
 loop-holds c = search needs
 
-array-read-if1 : tie.Need-array-read-if1 Inv-loop μ-loop
-array-read-if1 c = search needs
+element-copy-out-if1 : tie.Need-element-copy-out-if1 Inv-loop μ-loop
+element-copy-out-if1 c = search needs
 
 mul-if2 : tie.Need-mul-if2 Inv-loop μ-loop
 mul-if2 c = search needs
@@ -47,7 +47,7 @@ fewer-spec =
     Inv-loop
     μ-loop
     loop-holds
-    array-read-if1
+    element-copy-out-if1
     mul-if2
     add-if2
     element-copy-out-if2

@@ -1,32 +1,33 @@
 -- No index leaves its array.
 use borrow.Author.Needs.{needs}
 use Prim.Native.Nat.{_-_, _≤_, _<_}
-use mathlib.Core.Logic.{⊎-elim}
-use native.Mathlib.Omega.{arith}
 use Rattle.rows.specs.Limits.{sheetAtoms}
 use Rattle.faults.proofs.ways.with_way.Statement.{statement}
 use Rattle.faults.proofs.ways.with_way.Tie as tie
 
 abbrev Inv-loop : tie.InvT-loop
-Inv-loop from parent next₀ j₀ n₀ next j n = (j < sheetAtoms) × (n ≤ sheetAtoms)
+Inv-loop marked₀ way from j₀ n₀ marked j n = (j < sheetAtoms) × (n ≤ sheetAtoms)
 
 abbrev μ-loop : tie.MeasureT-loop
-μ-loop from parent next₀ j₀ n₀ next j n = sheetAtoms - n
+μ-loop marked₀ way from j₀ n₀ marked j n = sheetAtoms - n
 
 loop-holds : tie.Need-loop-holds Inv-loop μ-loop
 loop-holds c = search needs
 
-array-read-if1 : tie.Need-array-read-if1 Inv-loop μ-loop
-array-read-if1 c = search needs
+element-copy-out-if1 : tie.Need-element-copy-out-if1 Inv-loop μ-loop
+element-copy-out-if1 c = search needs
 
 returns : tie.Need-returns Inv-loop μ-loop
 returns c = search needs
 
-array-write-next : tie.Need-array-write-next Inv-loop μ-loop
-array-write-next c = search needs
+element-write-marked : tie.Need-element-write-marked Inv-loop μ-loop
+element-write-marked c = search needs
 
-array-read-wide : tie.Need-array-read-wide Inv-loop μ-loop
-array-read-wide c = search needs
+mul-wide : tie.Need-mul-wide Inv-loop μ-loop
+mul-wide c = search needs
+
+element-copy-out-wide : tie.Need-element-copy-out-wide Inv-loop μ-loop
+element-copy-out-wide c = search needs
 
 wide-requires : tie.Need-wide-requires Inv-loop μ-loop
 wide-requires c κs = search needs
@@ -38,7 +39,7 @@ loop-less : tie.Need-loop-less Inv-loop μ-loop
 loop-less c = search needs
 
 loop-again : tie.Need-loop-again Inv-loop μ-loop
-loop-again c = (⊎-elim (λ w. let t = w .0 .taken in let e = w .1 in omega arith) (λ w. let e = w .1 in omega arith) (c .if2 .came), omega arith)
+loop-again c = search needs
 
 returns-2 : tie.Need-returns-2 Inv-loop μ-loop
 returns-2 c = search needs
@@ -50,10 +51,11 @@ with-way-spec =
     Inv-loop
     μ-loop
     loop-holds
-    array-read-if1
+    element-copy-out-if1
     returns
-    array-write-next
-    array-read-wide
+    element-write-marked
+    mul-wide
+    element-copy-out-wide
     wide-requires
     add-n
     loop-less

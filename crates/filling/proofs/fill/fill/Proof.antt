@@ -1,6 +1,7 @@
 -- A short slip, an input that is refused at a row, and inputs that passed.
 use borrow.Author.Needs.{needs}
 use mathlib.Core.Path.{sym, _∙_, ap}
+use Rattle.sheet.specs.Filling.{isPassed}
 use Rattle.sheet.specs.declared.read.Reading.{Reading}
 use Rattle.filling.proofs.Answers.{fill-short, fill-figure, fill-list, fill-passed}
 use Rattle.filling.proofs.fill.fill.Statement.{statement}
@@ -27,7 +28,7 @@ fill-read-requires c κs = let r = c .before .before .before .before .before .be
     let i = r .before .before in
     let e = i .before in
     let a = e .before .before .before .before .args in
-    (((a .figure .now, ap (λ (x : Reading). x .sheet) (i .read-figure .ensures)), ap (λ (x : Reading). x .sheet) (r .read-list .ensures)), e .if1 .left)
+    (((a .figure .now, ap (λ (x : Reading). x .sheet) (i .read-figure .ensures)), ap (λ (x : Reading). x .sheet) (r .read-list .ensures), ap isPassed (sym (ap (λ (x : Reading). x .answer) (r .read-list .ensures)) ∙ c .before .enum-told2 .given .1)), e .if1 .left)
 
 enum-known-list-answer : tie.Need-enum-known-list-answer
 enum-known-list-answer c = search needs

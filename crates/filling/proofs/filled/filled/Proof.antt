@@ -1,44 +1,49 @@
 -- The atoms and labels of the filled figure, numbered.
 use borrow.Author.Needs.{needs}
-use Prim.Native.Nat.{_≤_}
-use mathlib.Core.Path.{sym, subst}
-use mathlib.Core.List.{List}
-use lib.ListN.{getD}
-use Rattle.rows.specs.Format.{mostLinks}
-use Rattle.rows.specs.declared.Atom.{Atom}
-use Rattle.sheet.specs.NormalRows.{pastAtoms}
-use Rattle.filling.proofs.Making.{shown-linked, made}
+use native.Mathlib.Omega.{arith}
+use Rattle.filling.proofs.Making.{put-linked, tagged-count, made-of}
 use Rattle.filling.proofs.filled.filled.Statement.{statement}
 use Rattle.filling.proofs.filled.filled.Tie as tie
 
-glued-requires : tie.Need-glued-requires
-glued-requires c κs = c .before .pre
+own-labels-requires : tie.Need-own-labels-requires
+own-labels-requires c κs = search needs
 
 whole-of-requires : tie.Need-whole-of-requires
-whole-of-requires c κs = c .before .before .before .pre
+whole-of-requires c κs = let o = c .before .before in
+    let s = o .before .before in
+    (s .pre .0, s .pre .1, o .own-labels .ensures .size, s .pre .2)
 
 mark-labels-requires : tie.Need-mark-labels-requires
-mark-labels-requires c κs = c .before .before .before .before .before .pre .0
+mark-labels-requires c κs = c .before .before .before .before .before .before .pre .0
+
+labelled-requires : tie.Need-labelled-requires
+labelled-requires c κs = let w = c .before .before .before in
+    let s = w .before .before .before .before .before in
+    let P = w .whole-of .ensures .1 in
+    let k = put-linked (s .args .list .now) (s .args .figure) _ _ (w .whole-of .result) P (s .pre .0) in
+    ((P .few, λ i. k i .0), λ i j. k i .1 j)
 
 numbered-requires : tie.Need-numbered-requires
-numbered-requires c κs = let w = c .before .before in
-    let g = w .before .before in
-    let s = g .before .before in
-    (s .pre .0 .marks, w .whole-of .ensures .1, λ i. subst (λ (l : List Atom). getD l i pastAtoms .count ≤ mostLinks) (sym (w .whole-of .ensures .0)) (shown-linked (s .args .list .now) (g .glued .result) (s .args .figure) (s .pre .0) i))
+numbered-requires c κs = let w = c .before .before .before .before in
+    let s = w .before .before .before .before .before in
+    let P = w .whole-of .ensures .1 in
+    (s .pre .0 .marks, omega (arith, c .labelled .ensures .1, P .few), tagged-count (s .args .list .now) (s .args .figure) _ _ (w .whole-of .result) P (c .labelled .result) (c .labelled .ensures .0) (s .pre .0))
 
 returns : tie.Need-returns
-returns c = let k = c .before in
+returns c = let t = c .before in
+    let k = t .before .before in
     let w = k .before .before in
-    let g = w .before .before in
-    let s = g .before .before in (
-      g .glued .result,
-      (
-        g .glued .ensures,
-        made (s .args .list .now) (g .glued .result) (s .args .figure) (w .whole-of .result) (k .mark-labels .result) (w .whole-of .ensures .0) (k .mark-labels .ensures) (c .numbered .result) (c .numbered .ensures),
-      ),
-    )
+    let o = w .before .before .before in
+    let s = o .before .before in
+    (w .whole-of .ensures .0, made-of (s .args .list .now) (s .args .figure) _ _ (w .whole-of .result) (w .whole-of .ensures .1) (t .labelled .result) (t .labelled .ensures .0) (o .own-labels .ensures) (k .mark-labels .result) (k .mark-labels .ensures) (c .numbered .result) (c .numbered .ensures))
 
 pub filled-spec : {M : Type 1} → statement M
 filled-spec =
     tie.close
-    (tie.spec glued-requires whole-of-requires mark-labels-requires numbered-requires returns)
+    (tie.spec
+    own-labels-requires
+    whole-of-requires
+    mark-labels-requires
+    labelled-requires
+    numbered-requires
+    returns)

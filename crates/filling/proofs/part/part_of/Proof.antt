@@ -13,8 +13,8 @@ use Rattle.filling.proofs.Parts.{part-agrees, part-numberable}
 use Rattle.filling.proofs.part.part_of.Statement.{statement}
 use Rattle.filling.proofs.part.part_of.Tie as tie
 
-filling-of-requires : tie.Need-filling-of-requires
-filling-of-requires c κs = search needs
+filling-in-requires : tie.Need-filling-in-requires
+filling-in-requires c κs = c .before .pre
 
 read-list-requires : tie.Need-read-list-requires
 read-list-requires c κs = search needs
@@ -28,7 +28,7 @@ normal-of-requires c κs = let w = c in
     let f = r .before in
     let a = f .before .before .args in
     let e : w .without-heads .result ≡ packed (withoutHeads (partHeld (a .list .now) (a .number))) =
-    w .without-heads .ensures (partHeld (a .list .now) (a .number)) (ap (λ (x : Reading). x .sheet) (r .read-list .ensures ∙ ap (λ (t : List ℕ). readingOf (outcomeOf Fillings noPorts t)) (f .filling-of .ensures))) in
+    w .without-heads .ensures (partHeld (a .list .now) (a .number)) (ap (λ (x : Reading). x .sheet) (r .read-list .ensures ∙ ap (λ (t : List ℕ). readingOf (outcomeOf Fillings noPorts t)) (f .filling-in .ensures))) in
     rw e (part-numberable (a .list .now) (a .number))
 
 returns : tie.Need-returns
@@ -37,14 +37,14 @@ returns c = let w = c .before in
     let f = r .before in
     let a = f .before .before .args in
     let e : w .without-heads .result ≡ packed (withoutHeads (partHeld (a .list .now) (a .number))) =
-    w .without-heads .ensures (partHeld (a .list .now) (a .number)) (ap (λ (x : Reading). x .sheet) (r .read-list .ensures ∙ ap (λ (t : List ℕ). readingOf (outcomeOf Fillings noPorts t)) (f .filling-of .ensures))) in
+    w .without-heads .ensures (partHeld (a .list .now) (a .number)) (ap (λ (x : Reading). x .sheet) (r .read-list .ensures ∙ ap (λ (t : List ℕ). readingOf (outcomeOf Fillings noPorts t)) (f .filling-in .ensures))) in
     c .normal-of .ensures (withoutHeads (partHeld (a .list .now) (a .number))) (part-agrees (a .list .now) (a .number)) e
 
 pub part-of-spec : {M : Type 1} → statement M
 part-of-spec =
     tie.close
     (tie.spec
-    filling-of-requires
+    filling-in-requires
     read-list-requires
     without-heads-requires
     normal-of-requires

@@ -29,7 +29,7 @@ array-read-stands-on : tie.Need-array-read-stands-on Inv-loop μ-loop
 array-read-stands-on c = search needs
 
 stands-on-requires : tie.Need-stands-on-requires Inv-loop μ-loop
-stands-on-requires c κs = let s = c .before .before in (s .pre .0, s .pre .2 (c .before .loop .k) (c .loop-test .taken))
+stands-on-requires c κs = let s = c .before .before .before in (s .pre .0, s .pre .1, s .pre .3 (c .before .loop .k) (c .loop-test .taken))
 
 mul-ports : tie.Need-mul-ports Inv-loop μ-loop
 mul-ports c = search needs
@@ -45,15 +45,15 @@ loop-less c = search needs
 
 loop-again : tie.Need-loop-again Inv-loop μ-loop
 loop-again c = let l = c .before .before in
-    let a = l .before .args in (
+    let a = l .before .before .args in (
       omega arith,
       l .loop .inv .1,
-      rw (c .stands-on .ensures) (stored-next mostLinks (standsAt (a .sheet-links) (a .links-to)) (a .t3) (l .loop .ports) (l .loop .k) (l .loop .inv .2) (omega arith) (omega arith)),
+      rw (c .stands-on .ensures) (stored-next mostLinks (standsAt (a .sheet-links) (a .links-to .now)) (a .t3) (l .loop .ports) (l .loop .k) (l .loop .inv .2) (omega arith) (omega arith)),
     )
 
 returns : tie.Need-returns Inv-loop μ-loop
 returns c = let l = c .before in
-    let e : l .loop .k ≡ l .before .args .count = omega arith in
+    let e : l .loop .k ≡ l .before .before .args .count = omega arith in
     rw e at (l .loop .inv .2)
 
 pub ports-of-spec : {M : Type 1} → statement M

@@ -1,28 +1,79 @@
 -- `search::smallest_placing` meets its contract: the search from the beginning. Assumes nothing.
 use Rattle.matching.proofs.SearchWhole.{keeps-start, no-atoms, placed-smallest}
-use borrow.Author.Needs.{needs}
-use mathlib.Core.List.{[]}
+use Rattle.matching.proofs.SearchTurns.{nothing-begun, narrow-kept}
+use Prim.Native.Nat.{ℕ, _-_}
+use mathlib.Core.List.{List}
+use lib.ListN.{take, replicate}
+use Rattle.rows.specs.Limits.{sheetAtoms}
+use Rattle.narrowing.specs.Laid.{LaidOut}
+use Rattle.narrowing.proofs.Laying.{laid-rowed}
 use mathlib.Core.Path.{refl}
 use native.Mathlib.Omega.{arith}
+use borrow.Author.Needs.{needs}
 use Rattle.matching.proofs.search.smallest_placing.Statement.{statement}
 use Rattle.matching.proofs.search.smallest_placing.Tie as tie
+
+lay-requires : tie.Need-lay-requires
+lay-requires c κs = search needs
+
+lay-requires-2 : tie.Need-lay-requires-2
+lay-requires-2 c κs = search needs
 
 start-requires : tie.Need-start-requires
 start-requires c κs = search needs
 
-narrow-requires : tie.Need-narrow-requires
-narrow-requires c κs = search needs
+mark-lost-requires : tie.Need-mark-lost-requires
+mark-lost-requires c κs = search needs
 
-search-requires : tie.Need-search-requires
-search-requires c κs =
-    let s = c .before .before .before .before .before .before .before in
-    let w = c .before .narrow in
-    (s .pre, omega arith, no-atoms (s .args .sheet) (s .args .figure .«atom_count») _ refl, keeps-start (s .args .sheet) (s .args .figure) (s .args .figure .«atom_count») _ (w .last .1 .1 .1 .0) (c .before .before .before .before .before .before .start .result .links) (w .ensures [] (c .before .before .before .before .before .before .start .ensures)))
+nothing-requires : tie.Need-nothing-requires
+nothing-requires c κs = search needs
 
 returns : tie.Need-returns
 returns c =
-    let s = c .before .before .before .before .before .before .before .before in
-    placed-smallest (s .args .sheet) (s .args .figure) (s .pre) (c .search .result) (search (needs, c .search .ok)) (search (needs, c .search .ok)) _ (c .search .ensures)
+    let b = c .before .before .before .before .before .before .before .before .before .before .before .before .before in
+    let s = c .before .before .before .before .start in
+    let n = b .args .figure .«atom_count» in
+    let chosen : List ℕ = replicate sheetAtoms 0 in
+    placed-smallest (b .args .sheet) (b .args .figure) (b .pre) (c .nothing .result) (search (needs, c .nothing .ok)) (search (needs, c .nothing .ok)) chosen
+    (nothing-begun (b .args .sheet) (b .args .figure) (b .pre) chosen n (omega arith) (no-atoms (b .args .sheet) n chosen refl)
+    (c .before .before .mark-lost .ensures (c .before .if1 .taken) (take (n - n) chosen) (s .last .1 .1 .1 .1 .0) (keeps-start (b .args .sheet) (b .args .figure) n chosen (s .last .1 .1 .1 .1 .0) (s .last .1 .1 .1 .1 .1 .0) (s .ensures))) (c .nothing .result) (c .nothing .ensures))
+
+narrow-requires : tie.Need-narrow-requires
+narrow-requires c κs =
+    let b = c .before .before .before .before .before .before .before .before .before .before .before .before .before .before .before .before .before in
+    (laid-rowed (b .args .sheet) _ _ (record { count = refl; fit = b .pre .sheet-fit; normal = b .pre .sheet-normal; atoms = c .before .before .before .before .before .before .before .before .before .before .before .before .before .before .before .lay .ensures }), laid-rowed (b .args .figure) _ _ (record { count = refl; fit = b .pre .figure-fit; normal = b .pre .figure-normal; atoms = c .before .before .before .before .before .before .before .before .before .before .before .before .before .lay2 .ensures }))
+
+search-requires : tie.Need-search-requires
+search-requires c κs =
+    let b = c .before .before .before .before .before .before .before .before .before .before .before .before .before .before .before .before .before .before .before .before .before .before in
+    let s = c .before .before .before .before .before .before .before .before .before .before .before .before .before .start in
+    let w = c .before .before .before .before .narrow in
+    let n = b .args .figure .«atom_count» in
+    let os : LaidOut (b .args .sheet) (c .before .before .before .before .before .before .before .before .before .before .before .before .before .before .before .before .before .before .before .before .lay .last .1 .0) (b .args .sheet .«atom_count») = record { count = refl; fit = b .pre .sheet-fit; normal = b .pre .sheet-normal; atoms = c .before .before .before .before .before .before .before .before .before .before .before .before .before .before .before .before .before .before .before .before .lay .ensures } in
+    let of : LaidOut (b .args .figure) (c .before .before .before .before .before .before .before .before .before .before .before .before .before .before .before .before .before .before .lay2 .last .1 .0) n = record { count = refl; fit = b .pre .figure-fit; normal = b .pre .figure-normal; atoms = c .before .before .before .before .before .before .before .before .before .before .before .before .before .before .before .before .before .before .lay2 .ensures } in (
+      b .pre,
+      omega arith,
+      no-atoms (b .args .sheet) n _ refl,
+      narrow-kept (b .args .sheet) (b .args .figure) _ _ _ _ os of _ (s .last .1 .1 .1 .1 .0) (s .last .1 .1 .1 .1 .1 .0) _ _ (w .result) (w .ensures .0) (w .ensures .1) (keeps-start (b .args .sheet) (b .args .figure) n _ (s .last .1 .1 .1 .1 .0) (s .last .1 .1 .1 .1 .1 .0) (s .ensures)),
+      os,
+      of,
+    )
+
+returns-2 : tie.Need-returns-2
+returns-2 c =
+    let b = c .before .before .before .before .before .before .before .before .before .before .before .before .before .before .before .before .before .before .before .before .before .before .before in
+    placed-smallest (b .args .sheet) (b .args .figure) (b .pre) (c .search .result) (search (needs, c .search .ok)) (search (needs, c .search .ok)) _ (c .search .ensures)
 
 pub smallest-placing-spec : {M : Type 1} → statement M
-smallest-placing-spec = tie.close (tie.spec start-requires narrow-requires search-requires returns)
+smallest-placing-spec =
+    tie.close
+    (tie.spec
+    lay-requires
+    lay-requires-2
+    start-requires
+    mark-lost-requires
+    nothing-requires
+    returns
+    narrow-requires
+    search-requires
+    returns-2)

@@ -4,6 +4,7 @@ use borrow.Author.Needs.{needs}
 use Prim.Native.Nat.{_≤_, _-_}
 use mathlib.Core.Path.{refl}
 use Rattle.placing.proofs.FirstLaws.{both-ways}
+use Rattle.narrowing.proofs.Passes.{mark-hopeless}
 use Rattle.narrowing.proofs.empty.mark_lost.Statement.{statement}
 use Rattle.narrowing.proofs.empty.mark_lost.Tie as tie
 
@@ -32,7 +33,11 @@ no-link-requires c κs = let f = c .before .before .before .pre .1 in
     ((r .0, omega (arith, r .1, f .class-count)), c .before .before .before .pre .0 .class-count)
 
 returns : tie.Need-returns Inv-loop μ-loop
-returns c = λ e. (c .before .before .before .before .loop .p, c .before .before .before .loop-test .taken, c .before .no-link .ensures (c .if1 .taken))
+returns c =
+    let l = c .before .before .before .before in
+    let s = l .before in
+    let f = s .pre in
+    λ e pre a h. mark-hopeless (s .args .sheet) (s .args .t2) (f .0) (f .1) (f .2) (f .3) pre a (s .args .links .now) h (l .loop .p) (c .before .before .before .loop-test .taken) (c .before .no-link .ensures (c .if1 .taken))
 
 add-p : tie.Need-add-p Inv-loop μ-loop
 add-p c = search needs

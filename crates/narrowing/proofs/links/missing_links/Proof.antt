@@ -1,18 +1,24 @@
 -- Invariant: what the first t sheet atoms give is not missing.
-use native.Mathlib.Omega.{arith}
 use borrow.Author.Needs.{needs}
-use Prim.Native.Nat.{_≤_, _-_}
+use native.Mathlib.Omega.{arith}
+use Prim.Native.Nat.{ℕ, _≤_, _-_, _<_}
 use mathlib.Core.Logic.{⊎-elim}
-use Rattle.narrowing.proofs.NetRows.{row-wider}
+use mathlib.Core.Path.{sym, subst}
+use Rattle.rows.specs.Limits.{sheetLinks}
+use Rattle.rows.specs.declared.Atom.{Atom}
+use Rattle.network.specs.NetIn.{Used}
+use Rattle.narrowing.specs.Laid.{laidAtom}
+use Rattle.narrowing.specs.Steps.{linkOf}
+use Rattle.narrowing.specs.Tables.{Cleared}
 use Rattle.narrowing.proofs.Missing.{GivenTo, given-more, given-other}
 use Rattle.narrowing.proofs.links.missing_links.Statement.{statement}
 use Rattle.narrowing.proofs.links.missing_links.Tie as tie
 
 abbrev Inv-loop : tie.InvT-loop
-Inv-loop i atoms sheet missing₀ t₀ missing t = (t ≤ sheet .«atom_count») × GivenTo sheet atoms i missing t
+Inv-loop sheet n i atoms missing₀ t₀ missing t = (t ≤ n) × GivenTo (laidAtom sheet) n atoms i missing t
 
 abbrev μ-loop : tie.MeasureT-loop
-μ-loop i atoms sheet missing₀ t₀ missing t = sheet .«atom_count» - t
+μ-loop sheet n i atoms missing₀ t₀ missing t = n - t
 
 loop-holds : tie.Need-loop-holds Inv-loop μ-loop
 loop-holds c = (search needs, λ k y u h b. absurd (omega arith))
@@ -26,16 +32,12 @@ add-if1 c = search needs
 element-copy-out-if1 : tie.Need-element-copy-out-if1 Inv-loop μ-loop
 element-copy-out-if1 c = search needs
 
-mul-there : tie.Need-mul-there Inv-loop μ-loop
-mul-there c = search needs
-
-element-copy-out-there : tie.Need-element-copy-out-there Inv-loop μ-loop
-element-copy-out-there c = search needs
+laid-atom-requires : tie.Need-laid-atom-requires Inv-loop μ-loop
+laid-atom-requires c κs = omega (arith, c .before .before .loop-test .taken, c .before .before .before .before .pre .0 .few)
 
 clear-links-requires : tie.Need-clear-links-requires Inv-loop μ-loop
 clear-links-requires c κs = let l = c .before .before .before .before .before in
-    let f = l .before .pre .0 in
-    row-wider (f .atoms (l .loop .t) (c .before .before .before .before .loop-test .taken)) (f .class-count)
+    subst (λ (a : Atom). Used sheetLinks (a .count) (a .links)) (sym (c .before .laid-atom .ensures)) (l .before .pre .0 .atoms (l .loop .t) (c .before .before .before .before .loop-test .taken))
 
 add-t : tie.Need-add-t Inv-loop μ-loop
 add-t c = search needs
@@ -46,9 +48,14 @@ loop-less c = search needs
 loop-again : tie.Need-loop-again Inv-loop μ-loop
 loop-again c = let l = c .before .before .before in
     let s = l .before .args in
+    let at = laidAtom (s .sheet .now) in
     ⊎-elim
-    (λ w. (search needs, rw (w .4) (given-more (s .t1) (s .atoms .now) (s .i) (l .loop .missing) (l .loop .t) (l .loop .inv .1) (w .3 .last .1 .0) (w .3 .ensures .0) (w .3 .ensures .1))))
-    (λ w. (search needs, rw (w .1) (given-other (s .t1) (s .atoms .now) (s .i) (l .loop .missing) (l .loop .t) (l .loop .inv .1) (w .0 .left))))
+    (λ w. (
+      search needs,
+      rw (w .4) (given-more at (s .n) (s .atoms .now) (s .i) (l .loop .missing) (l .loop .t) (l .loop .inv .1) (w .3 .last .1 .0) (w .3 .ensures .0)
+          (subst (λ (a : Atom). (k : ℕ) → k < a .count → Cleared sheetLinks (w .3 .last .1 .0) k (linkOf a k - 1)) (w .1 .ensures) (w .3 .ensures .1))),
+    ))
+    (λ w. (search needs, rw (w .1) (given-other at (s .n) (s .atoms .now) (s .i) (l .loop .missing) (l .loop .t) (l .loop .inv .1) (w .0 .left))))
     (c .if1 .came)
 
 returns : tie.Need-returns Inv-loop μ-loop
@@ -64,8 +71,7 @@ missing-links-spec =
     mul-if1
     add-if1
     element-copy-out-if1
-    mul-there
-    element-copy-out-there
+    laid-atom-requires
     clear-links-requires
     add-t
     loop-less

@@ -1,24 +1,25 @@
 -- Invariant: what is missing at no place stays marked.
+use borrow.Author.Needs.{needs}
 use Prim.Native.Nat.{ℕ, _≤_, _+_, _-_, _<_}
 use Rattle.narrowing.proofs.Staying.{stays-then, stays-more}
+use Rattle.narrowing.specs.Laid.{laidAtom}
 use Rattle.narrowing.specs.Steps.{linkOf, GivenRow}
 use Rattle.narrowing.specs.Tables.{Cleared, Stays}
 use Rattle.placing.specs.Net.{Range}
 use Rattle.rows.specs.Limits.{sheetLinks}
-use borrow.Author.Needs.{needs}
 use mathlib.Core.Path.{_≡_}
 use native.Mathlib.Omega.{arith}
 use Rattle.narrowing.proofs.links.narrow_places.Statement.{statement}
 use Rattle.narrowing.proofs.links.narrow_places.Tie as tie
 
 abbrev Inv-loop : tie.InvT-loop
-Inv-loop i pass atoms links₀ changes₀ here count missing k₀ links changes k = (k ≤ count) × Stays sheetLinks links₀ links (λ z y. (h : ℕ) → h < count → linkOf here h ≡ z + 1 → Cleared sheetLinks missing h y)
+Inv-loop sheet n i pass atoms links₀ changes₀ here count missing k₀ links changes k = (k ≤ count) × Stays sheetLinks links₀ links (λ z y. (h : ℕ) → h < count → linkOf here h ≡ z + 1 → Cleared sheetLinks missing h y)
 
 abbrev μ-loop : tie.MeasureT-loop
-μ-loop i pass atoms links₀ changes₀ here count missing k₀ links changes k = count - k
+μ-loop sheet n i pass atoms links₀ changes₀ here count missing k₀ links changes k = count - k
 
 -- the link at place k
-here-link : (c : tie.In-loop Inv-loop μ-loop) → Range sheetLinks (linkOf (c .before .before .before .args .t2) (c .before .loop .k))
+here-link : (c : tie.In-loop Inv-loop μ-loop) → Range sheetLinks (linkOf (c .before .before .before .args .t3) (c .before .loop .k))
 here-link c = c .before .before .before .pre .1 .numbered (c .before .loop .k) (c .loop-test .taken)
 
 cast-count : tie.Need-cast-count Inv-loop μ-loop
@@ -61,7 +62,7 @@ loop-less c = search needs
 loop-again : tie.Need-loop-again Inv-loop μ-loop
 loop-again c = let l = c .before .before .before .before .before .before in
     let s = l .before .before .args in
-    let here = s .t2 in
+    let here = s .t3 in
     let h = c .before .before .before .before .before .loop-test .taken in
     let r = here-link (c .before .before .before .before .before) in
     let gone = l .before .missing-links .result in
@@ -74,8 +75,8 @@ loop-again c = let l = c .before .before .before .before .before .before in
 returns : tie.Need-returns Inv-loop μ-loop
 returns c = let l = c .before in
     let s = l .before .before .args in
-    let here = s .t2 in
-    stays-more sheetLinks (s .links .now) (l .loop .links) (λ z y. (h : ℕ) → h < here .count → linkOf here h ≡ z + 1 → Cleared sheetLinks (l .before .missing-links .result) h y) (l .loop .inv .1) (GivenRow (s .sheet) here (s .atoms .now) (s .i))
+    let here = s .t3 in
+    stays-more sheetLinks (s .links .now) (l .loop .links) (λ z y. (h : ℕ) → h < here .count → linkOf here h ≡ z + 1 → Cleared sheetLinks (l .before .missing-links .result) h y) (l .loop .inv .1) (GivenRow (laidAtom (s .sheet .now)) (s .n) here (s .atoms .now) (s .i))
     (λ z y b g h k e. l .before .missing-links .ensures h y (g h k e))
 
 pub narrow-places-spec : {M : Type 1} → statement M

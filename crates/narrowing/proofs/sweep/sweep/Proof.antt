@@ -1,45 +1,51 @@
 -- Invariant: a good placing in the first sets is in those left.
-use Prim.Native.Nat.{_≤_, _-_}
-use Rattle.narrowing.proofs.NetRows.{row-wider}
-use Rattle.narrowing.proofs.Passes.{visit-narrowed}
-use Rattle.narrowing.specs.Steps.{Narrowed}
 use borrow.Author.Needs.{needs}
+use Prim.Native.Nat.{_≤_, _-_}
+use Rattle.narrowing.proofs.Laying.{visit-narrows}
+use Rattle.narrowing.specs.Steps.{NarrowedBy}
+use Rattle.network.specs.NetIn.{Used}
+use Rattle.placing.proofs.FirstLaws.{both-ways}
+use Rattle.rows.specs.Limits.{sheetLinks}
+use Rattle.rows.specs.declared.Atom.{Atom}
 use mathlib.Core.Logic.{⊎-elim}
+use mathlib.Core.Path.{refl, sym, subst}
 use native.Mathlib.Omega.{arith}
 use Rattle.narrowing.proofs.sweep.sweep.Statement.{statement}
 use Rattle.narrowing.proofs.sweep.sweep.Tie as tie
 
 abbrev Inv-loop : tie.InvT-loop
-Inv-loop sheet before pass atoms₀ links₀ changes₀ figure forced i₀ atoms links changes i = (i ≤ figure .«atom_count») × Narrowed sheet figure atoms₀ links₀ atoms links
+Inv-loop sheet n figure m due before pass atoms₀ links₀ changes₀ i₀ atoms links changes i = (i ≤ m) × NarrowedBy sheet n figure m atoms₀ links₀ atoms links
 
 abbrev μ-loop : tie.MeasureT-loop
-μ-loop sheet before pass atoms₀ links₀ changes₀ figure forced i₀ atoms links changes i = figure .«atom_count» - i
+μ-loop sheet n figure m due before pass atoms₀ links₀ changes₀ i₀ atoms links changes i = m - i
 
 loop-holds : tie.Need-loop-holds Inv-loop μ-loop
-loop-holds c = (search needs, λ p g o. o)
+loop-holds c = (search needs, λ S F os of p g o. o)
 
-mul-here : tie.Need-mul-here Inv-loop μ-loop
-mul-here c = search needs
+laid-atom-requires : tie.Need-laid-atom-requires Inv-loop μ-loop
+laid-atom-requires c κs = omega (arith, c .loop-test .taken, c .before .before .pre .1 .few)
 
-element-copy-out-here : tie.Need-element-copy-out-here Inv-loop μ-loop
-element-copy-out-here c = search needs
+element-copy-out-first : tie.Need-element-copy-out-first Inv-loop μ-loop
+element-copy-out-first c = search needs
 
 touched-requires : tie.Need-touched-requires Inv-loop μ-loop
-touched-requires c κs = let l = c .before .before .before in
-    let f = l .before .pre .1 in
-    row-wider (f .atoms (l .loop .i) (c .before .before .loop-test .taken)) (f .class-count)
+touched-requires c κs = let l = c .before .before .before .before in
+    subst (λ (a : Atom). Used sheetLinks (a .count) (a .links)) (sym (c .before .before .laid-atom .ensures)) (l .before .pre .1 .atoms (l .loop .i) (c .before .before .before .loop-test .taken))
 
 visit-requires : tie.Need-visit-requires Inv-loop μ-loop
-visit-requires c κs = let l = c .before .before .before .before .before .before .before .before in
+visit-requires c κs = let l = c .before .before .before .before .before .before .before .before .before in
     let p = l .before .pre in
-    let h = c .before .before .before .before .before .before .before .loop-test .taken in
-    (p .0, row-wider (p .1 .atoms (l .loop .i) h) (p .1 .class-count), omega (arith, h, p .1 .atom-count))
+    let h = c .before .before .before .before .before .before .before .before .loop-test .taken in
+    (p .0, subst (λ (a : Atom). Used sheetLinks (a .count) (a .links)) (sym (c .before .before .before .before .before .before .before .laid-atom .ensures)) (p .1 .atoms (l .loop .i) h), omega (arith, h, p .1 .few))
 
 returns : tie.Need-returns Inv-loop μ-loop
-returns c = let l = c .before .before .before .before .before .before .before .before .before .before in
-    let s = l .before in
-    let f = s .pre in
-    visit-narrowed (s .args .sheet) (s .args .t2) (f .0) (f .1) (f .2) (f .3) (s .args .atoms .now) (s .args .links .now) (l .loop .atoms) (l .loop .links) _ _ (l .loop .i) (c .before .before .before .before .before .before .before .before .before .loop-test .taken) (l .loop .inv .1) (c .before .visit .ensures)
+returns c = let l = c .before .before .before .before .before .before .before .before .before .before .before in
+    let s = l .before .args in
+    let h = c .before .before .before .before .before .before .before .before .before .before .loop-test .taken in
+    let v = c .before .visit .ensures in (
+      visit-narrows (s .sheet .now) (s .n) (s .figure .now) (s .m) (s .atoms .now) (s .links .now) (l .loop .atoms) (l .loop .links) _ _ (l .loop .i) _ h (c .before .before .before .before .before .before .before .before .before .laid-atom .ensures) (l .loop .inv .1) (v .0),
+      (λ e. (l .loop .i, h, v .1 (c .if2 .taken))),
+    )
 
 add-i : tie.Need-add-i Inv-loop μ-loop
 add-i c = search needs
@@ -48,16 +54,16 @@ loop-less : tie.Need-loop-less Inv-loop μ-loop
 loop-less c = search needs
 
 loop-again : tie.Need-loop-again Inv-loop μ-loop
-loop-again c = let l = c .before .before .before .before .before in
-    let s = l .before in
-    let f = s .pre in
+loop-again c = let l = c .before .before .before .before .before .before in
+    let s = l .before .args in
+    let h = c .before .before .before .before .before .loop-test .taken in
     ⊎-elim
-    (λ w. (search needs, rw (w .6) (rw (w .7) (visit-narrowed (s .args .sheet) (s .args .t2) (f .0) (f .1) (f .2) (f .3) (s .args .atoms .now) (s .args .links .now) (l .loop .atoms) (l .loop .links) _ _ (l .loop .i) (c .before .before .before .before .loop-test .taken) (l .loop .inv .1) (w .4 .ensures)))))
+    (λ w. (search needs, rw (w .6) (rw (w .7) (visit-narrows (s .sheet .now) (s .n) (s .figure .now) (s .m) (s .atoms .now) (s .links .now) (l .loop .atoms) (l .loop .links) _ _ (l .loop .i) _ h (c .before .before .before .before .laid-atom .ensures) (l .loop .inv .1) (w .4 .ensures .0)))))
     (λ w. (search needs, rw (w .1) (rw (w .2) (l .loop .inv .1))))
     (c .if1 .came)
 
 returns-2 : tie.Need-returns-2 Inv-loop μ-loop
-returns-2 c = c .before .loop .inv .1
+returns-2 c = (c .before .loop .inv .1, λ e. both-ways e refl)
 
 pub sweep-spec : {M : Type 1} → statement M
 sweep-spec =
@@ -66,8 +72,8 @@ sweep-spec =
     Inv-loop
     μ-loop
     loop-holds
-    mul-here
-    element-copy-out-here
+    laid-atom-requires
+    element-copy-out-first
     touched-requires
     visit-requires
     returns

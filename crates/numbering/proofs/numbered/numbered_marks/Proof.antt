@@ -1,53 +1,51 @@
--- Invariant: the numbers of the first i marks are written.
+-- Invariant: with the classes of the marks that are left, all are numbered, and the first i marks have their numbers.
 use borrow.Author.Needs.{needs}
-use Prim.Native.Nat.{_≤_, _+_, _-_}
-use mathlib.Core.Path.{_≡_, refl}
-use mathlib.Core.List.{map}
+use Prim.Native.Nat.{_≤_, _<_, _+_, _-_}
+use mathlib.Core.Path.{_≡_, refl, sym, _∙_}
+use mathlib.Core.List.{[], map}
 use native.Mathlib.Omega.{arith}
-use lib.ListN.{length, take, getD, length-set}
+use lib.ListN.{length, take, drop, getD, length-set}
 use Rattle.rows.specs.Limits.{sheetMarks}
 use Rattle.rows.specs.Held.{indexOf}
 use Rattle.rows.specs.Packed.{padded}
-use Rattle.rows.proofs.Padding.{stored-next}
-use Rattle.numbering.specs.Numbering.{linkRoom, markLabelAt}
+use Rattle.numbering.specs.Numbering.{numbering, markLabelIn, withClasses, marksBy}
+use Rattle.numbering.proofs.Turns.{classes-end}
+use Rattle.numbering.proofs.Kept.{pass-count, pass-left, pass-stored}
 use Rattle.numbering.proofs.numbered.numbered_marks.Statement.{statement}
 use Rattle.numbering.proofs.numbered.numbered_marks.Tie as tie
 
 abbrev Inv-loop : tie.InvT-loop
-Inv-loop numbers sheet marks marked₀ i₀ marked i = (i ≤ sheet .«mark_count») × (length marks ≡ sheetMarks + 1) × (length numbers ≡ linkRoom) × (length marked ≡ sheetMarks + 1) × (marked ≡ padded (sheetMarks + 1) 0 (map (λ x. getD numbers (markLabelAt sheet x) 0) (take i marks)))
+Inv-loop numbers₀ count₀ marks marked classes n ascending numbered₀ i₀ numbers count numbered i = (i ≤ n) × (length numbered ≡ sheetMarks + 1) × (count ≤ count₀ + i)
+    × (withClasses (numbering numbers count) (map (markLabelIn marks marked classes n) (drop i (take n ascending))) ≡ withClasses (numbering numbers₀ count₀) (map (markLabelIn marks marked classes n) (take n ascending)))
+    × (numbered ≡ marksBy (withClasses (withClasses (numbering numbers₀ count₀) (map (markLabelIn marks marked classes n) (take n ascending))) [] .numbers) (markLabelIn marks marked classes n) (take i ascending))
 
 abbrev μ-loop : tie.MeasureT-loop
-μ-loop numbers sheet marks marked₀ i₀ marked i = sheet .«mark_count» - i
+μ-loop numbers₀ count₀ marks marked classes n ascending numbered₀ i₀ numbers count numbered i = n - i
 
 loop-holds : tie.Need-loop-holds Inv-loop μ-loop
 unfolding padded
-loop-holds c = (search needs, search needs, search needs, search needs, refl)
+loop-holds c = (search needs, search needs, search needs, refl, refl)
 
 mul-mark-label : tie.Need-mul-mark-label Inv-loop μ-loop
 mul-mark-label c = search needs
 
-array-read-mark-label : tie.Need-array-read-mark-label Inv-loop μ-loop
-array-read-mark-label c = search needs
+shared-slice-read-mark-label : tie.Need-shared-slice-read-mark-label Inv-loop μ-loop
+shared-slice-read-mark-label c = search needs
 
 mark-label-requires : tie.Need-mark-label-requires Inv-loop μ-loop
-mark-label-requires c κs = let s = c .before .before .before .before .before .before .before .before .before in
-    (search needs, search needs, search needs, s .pre .room .places, s .pre .labels)
+mark-label-requires c κs = search needs
 
-mul-marked : tie.Need-mul-marked Inv-loop μ-loop
-mul-marked c = let l = c .before .before .before .before .before .before .before .before .before in
-    let a = l .before .args in
-    omega (arith, c .mark-label .ensures, l .before .pre .labels (getD (a .t2 .marked) (indexOf (getD (a .t3) (l .loop .i) 0) (take (a .t2 .«mark_count») (a .t2 .marks))) 0))
+number-class-requires : tie.Need-number-class-requires Inv-loop μ-loop
+number-class-requires c κs = let l = c .before .before .before .before .before in
+    let s = l .before .before .before .before .before in
+    let a = s .args in
+    (omega (arith, c .before .before .mark-label .ensures, s .pre .0 .4 (getD (a .marked .now) (indexOf (getD (a .ascending .now) (l .loop .i) 0) (take (a .n) (a .marks .now))) 0)), omega (arith, l .loop .inv .2, s .pre .3))
 
-array-read-marked : tie.Need-array-read-marked Inv-loop μ-loop
-array-read-marked c = let l = c .before .before .before .before .before .before .before .before .before in
-    let a = l .before .args in
-    omega (arith, c .mark-label .ensures, l .before .pre .labels (getD (a .t2 .marked) (indexOf (getD (a .t3) (l .loop .i) 0) (take (a .t2 .«mark_count») (a .t2 .marks))) 0))
+mul-numbered : tie.Need-mul-numbered Inv-loop μ-loop
+mul-numbered c = search needs
 
-mul-marked-2 : tie.Need-mul-marked-2 Inv-loop μ-loop
-mul-marked-2 c = search needs
-
-array-write-marked : tie.Need-array-write-marked Inv-loop μ-loop
-array-write-marked c = search needs
+array-write-numbered : tie.Need-array-write-numbered Inv-loop μ-loop
+array-write-numbered c = search needs
 
 add-i : tie.Need-add-i Inv-loop μ-loop
 add-i c = search needs
@@ -56,19 +54,35 @@ loop-less : tie.Need-loop-less Inv-loop μ-loop
 loop-less c = search needs
 
 loop-again : tie.Need-loop-again Inv-loop μ-loop
-loop-again c = let l = c .before .before .before .before .before .before .before .before .before in
-    let a = l .before .args in (
+loop-again c = let l = c .before .before .before .before .before .before in
+    let s = l .before .before .before .before .before in
+    let a = s .args in
+    let f = markLabelIn (a .marks .now) (a .marked .now) (a .classes .now) (a .n) in
+    let v = l .loop in
+    let p = c .number-class in
+    let n = numbering (v .numbers) (v .count) in
+    let n′ = numbering (p .last .0) (p .last .1 .0) in
+    let all = withClasses (numbering (a .numbers .now) (a .count .now)) (map f (take (a .n) (a .ascending .now))) in
+    let g = c .before .before .before .mark-label in
+    let h : v .i < a .n = omega arith in (
       search needs,
-      l .loop .inv .1,
-      l .loop .inv .2,
-      simp length-set (l .loop .inv .3),
-      rw (c .mark-label .ensures) (stored-next (sheetMarks + 1) (λ x. getD (a .t1) (markLabelAt (a .t2) x) 0) (a .t3) (l .loop .marked) (l .loop .i) (l .loop .inv .4) (omega (arith, l .loop .inv .1, l .before .pre .room .marks)) (omega (arith, l .before .pre .room .marks))),
+      simp length-set (v .inv .1),
+      omega (arith, v .inv .2, pass-count f (a .ascending .now) (a .n) (v .i) (s .pre .2) h n n′ all (g .result) (p .result) (g .ensures) (p .ensures .0) (v .inv .3)),
+      pass-left f (a .ascending .now) (a .n) (v .i) (s .pre .2) h n n′ all (g .result) (p .result) (g .ensures) (p .ensures .0) (v .inv .3),
+      pass-stored f (a .ascending .now) (a .n) (v .i) (s .pre .2) h n n′ all (g .result) (p .result) (g .ensures) (p .ensures .0) (v .inv .3) (sheetMarks + 1) [] (v .numbered) (p .ensures .1) (omega (arith, s .pre .1)) (v .inv .4),
     )
 
 returns : tie.Need-returns Inv-loop μ-loop
+unfolding withClasses
 returns c = let l = c .before in
-    let e : l .loop .i ≡ l .before .args .t2 .«mark_count» = omega arith in
-    rw e at (l .loop .inv .4)
+    let a = l .before .before .before .before .before .args in
+    let v = l .loop in
+    let f = markLabelIn (a .marks .now) (a .marked .now) (a .classes .now) (a .n) in
+    let e : v .i ≡ a .n = omega arith in
+    let d : numbering (v .numbers) (v .count) ≡ withClasses (numbering (a .numbers .now) (a .count .now)) (map f (take (a .n) (a .ascending .now)))
+    = sym (classes-end f (a .ascending .now) (a .n) (v .i) (numbering (v .numbers) (v .count)) (omega arith)) ∙ v .inv .3 in
+    let t : v .numbered ≡ marksBy (withClasses (numbering (v .numbers) (v .count)) [] .numbers) f (take (a .n) (a .ascending .now)) = rw d (rw e at (v .inv .4)) in
+    (d, t)
 
 pub numbered-marks-spec : {M : Type 1} → statement M
 numbered-marks-spec =
@@ -78,12 +92,11 @@ numbered-marks-spec =
     μ-loop
     loop-holds
     mul-mark-label
-    array-read-mark-label
+    shared-slice-read-mark-label
     mark-label-requires
-    mul-marked
-    array-read-marked
-    mul-marked-2
-    array-write-marked
+    number-class-requires
+    mul-numbered
+    array-write-numbered
     add-i
     loop-less
     loop-again

@@ -77,8 +77,12 @@ shared-slice-read-letter-of c = search needs
 letter-of-requires : tie.Need-letter-of-requires Inv-loop μ-loop Inv-row μ-row
 letter-of-requires c κs = search needs
 
+none-requires : tie.Need-none-requires Inv-loop μ-loop Inv-row μ-row
+none-requires c κs = search needs
+
 returns : tie.Need-returns Inv-loop μ-loop Inv-row μ-row
-returns c = sym (row-strange _ (c .before .letter-of .result) (c .before .letter-of .ensures) (c .if1 .taken))
+returns c = let t = c .before in
+    c .none .ensures ∙ sym (row-strange _ (t .before .letter-of .result) (t .before .letter-of .ensures) (t .if1 .taken))
 
 rules-of-requires : tie.Need-rules-of-requires Inv-loop μ-loop Inv-row μ-row
 rules-of-requires c κs = let k = c .before .letter-of .ensures in
@@ -196,6 +200,7 @@ read-row-spec =
     μ-row
     shared-slice-read-letter-of
     letter-of-requires
+    none-requires
     returns
     rules-of-requires
     row-holds

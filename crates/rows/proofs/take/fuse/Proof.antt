@@ -27,7 +27,7 @@ returns : tie.Need-returns
 returns c = let a = c .before .before .before .before .before .before .before .before .args in
     let i = c .before .before .before .before .before .index-of in
     let j = c .before .before .before .before .index-of2 in
-    λ w wired k. fused-links w wired (a .a) (a .b) (a .links .now) (a .classes .now) (a .n) k (i .result) (j .result) (c .before .before .merge .last .0) (i .ensures) (j .ensures) (c .before .before .merge .ensures)
+    λ w wired k. fused-links w wired (a .links .now) (a .classes .now) (a .n) k (a .a) (a .b) (i .result) (j .result) (c .before .before .merge .last .0) (i .ensures) (j .ensures) (c .before .before .merge .ensures)
 
 pub fuse-spec : {M : Type 1} → statement M
 fuse-spec =

@@ -16,8 +16,11 @@ Inv-loop s n x i₀ i = (i ≤ n) × (indexOf x (take n s) ≡ i + indexOf x (dr
 abbrev μ-loop : tie.MeasureT-loop
 μ-loop s n x i₀ i = n - i
 
+skipped-requires : tie.Need-skipped-requires Inv-loop μ-loop
+skipped-requires c κs = search needs
+
 loop-holds : tie.Need-loop-holds Inv-loop μ-loop
-loop-holds c = search needs
+loop-holds c = c .skipped .ensures
 
 mul-if1 : tie.Need-mul-if1 Inv-loop μ-loop
 mul-if1 c = search needs
@@ -27,10 +30,10 @@ shared-slice-read-if1 c = search needs
 
 returns : tie.Need-returns Inv-loop μ-loop
 returns c = let l = c .before .before .before in
-    let s = l .before .args .s .now in
-    let n = l .before .args .n in
-    let len : length (take n s) ≡ n = length-take-le n s (l .before .pre) in
-    omega (arith, l .loop .inv .1, index-hit (take n s) (l .before .args .x) (l .loop .i) (omega arith) (getD-take n s (l .loop .i) 0 (search needs) ∙ c .if1 .taken))
+    let s = l .before .before .before .args .s .now in
+    let n = l .before .before .before .args .n in
+    let len : length (take n s) ≡ n = length-take-le n s (l .before .before .before .pre) in
+    omega (arith, l .loop .inv .1, index-hit (take n s) (l .before .before .before .args .x) (l .loop .i) (omega arith) (getD-take n s (l .loop .i) 0 (search needs) ∙ c .if1 .taken))
 
 add-i : tie.Need-add-i Inv-loop μ-loop
 add-i c = search needs
@@ -40,17 +43,17 @@ loop-less c = search needs
 
 loop-again : tie.Need-loop-again Inv-loop μ-loop
 loop-again c = let l = c .before .before .before in
-    let s = l .before .args .s .now in
-    let n = l .before .args .n in
-    let len : length (take n s) ≡ n = length-take-le n s (l .before .pre) in
-    (search needs, omega (arith, l .loop .inv .1, index-miss (take n s) (l .before .args .x) (l .loop .i) (omega arith) (λ e. c .if1 .left (sym (getD-take n s (l .loop .i) 0 (search needs)) ∙ e))))
+    let s = l .before .before .before .args .s .now in
+    let n = l .before .before .before .args .n in
+    let len : length (take n s) ≡ n = length-take-le n s (l .before .before .before .pre) in
+    (search needs, omega (arith, l .loop .inv .1, index-miss (take n s) (l .before .before .before .args .x) (l .loop .i) (omega arith) (λ e. c .if1 .left (sym (getD-take n s (l .loop .i) 0 (search needs)) ∙ e))))
 
 returns-2 : tie.Need-returns-2 Inv-loop μ-loop
 returns-2 c = let l = c .before in
-    let s = l .before .args .s .now in
-    let n = l .before .args .n in
-    let len : length (take n s) ≡ n = length-take-le n s (l .before .pre) in
-    omega (arith, l .loop .inv .1, index-end (take n s) (l .before .args .x) (l .loop .i) (omega arith))
+    let s = l .before .before .before .args .s .now in
+    let n = l .before .before .before .args .n in
+    let len : length (take n s) ≡ n = length-take-le n s (l .before .before .before .pre) in
+    omega (arith, l .loop .inv .1, index-end (take n s) (l .before .before .before .args .x) (l .loop .i) (omega arith))
 
 pub index-of-spec : {M : Type 1} → statement M
 index-of-spec =
@@ -58,6 +61,7 @@ index-of-spec =
     (tie.spec
     Inv-loop
     μ-loop
+    skipped-requires
     loop-holds
     mul-if1
     shared-slice-read-if1

@@ -1,10 +1,11 @@
 -- Invariant: the first i labels are mapped, and the others are as they were.
 use borrow.Author.Needs.{needs}
-use Prim.Native.Nat.{_≤_, _<_, _+_, _-_}
-use mathlib.Core.Path.{_≡_, _∙_}
+use Prim.Native.Nat.{_≤_, _<_, _-_}
+use mathlib.Core.Path.{_≡_, _∙_, ap}
 use mathlib.Core.Logic.{⊎-elim}
 use native.Mathlib.Omega.{arith}
-use lib.ListN.{length, length-set}
+use lib.ListN.{length, length-set, set}
+use lib.Seq.{set-getD}
 use Rattle.rows.specs.Held.{relabelled}
 use Rattle.rows.proofs.Lists.{mapped, relabel-hit, relabel-miss}
 use Rattle.rows.proofs.take.relabel.Statement.{statement}
@@ -19,11 +20,11 @@ abbrev μ-loop : tie.MeasureT-loop
 loop-holds : tie.Need-loop-holds Inv-loop μ-loop
 loop-holds c = search needs
 
-mul-if1 : tie.Need-mul-if1 Inv-loop μ-loop
-mul-if1 c = search needs
+mul-label : tie.Need-mul-label Inv-loop μ-loop
+mul-label c = search needs
 
-slice-read-if1 : tie.Need-slice-read-if1 Inv-loop μ-loop
-slice-read-if1 c = search needs
+slice-read-label : tie.Need-slice-read-label Inv-loop μ-loop
+slice-read-label c = search needs
 
 mul-classes : tie.Need-mul-classes Inv-loop μ-loop
 mul-classes c = search needs
@@ -40,19 +41,14 @@ loop-less c = search needs
 loop-again : tie.Need-loop-again Inv-loop μ-loop
 loop-again c = let l = c .before .before .before in
     let a = l .before .args in
-    let h : l .loop .i < length (a .classes .now) = omega (arith, l .before .pre, c .before .before .loop-test .taken) in
-    ⊎-elim
-    (λ w. (
-      omega (arith, c .before .before .loop-test .taken),
-      rw (w .1) (simp length-set (l .loop .inv .1)),
-      w .1 ∙ relabel-hit (a .from) (a .to) (a .classes .now) (l .loop .classes) (l .loop .i) h (l .loop .inv .2) (w .0 .taken),
-    ))
-    (λ w. (
-      omega (arith, c .before .before .loop-test .taken),
-      rw (w .1) (l .loop .inv .1),
-      w .1 ∙ relabel-miss (a .from) (a .to) (a .classes .now) (l .loop .classes) (l .loop .i) h (l .loop .inv .2) (w .0 .left),
-    ))
-    (c .if1 .came)
+    let h : l .loop .i < length (a .classes .now) = omega (arith, l .before .pre, c .before .before .loop-test .taken) in (
+      search needs,
+      simp length-set (l .loop .inv .1),
+      ⊎-elim
+          (λ w. ap (set (l .loop .classes) (l .loop .i)) (w .1) ∙ relabel-hit (a .from) (a .to) (a .classes .now) (l .loop .classes) (l .loop .i) h (l .loop .inv .2) (w .0 .taken))
+          (λ w. ap (set (l .loop .classes) (l .loop .i)) (w .1) ∙ set-getD (l .loop .classes) (l .loop .i) 0 ∙ relabel-miss (a .from) (a .to) (a .classes .now) (l .loop .classes) (l .loop .i) h (l .loop .inv .2) (w .0 .left))
+          (c .if1 .came),
+    )
 
 same-length : tie.Need-same-length Inv-loop μ-loop
 same-length c = search needs
@@ -69,8 +65,8 @@ relabel-spec =
     Inv-loop
     μ-loop
     loop-holds
-    mul-if1
-    slice-read-if1
+    mul-label
+    slice-read-label
     mul-classes
     slice-write-classes
     add-i

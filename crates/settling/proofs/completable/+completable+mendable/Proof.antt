@@ -44,16 +44,16 @@ abbrev mendable-below : ℕ → In 1 mendable-kinds.ps
 mendable-below t = and 1 mendable-kinds.ps (falls 1 mendable-kinds.ps _<_ μ-mendable t) mendable.Pre
 
 abbrev completable-Inv-loop : completable-lts.InvT-loop
-completable-Inv-loop sheet figure touches taken kinds to flags y links x₀ x = (x ≤ figure .«class_count») × TriedTo sheet figure taken to flags links x
+completable-Inv-loop sheet figure chains taken kinds to flags y links x₀ x = (x ≤ figure .«class_count») × TriedTo sheet figure taken to flags links x
 
 abbrev completable-μ-loop : completable-lts.MeasureT-loop
-completable-μ-loop sheet figure touches taken kinds to flags y links x₀ x = figure .«class_count» - x
+completable-μ-loop sheet figure chains taken kinds to flags y links x₀ x = figure .«class_count» - x
 
 abbrev mendable-Inv-loop : mendable-lts.InvT-loop
-mendable-Inv-loop sheet figure touches taken kinds to x links rest y₀ y = (y ≤ sheet .«class_count») × TriedAt sheet figure taken to x links rest y
+mendable-Inv-loop sheet figure chains taken kinds to x links rest y₀ y = (y ≤ sheet .«class_count») × TriedAt sheet figure taken to x links rest y
 
 abbrev mendable-μ-loop : mendable-lts.MeasureT-loop
-mendable-μ-loop sheet figure touches taken kinds to x links rest y₀ y = sheet .«class_count» - y
+mendable-μ-loop sheet figure chains taken kinds to x links rest y₀ y = sheet .«class_count» - y
 
 abbrev completable-claims : ℕ → completable-lts.Claims
 completable-claims t = (obstacle-reads.Asked, obstacle-reads.Learnt, first-of-kind-reads.Asked, first-of-kind-reads.Learnt, mendable-below t, mendable.Post)
@@ -63,7 +63,7 @@ mendable-claims t = (completable-below t, completable.Post)
 
 module _ (t : ℕ) where
   completable-obstacle-requires : completable-lts.Need-obstacle-requires (completable-claims t) (completable-at t) completable.Post completable-Inv-loop completable-μ-loop
-  completable-obstacle-requires c κs = (c .pre .1 .0 .ready, c .pre .1 .0 .touches-in, c .pre .1 .0 .links-in, c .pre .1 .1)
+  completable-obstacle-requires c κs = (c .pre .1 .0 .ready, c .pre .1 .0 .chains-in, c .pre .1 .0 .links-in, c .pre .1 .1)
 
   completable-returns : completable-lts.Need-returns (completable-claims t) (completable-at t) completable.Post completable-Inv-loop completable-μ-loop
   completable-returns c = let b = c .before .before .before in
@@ -129,7 +129,7 @@ module _ (t : ℕ) where
   mendable-completable-requires c κs = let b = c .before .before .before .before in
       let room : length (b .args .flags) ≡ sheetLinks = search (needs, b .good .1 .1 .1 .1 .1 .1 .0) in (
         omega (arith, b .pre .0, flagged-fewer (b .args .figure .«class_count») (b .args .flags) (b .args .x) (b .pre .1 .1) (omega (arith, room, b .pre .1 .0 .ready .figure-fit .class-count)) (b .pre .1 .2)),
-        (tables-put (b .args .sheet) (b .args .figure) (now (b .args .touches)) (b .args .kinds) (b .args .to) (b .pre .1 .0) (b .args .x) (c .before .before .before .loop .y) (b .pre .1 .1) (c .before .if1 .taken), omega (arith, c .before .if1 .taken)),
+        (tables-put (b .args .sheet) (b .args .figure) (now (b .args .chains)) (b .args .kinds) (b .args .to) (b .pre .1 .0) (b .args .x) (c .before .before .before .loop .y) (b .pre .1 .1) (c .before .if1 .taken), omega (arith, c .before .if1 .taken)),
       )
 
   mendable-returns : mendable-lts.Need-returns (mendable-claims t) (mendable-at t) mendable.Post mendable-Inv-loop mendable-μ-loop

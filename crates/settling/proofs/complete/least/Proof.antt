@@ -6,8 +6,8 @@ use borrow.Author.Needs.{needs}
 use Rattle.settling.proofs.complete.least.Statement.{statement}
 use Rattle.settling.proofs.complete.least.Tie as tie
 
-touches-requires : tie.Need-touches-requires
-touches-requires c κs = search needs
+chains-requires : tie.Need-chains-requires
+chains-requires c κs = search needs
 
 kinds-requires : tie.Need-kinds-requires
 kinds-requires c κs = search needs
@@ -37,7 +37,7 @@ pub least-spec : {M : Type 1} → statement M
 least-spec =
     tie.close
     (tie.spec
-    touches-requires
+    chains-requires
     kinds-requires
     completable-requires
     nothing-requires

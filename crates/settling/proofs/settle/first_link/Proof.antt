@@ -9,10 +9,10 @@ use Rattle.settling.proofs.settle.first_link.Statement.{statement}
 use Rattle.settling.proofs.settle.first_link.Tie as tie
 
 abbrev Inv-loop : tie.InvT-loop
-Inv-loop sheet figure touches taken kinds to x rest y₀ y = (y ≤ sheet .«class_count») × TriedAll sheet figure taken to x rest y
+Inv-loop sheet figure chains taken kinds to x rest y₀ y = (y ≤ sheet .«class_count») × TriedAll sheet figure taken to x rest y
 
 abbrev μ-loop : tie.MeasureT-loop
-μ-loop sheet figure touches taken kinds to x rest y₀ y = sheet .«class_count» - y
+μ-loop sheet figure chains taken kinds to x rest y₀ y = sheet .«class_count» - y
 
 array-write-rest : tie.Need-array-write-rest Inv-loop μ-loop
 array-write-rest c = omega (arith, c .pre .1, c .pre .0 .ready .figure-fit .class-count)
@@ -34,7 +34,7 @@ array-write-next c = omega (arith, c .before .before .before .pre .1, c .before 
 
 completable-requires : tie.Need-completable-requires Inv-loop μ-loop
 completable-requires c κs = let b = c .before .before .before in
-    (tables-put (b .args .sheet) (b .args .figure) (now (b .args .touches)) (b .args .kinds) (b .args .to) (b .pre .0) (b .args .x) (c .before .before .loop .y) (b .pre .1) (c .if1 .taken), omega (arith, c .if1 .taken))
+    (tables-put (b .args .sheet) (b .args .figure) (now (b .args .chains)) (b .args .kinds) (b .args .to) (b .pre .0) (b .args .x) (c .before .before .loop .y) (b .pre .1) (c .if1 .taken), omega (arith, c .if1 .taken))
 
 returns : tie.Need-returns Inv-loop μ-loop
 returns c = let b = c .before .before .before .before .before in

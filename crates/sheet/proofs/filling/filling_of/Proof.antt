@@ -1,9 +1,10 @@
--- Where the list passes, the part from the head to the next one; else nothing.
+-- Where the list passes, its part for the context; else nothing.
 use borrow.Author.Needs.{needs}
 use mathlib.Core.Path.{sym, _∙_, ap}
-use mathlib.Core.Bool.{true, false}
+use mathlib.Core.Bool.{false}
 use Rattle.sheet.specs.Filling.{isPassed}
-use Rattle.sheet.proofs.filling.FillingLaws.{filling-part, filling-none, filling-by}
+use Rattle.sheet.specs.declared.read.Reading.{Reading}
+use Rattle.sheet.proofs.filling.FillingLaws.{filling-by}
 use Rattle.sheet.proofs.filling.filling_of.Statement.{statement}
 use Rattle.sheet.proofs.filling.filling_of.Tie as tie
 
@@ -13,11 +14,12 @@ read-list-requires c κs = search needs
 enum-told : tie.Need-enum-told
 enum-told c = search needs
 
-head-at-requires : tie.Need-head-at-requires
-head-at-requires c κs = search needs
+filling-in-requires : tie.Need-filling-in-requires
+filling-in-requires c κs = let r = c .before .before in
+    ap isPassed (sym (ap (λ (x : Reading). x .answer) (r .read-list .ensures)) ∙ c .enum-told .given .1)
 
-sub-if1 : tie.Need-sub-if1
-sub-if1 c = search needs
+enum-told-2 : tie.Need-enum-told-2
+enum-told-2 c = search needs
 
 sub-result : tie.Need-sub-result
 sub-result c = search needs
@@ -29,50 +31,12 @@ part-result-end : tie.Need-part-result-end
 part-result-end c = search needs
 
 returns : tie.Need-returns
-returns c = let h = c .before .before in
-    let r = h .before .before .before in
-    let a = r .before .before .args in
-    sym (filling-by (a .list .now) (a .number) (r .read-list .result) (r .read-list .ensures) true (ap isPassed (h .before .enum-told .given .1)) ∙ filling-none (a .list .now) (a .number) (h .head-at .result) (h .head-at .ensures .1) (c .before .if1 .taken))
-
-add-rows-end : tie.Need-add-rows-end
-add-rows-end c = search needs
-
-rows-end-requires : tie.Need-rows-end-requires
-rows-end-requires c κs = search needs
-
-sub-result-2 : tie.Need-sub-result-2
-sub-result-2 c = search needs
-
-part-result-start-2 : tie.Need-part-result-start-2
-part-result-start-2 c = search needs
-
-part-result-end-2 : tie.Need-part-result-end-2
-part-result-end-2 c = search needs
-
-enum-told-2 : tie.Need-enum-told-2
-enum-told-2 c = search needs
-
-sub-result-3 : tie.Need-sub-result-3
-sub-result-3 c = search needs
-
-part-result-start-3 : tie.Need-part-result-start-3
-part-result-start-3 c = search needs
-
-part-result-end-3 : tie.Need-part-result-end-3
-part-result-end-3 c = search needs
+returns c = search needs
 
 returns-2 : tie.Need-returns-2
-returns-2 c = let h = c .before .before .before in
-    let r = h .before .before .before in
+returns-2 c = let r = c .before .before .before in
     let a = r .before .before .args in
-    let e = c .before .rows-end in
-    filling-part (a .list .now) (a .number) (h .head-at .result) (h .head-at .ensures .1) (e .result) (e .ensures .0) (e .ensures .2)
-    ∙ sym (filling-by (a .list .now) (a .number) (r .read-list .result) (r .read-list .ensures) true (ap isPassed (h .before .enum-told .given .1)))
-
-returns-3 : tie.Need-returns-3
-returns-3 c = let r = c .before .before .before in
-    let a = r .before .before .args in
-    sym (filling-by (a .list .now) (a .number) (r .read-list .result) (r .read-list .ensures) false (ap isPassed (c .before .enum-told2 .given .1)))
+    sym (filling-by (a .list .now) (a .number) false (ap isPassed (sym (ap (λ (x : Reading). x .answer) (r .read-list .ensures)) ∙ c .before .enum-told2 .given .1)))
 
 pub filling-of-spec : {M : Type 1} → statement M
 filling-of-spec =
@@ -80,20 +44,10 @@ filling-of-spec =
     (tie.spec
     read-list-requires
     enum-told
-    head-at-requires
-    sub-if1
+    filling-in-requires
+    enum-told-2
     sub-result
     part-result-start
     part-result-end
     returns
-    add-rows-end
-    rows-end-requires
-    sub-result-2
-    part-result-start-2
-    part-result-end-2
-    enum-told-2
-    sub-result-3
-    part-result-start-3
-    part-result-end-3
-    returns-2
-    returns-3)
+    returns-2)

@@ -1,203 +1,225 @@
--- Invariant: the rows before `at` hold h, whose arrays the sheet has, and what is left decides the outcome.
+-- Invariant: the arrays hold what k rows hold, and what is left decides the outcome.
 use borrow.Author.Needs.{needs}
-use Prim.Native.Nat.{ℕ, _≤_, _+_, _-_}
-use mathlib.Core.Path.{_≡_, _∙_, sym, refl, ap}
+use Prim.Native.Nat.{ℕ, _≤_, _+_, _-_, _*_}
+use mathlib.Core.Path.{_≡_, _∙_, sym, ap}
+use mathlib.Core.List.{[]}
+use mathlib.Core.Bool.{Bool, true, false}
 use borrow.Author.Tests.{not-true, not-false}
 use native.Mathlib.Omega.{arith}
-use lib.ListN.{length, take, drop}
+use lib.Dec.{eqb}
+use lib.ListN.{length, getD, drop, set}
+use Rattle.rows.specs.Pick.{pick}
 use Rattle.rows.specs.Format.{rowWidth}
-use Rattle.rows.specs.Limits.{rowLimit}
-use Rattle.rows.specs.Held.{Held, nothing, withRow}
+use Rattle.rows.specs.Held.{withRow}
 use Rattle.rows.specs.Packed.{packed}
-use Rattle.rows.specs.Steps.{Ranged}
+use Rattle.rows.specs.Steps.{Room, Ranged}
 use Rattle.rows.specs.declared.Sheet.{Sheet}
 use Rattle.sheet.specs.Filling.{isPassed}
-use Rattle.sheet.specs.Reading.{taken, firstOf, tests, readingOf, readFrom}
-use Rattle.sheet.specs.Steps.{earlyTests, lateTests}
+use Rattle.sheet.specs.Steps.{rewired}
 use Rattle.sheet.proofs.read.Taken.{rowAt}
-use Rattle.sheet.proofs.read.Room.{within-room, good-ranged}
-use Rattle.sheet.proofs.read.Judged.{answer-taken, answer-refused, early-refused, early-whole, early-good, late-verdict}
-use Rattle.sheet.proofs.read.Walk.{Read, read-start, read-end, opened, row-fits, read-next, whole-fits}
+use Rattle.sheet.proofs.read.Turn.{Kept, kept-room, Widths, kept-widths, kept-start, kept-end, turned-early, row-ranged, row-made, turned-late, kept-next}
 use Rattle.sheet.proofs.read.read_text.Statement.{statement}
 use Rattle.sheet.proofs.read.read_text.Tie as tie
 
 abbrev Inv-loop : tie.InvT-loop
-Inv-loop kind pattern text sheet₀ at₀ k₀ sheet at k = (at ≤ length text) × (k ≤ rowLimit) × ((h : Held) × (sheet ≡ packed h) × Read kind pattern text at k h)
+Inv-loop kind pattern text sheet₀ links₀ classes₀ marks₀ marked₀ n₀ m₀ k₀ sheet links classes marks marked n m k = Kept kind pattern text k (rewired sheet links classes n marks marked m)
 
 abbrev μ-loop : tie.MeasureT-loop
-μ-loop kind pattern text sheet₀ at₀ k₀ sheet at k = length text - at
+μ-loop kind pattern text sheet₀ links₀ classes₀ marks₀ marked₀ n₀ m₀ k₀ sheet links classes marks marked n m k = length text - k * rowWidth
+
+-- what the arrays hold where a turn begins, and their room
+abbrev state : tie.At-loop Inv-loop μ-loop → Sheet
+state l = rewired (l .loop .sheet) (l .loop .links) (l .loop .classes) (l .loop .n) (l .loop .marks) (l .loop .marked) (l .loop .m)
+
+room : (l : tie.At-loop Inv-loop μ-loop) → Room (state l)
+room l = let a = l .before .before .before .args in kept-room (a .kind) (a .pattern) (a .text .now) (l .loop .k) (state l) (l .loop .inv)
+
+widths : (l : tie.At-loop Inv-loop μ-loop) → Widths (state l)
+widths l = let a = l .before .before .before .args in kept-widths (a .kind) (a .pattern) (a .text .now) (l .loop .k) (state l) (l .loop .inv)
+
+one : (b : Bool) → pick b 1 0 ≤ 1
+one true = omega arith
+one false = omega arith
 
 empty-requires : tie.Need-empty-requires Inv-loop μ-loop
 empty-requires c κs = search needs
 
 loop-holds : tie.Need-loop-holds Inv-loop μ-loop
-loop-holds c = (omega arith, omega arith, (nothing, c .empty .ensures, read-start _ _ _))
+loop-holds c = kept-start _ _ _ (c .empty .result) (c .empty .ensures)
 
-is-ragged-requires : tie.Need-is-ragged-requires Inv-loop μ-loop
-is-ragged-requires c κs = search needs
+mul-loop : tie.Need-mul-loop Inv-loop μ-loop
+mul-loop c = omega (arith, c .loop .inv .few)
 
-row-at-requires : tie.Need-row-at-requires Inv-loop μ-loop
-row-at-requires c κs = let l = c .before .before in
-    λ e. whole-fits (l .before .before .before .args .text .now) (l .loop .at) (l .loop .inv .0) (sym (c .is-ragged .ensures) ∙ e)
-
-early-answer-requires : tie.Need-early-answer-requires Inv-loop μ-loop
-early-answer-requires c κs = search needs
+next-row-requires : tie.Need-next-row-requires Inv-loop μ-loop
+next-row-requires c κs = (c .before .loop .inv .few, c .before .loop .inv .before)
 
 is-passed-requires : tie.Need-is-passed-requires Inv-loop μ-loop
 is-passed-requires c κs = search needs
 
--- the answer is a refusal, or it is not, as the code has tested it
+turned-down-requires : tie.Need-turned-down-requires Inv-loop μ-loop
+turned-down-requires c κs = search needs
+
 returns : tie.Need-returns Inv-loop μ-loop
-returns c = let e = c .before .before in
-    let b = e .before .before .before in
-    let l = b .before in
+returns c = let l = c .before .before .before .before .before .before in
     let a = l .before .before .before .args in
-    let i = l .loop .inv .2 in
-    let h = i .0 in
-    let t = drop (l .loop .at) (a .text .now) in
-    let v = firstOf (tests (a .kind) (a .pattern) h t) in
-    let n = l .loop .sheet .«context_count» in
-    let cut = e .before .before .is-ragged .result in
-    let row = e .before .row-at .result in
-    answer-refused v (firstOf (earlyTests (a .kind) n (l .loop .k) cut row)) h
-    (readFrom (rowLimit - l .loop .k) (a .kind) (a .pattern) (withRow h (rowAt t)) (drop rowWidth t))
-    (e .early-answer .result) (l .loop .sheet) (l .loop .k + 1) (e .early-answer .ensures) (sym (c .before .is-passed .ensures) ∙ not-true _ (c .if1 .taken)) (i .1) (ap (λ (n : ℕ). n + 1) (sym (i .2 .rows)))
-    (early-refused (a .kind) (a .pattern) h t n (l .loop .k) cut row (i .2 .rows) (ap (λ (s : Sheet). s .«context_count») (i .1)) (e .before .before .is-ragged .ensures) (e .before .row-at .ensures))
-    ∙ ap readingOf (sym (opened (a .kind) (a .pattern) (a .text .now) (l .loop .at) (l .loop .k) h (i .2) (b .loop-test .taken) (l .loop .inv .1) v refl))
+    c .turned-down .ensures ∙ turned-early (a .kind) (a .pattern) (a .text .now) (l .loop .k) (state l) (l .loop .inv) (c .before .before .before .before .before .loop-test .taken) (c .before .before .before .before .next-row .result) (c .before .before .before .before .next-row .ensures) (sym (c .before .before .is-passed .ensures) ∙ not-true _ (c .before .if1 .taken))
 
--- the row passes the tests before it is taken in
-passes : (c : tie.Else1 Inv-loop μ-loop) → let e = c .before .before in let l = e .before .before .before .before in let a = l .before .before .before .args in
-    firstOf (earlyTests (a .kind) (l .loop .sheet .«context_count») (l .loop .k) (e .before .before .is-ragged .result) (e .before .row-at .result)) ≡ taken
-passes c = let e = c .before .before in
-    let l = e .before .before .before .before in
-    let a = l .before .before .before .args in
-    let v = firstOf (earlyTests (a .kind) (l .loop .sheet .«context_count») (l .loop .k) (e .before .before .is-ragged .result) (e .before .row-at .result)) in
-    answer-taken v (l .loop .k + 1) (ap isPassed (sym (e .early-answer .ensures)) ∙ sym (c .before .is-passed .ensures) ∙ not-false _ (c .if1 .left))
+-- the row passes the tests before it is taken in, so it is in range
+passes : (c : tie.Else1 Inv-loop μ-loop) → isPassed (c .before .before .before .next-row .result .answer) ≡ true
+passes c = sym (c .before .is-passed .ensures) ∙ not-false _ (c .if1 .left)
 
--- so it is the row at this place of the text, and in range
-row-here : (c : tie.Else1 Inv-loop μ-loop) → let e = c .before .before in let l = e .before .before .before .before in e .before .row-at .result ≡ rowAt (drop (l .loop .at) (l .before .before .before .args .text .now))
-row-here c = let e = c .before .before in
-    let l = e .before .before .before .before in
+ranged : (c : tie.Else1 Inv-loop μ-loop) → Ranged (c .before .before .before .next-row .result .row)
+ranged c = let l = c .before .before .before .before .before in
     let a = l .before .before .before .args in
-    let i = l .loop .inv .2 in
-    let h = i .0 in
-    let t = drop (l .loop .at) (a .text .now) in
-    e .before .row-at .ensures
-    (early-whole (a .kind) (a .pattern) h t (l .loop .sheet .«context_count») (l .loop .k) (e .before .before .is-ragged .result) (e .before .row-at .result) (i .2 .rows) (ap (λ (s : Sheet). s .«context_count») (i .1)) (e .before .before .is-ragged .ensures) (e .before .row-at .ensures) (passes c))
+    row-ranged (a .kind) (a .pattern) (a .text .now) (l .loop .k) (state l) (l .loop .inv) (c .before .before .before .before .loop-test .taken) (c .before .before .before .next-row .result) (c .before .before .before .next-row .ensures) (passes c)
 
-ranged : (c : tie.Else1 Inv-loop μ-loop) → Ranged (c .before .before .before .row-at .result)
-ranged c = let e = c .before .before in
-    let l = e .before .before .before .before in
-    let a = l .before .before .before .args in
-    let i = l .loop .inv .2 in
-    let h = i .0 in
-    let t = drop (l .loop .at) (a .text .now) in
-    let good = early-good (a .kind) (a .pattern) h t (l .loop .sheet .«context_count») (l .loop .k) (e .before .before .is-ragged .result) (e .before .row-at .result) (i .2 .rows) (ap (λ (s : Sheet). s .«context_count») (i .1)) (e .before .before .is-ragged .ensures) (e .before .row-at .ensures) (passes c) in
-    rw (row-here c) (good-ranged (take rowWidth t) (rw (row-here c) at good))
+before-requires : tie.Need-before-requires Inv-loop μ-loop
+before-requires c κs = search needs
+
+mul-row-clash : tie.Need-mul-row-clash Inv-loop μ-loop
+mul-row-clash c = omega (arith, c .before .before2 .ensures, room (c .before .before .before .before .before .before .before) .contexts)
+
+element-copy-out-row-clash : tie.Need-element-copy-out-row-clash Inv-loop μ-loop
+element-copy-out-row-clash c = omega (arith, c .before .before2 .ensures, room (c .before .before .before .before .before .before .before) .contexts)
 
 row-clash-requires : tie.Need-row-clash-requires Inv-loop μ-loop
-row-clash-requires c κs = let i = c .before .before .before .before .before .before .before .before .loop .inv .2 in
-    (rw (i .1) (i .2 .within .contexts), ranged (c .before .before))
+row-clash-requires c κs = ranged (c .before .before)
 
-add-with-row : tie.Need-add-with-row Inv-loop μ-loop
-add-with-row c = search needs
+atom-of-requires : tie.Need-atom-of-requires Inv-loop μ-loop
+atom-of-requires c κs = search needs
 
-cast-with-row : tie.Need-cast-with-row Inv-loop μ-loop
-cast-with-row c = search needs
+mul-t23 : tie.Need-mul-t23 Inv-loop μ-loop
+mul-t23 c = omega (arith, room (c .before .before .before .before .before .before .before .before .before) .atoms)
 
-with-row-requires : tie.Need-with-row-requires Inv-loop μ-loop
-with-row-requires c κs = let l = c .before .before .before .before .before .before .before .before .before in
-    let i = l .loop .inv .2 in
-    (rw (i .1) (within-room (l .before .before .before .args .kind) (i .0) (i .2 .within)), ranged (c .before .before .before))
+element-set-from-sheet : tie.Need-element-set-from-sheet Inv-loop μ-loop
+element-set-from-sheet c = omega (arith, room (c .before .before .before .before .before .before .before .before .before) .atoms)
 
--- the sheet with the row, and the verdict by the tests after
-made : (c : tie.After-with-row Inv-loop μ-loop) → let l = c .before .before .before .before .before .before .before .before .before .before in
-    c .with-row .result ≡ packed (withRow (l .loop .inv .2 .0) (rowAt (drop (l .loop .at) (l .before .before .before .args .text .now))))
-made c = let i = c .before .before .before .before .before .before .before .before .before .before .loop .inv .2 in
-    rw (row-here (c .before .before .before .before)) at (c .with-row .ensures (i .0) (i .2 .within .wired) (i .1) (ap (λ (n : ℕ). n + 1) (sym (i .2 .rows))))
+counted-requires : tie.Need-counted-requires Inv-loop μ-loop
+counted-requires c κs = search needs
 
-verdict : (c : tie.After-late-answer Inv-loop μ-loop) → let w = c .before in let l = w .before .before .before .before .before .before .before .before .before .before in let a = l .before .before .before .args in let r = w .with-row .result in
-    firstOf (tests (a .kind) (a .pattern) (l .loop .inv .2 .0) (drop (l .loop .at) (a .text .now))) ≡ firstOf (lateTests (a .kind) (r .«atom_count») (r .«context_count») (r .«link_count») (r .«mark_count») (w .before .row-clash .result))
-verdict c = let w = c .before in
-    let x = w .before .before .before .before in
-    let e = x .before .before in
-    let l = e .before .before .before .before in
-    let a = l .before .before .before .args in
-    let i = l .loop .inv .2 in
-    let h = i .0 in
-    let t = drop (l .loop .at) (a .text .now) in
-    late-verdict (a .kind) (a .pattern) h t (l .loop .sheet .«context_count») (l .loop .k) (e .before .before .is-ragged .result) (e .before .row-at .result) (i .2 .rows) (ap (λ (s : Sheet). s .«context_count») (i .1)) (e .before .before .is-ragged .ensures) (e .before .row-at .ensures) (passes x)
-    (w .with-row .result) (w .before .row-clash .result) (made w)
-    (rw (row-here x) at (w .before .row-clash .ensures (h .contexts) (ap (λ (s : Sheet). s .contexts) (i .1)) (ap (λ (s : Sheet). s .«context_count») (i .1)) (ap (λ (s : Sheet). s .ports) (i .1))))
+add-sheet : tie.Need-add-sheet Inv-loop μ-loop
+add-sheet c = omega (arith, room (c .before .before .before .before .before .before .before .before .before .before .before) .atoms, c .counted .ensures, one (eqb (c .before .before .before .before .before .before .before .before .before .next-row .result .row .letter) 0))
 
-add-late-answer : tie.Need-add-late-answer Inv-loop μ-loop
-add-late-answer c = search needs
+add-context-of : tie.Need-add-context-of Inv-loop μ-loop
+add-context-of c = omega (arith, c .before .before .before .before .before .before .before .before .before .before .before .loop .inv .few)
+
+cast-context-of : tie.Need-cast-context-of Inv-loop μ-loop
+cast-context-of c = omega (arith, c .before .before .before .before .before .before .before .before .before .before .before .loop .inv .few)
+
+context-of-requires : tie.Need-context-of-requires Inv-loop μ-loop
+context-of-requires c κs = search needs
+
+mul-t23-2 : tie.Need-mul-t23-2 Inv-loop μ-loop
+mul-t23-2 c = omega (arith, room (c .before .before .before .before .before .before .before .before .before .before .before .before) .contexts)
+
+element-set-from-sheet-2 : tie.Need-element-set-from-sheet-2 Inv-loop μ-loop
+element-set-from-sheet-2 c = omega (arith, room (c .before .before .before .before .before .before .before .before .before .before .before .before) .contexts)
+
+is-context-requires : tie.Need-is-context-requires Inv-loop μ-loop
+is-context-requires c κs = search needs
+
+counted-requires-2 : tie.Need-counted-requires-2 Inv-loop μ-loop
+counted-requires-2 c κs = search needs
+
+add-sheet-2 : tie.Need-add-sheet-2 Inv-loop μ-loop
+add-sheet-2 c = omega (arith, room (c .before .before .before .before .before .before .before .before .before .before .before .before .before .before) .contexts, c .counted2 .ensures, one (c .before .is-context .result))
+
+row-ports-requires : tie.Need-row-ports-requires Inv-loop μ-loop
+row-ports-requires c κs = ranged (c .before .before .before .before .before .before .before .before .before .before)
+
+slice-aggregate-add-row-links : tie.Need-slice-aggregate-add-row-links Inv-loop μ-loop
+slice-aggregate-add-row-links c = sym (widths (c .before .before .before .before .before .before .before .before .before .before .before .before .before .before .before .before .before) .0)
+
+slice-aggregate-add-row-links-2 : tie.Need-slice-aggregate-add-row-links-2 Inv-loop μ-loop
+slice-aggregate-add-row-links-2 c = sym (widths (c .before .before .before .before .before .before .before .before .before .before .before .before .before .before .before .before .before .before) .1)
+
+add-row-links-requires : tie.Need-add-row-links-requires Inv-loop μ-loop
+add-row-links-requires c κs = (room (c .before .before .before .before .before .before .before .before .before .before .before .before .before .before .before .before .before .before) .links, ranged (c .before .before .before .before .before .before .before .before .before .before .before .before .before), widths (c .before .before .before .before .before .before .before .before .before .before .before .before .before .before .before .before .before .before) .0, widths (c .before .before .before .before .before .before .before .before .before .before .before .before .before .before .before .before .before .before) .1)
+
+slice-aggregate-add-row-mark : tie.Need-slice-aggregate-add-row-mark Inv-loop μ-loop
+slice-aggregate-add-row-mark c = sym (c .before .before .before .add-row-links .kept .0 ∙ widths (c .before .before .before .before .before .before .before .before .before .before .before .before .before .before .before .before .before .before .before .before .before .before) .0)
+
+slice-aggregate-add-row-mark-2 : tie.Need-slice-aggregate-add-row-mark-2 Inv-loop μ-loop
+slice-aggregate-add-row-mark-2 c = sym (c .before .before .before .before .add-row-links .kept .1 .0 ∙ widths (c .before .before .before .before .before .before .before .before .before .before .before .before .before .before .before .before .before .before .before .before .before .before .before) .1)
+
+slice-aggregate-add-row-mark-3 : tie.Need-slice-aggregate-add-row-mark-3 Inv-loop μ-loop
+slice-aggregate-add-row-mark-3 c = sym (widths (c .before .before .before .before .before .before .before .before .before .before .before .before .before .before .before .before .before .before .before .before .before .before .before .before) .2)
+
+slice-aggregate-add-row-mark-4 : tie.Need-slice-aggregate-add-row-mark-4 Inv-loop μ-loop
+slice-aggregate-add-row-mark-4 c = sym (widths (c .before .before .before .before .before .before .before .before .before .before .before .before .before .before .before .before .before .before .before .before .before .before .before .before .before) .3)
+
+add-row-mark-requires : tie.Need-add-row-mark-requires Inv-loop μ-loop
+add-row-mark-requires c κs = let x = c .before .before .before .before .before .before .add-row-links in
+    let w = widths (c .before .before .before .before .before .before .before .before .before .before .before .before .before .before .before .before .before .before .before .before .before .before .before .before .before) in
+    (λ e. omega (arith, x .ensures .0 e, room (c .before .before .before .before .before .before .before .before .before .before .before .before .before .before .before .before .before .before .before .before .before .before .before .before .before) .links), room (c .before .before .before .before .before .before .before .before .before .before .before .before .before .before .before .before .before .before .before .before .before .before .before .before .before) .marks, room (c .before .before .before .before .before .before .before .before .before .before .before .before .before .before .before .before .before .before .before .before .before .before .before .before .before) .places, x .kept .0 ∙ w .0, x .kept .1 .0 ∙ w .1, w .2, w .3)
+
+add-k : tie.Need-add-k Inv-loop μ-loop
+add-k c = omega (arith, c .before .before .before .before .before .before .before .before .before .before .before .before .before .before .before .before .before .before .before .before .before .before .before .before .before .before .before .before .before .loop .inv .few)
 
 late-answer-requires : tie.Need-late-answer-requires Inv-loop μ-loop
 late-answer-requires c κs = search needs
 
+-- the arrays with the row
+abbrev after : tie.After-late-answer Inv-loop μ-loop → Sheet
+after c = let s = state (c .before .before .before .before .before .before .before .before .before .before .before .before .before .before .before .before .before .before .before .before .before .before .before .before .before .before .before .before .before .before) in
+    let y = c .before .before .before .before .add-row-mark in
+    record {
+      atoms = set (s .atoms) (s .«atom_count») (c .before .before .before .before .before .before .before .before .before .before .before .before .before .before .before .before .before .before .before .before .before .atom-of .result);
+      «atom_count» = s .«atom_count» + c .before .before .before .before .before .before .before .before .before .before .before .before .before .before .before .before .before .before .before .counted .result;
+      contexts = set (s .contexts) (s .«context_count») (c .before .before .before .before .before .before .before .before .before .before .before .before .before .before .before .before .before .before .context-of .result);
+      «context_count» = s .«context_count» + c .before .before .before .before .before .before .before .before .before .before .before .before .before .before .before .before .counted2 .result;
+      ports = c .before .before .before .before .before .before .before .before .before .before .before .before .before .before .row-ports .result;
+      links = c .before .before .before .before .before .before .before .before .before .before .before .add-row-links .last .0;
+      classes = y .last .1 .0;
+      «link_count» = c .before .before .before .before .before .before .before .before .before .before .before .add-row-links .result;
+      marks = y .last .1 .1 .0;
+      marked = y .last .1 .1 .1 .0;
+      «mark_count» = y .result;
+    }
+
+made : (c : tie.After-late-answer Inv-loop μ-loop) → let l = c .before .before .before .before .before .before .before .before .before .before .before .before .before .before .before .before .before .before .before .before .before .before .before .before .before .before .before .before .before .before in after c ≡ packed (withRow (l .loop .inv .held) (rowAt (drop (l .loop .k * rowWidth) (l .before .before .before .args .text .now))))
+made c = let l = c .before .before .before .before .before .before .before .before .before .before .before .before .before .before .before .before .before .before .before .before .before .before .before .before .before .before .before .before .before .before in
+    let a = l .before .before .before .args in
+    let x = c .before .before .before .before .before .before .before .before .before .before .before .add-row-links in
+    let y = c .before .before .before .before .add-row-mark in
+    row-made (a .kind) (a .pattern) (a .text .now) (l .loop .k) (state l) (l .loop .inv) (c .before .before .before .before .before .before .before .before .before .before .before .before .before .before .before .before .before .before .before .before .before .before .before .before .before .before .before .before .before .loop-test .taken) (c .before .before .before .before .before .before .before .before .before .before .before .before .before .before .before .before .before .before .before .before .before .before .before .before .before .before .before .before .next-row .result) (c .before .before .before .before .before .before .before .before .before .before .before .before .before .before .before .before .before .before .before .before .before .before .before .before .before .before .before .before .next-row .ensures) (passes (c .before .before .before .before .before .before .before .before .before .before .before .before .before .before .before .before .before .before .before .before .before .before .before .before .before))
+    (c .before .before .before .before .before .before .before .before .before .before .before .before .before .before .before .before .before .before .before .before .before .atom-of .result) (c .before .before .before .before .before .before .before .before .before .before .before .before .before .before .before .before .before .before .before .counted .result) (c .before .before .before .before .before .before .before .before .before .before .before .before .before .before .before .before .before .before .context-of .result) (c .before .before .before .before .before .before .before .before .before .before .before .before .before .before .before .before .before .is-context .result) (c .before .before .before .before .before .before .before .before .before .before .before .before .before .before .before .before .counted2 .result) (c .before .before .before .before .before .before .before .before .before .before .before .before .before .before .row-ports .result) (x .last .0) (x .last .1 .0) (x .result) (y .last .1 .0) (y .last .1 .1 .0) (y .last .1 .1 .1 .0) (y .result)
+    (c .before .before .before .before .before .before .before .before .before .before .before .before .before .before .before .before .before .before .before .before .before .atom-of .ensures) (c .before .before .before .before .before .before .before .before .before .before .before .before .before .before .before .before .before .before .before .counted .ensures) (c .before .before .before .before .before .before .before .before .before .before .before .before .before .before .before .before .before .before .context-of .ensures) (c .before .before .before .before .before .before .before .before .before .before .before .before .before .before .before .before .before .is-context .ensures) (c .before .before .before .before .before .before .before .before .before .before .before .before .before .before .before .before .counted2 .ensures) (c .before .before .before .before .before .before .before .before .before .before .before .before .before .before .row-ports .ensures) (x .ensures .1) (y .ensures)
+
 is-passed-requires-2 : tie.Need-is-passed-requires-2 Inv-loop μ-loop
 is-passed-requires-2 c κs = search needs
 
+turned-down-requires-2 : tie.Need-turned-down-requires-2 Inv-loop μ-loop
+turned-down-requires-2 c κs = search needs
+
 returns-2 : tie.Need-returns-2 Inv-loop μ-loop
-returns-2 c = let f = c .before .before in
-    let w = f .before in
-    let l = w .before .before .before .before .before .before .before .before .before .before in
-    let b = w .before .before .before .before .before .before .before .before .before in
+returns-2 c = let f = c .before .before .before in
+    let l = c .before .before .before .before .before .before .before .before .before .before .before .before .before .before .before .before .before .before .before .before .before .before .before .before .before .before .before .before .before .before .before .before .before in
     let a = l .before .before .before .args in
-    let i = l .loop .inv .2 in
-    let h = i .0 in
-    let t = drop (l .loop .at) (a .text .now) in
-    let v = firstOf (tests (a .kind) (a .pattern) h t) in
-    let r = w .with-row .result in
-    answer-refused v (firstOf (lateTests (a .kind) (r .«atom_count») (r .«context_count») (r .«link_count») (r .«mark_count») (w .before .row-clash .result))) h
-    (readFrom (rowLimit - l .loop .k) (a .kind) (a .pattern) (withRow h (rowAt t)) (drop rowWidth t))
-    (f .late-answer .result) (l .loop .sheet) (l .loop .k + 1) (f .late-answer .ensures) (sym (c .before .is-passed2 .ensures) ∙ not-true _ (c .if2 .taken)) (i .1) (ap (λ (n : ℕ). n + 1) (sym (i .2 .rows)))
-    (λ why e. verdict f ∙ e)
-    ∙ ap readingOf (sym (opened (a .kind) (a .pattern) (a .text .now) (l .loop .at) (l .loop .k) h (i .2) (b .loop-test .taken) (l .loop .inv .1) v refl))
-
--- no test turns the row down
-all-pass : (c : tie.Else2 Inv-loop μ-loop) → let l = c .before .before .before .before .before .before .before .before .before .before .before .before .before in let a = l .before .before .before .args in
-    firstOf (tests (a .kind) (a .pattern) (l .loop .inv .2 .0) (drop (l .loop .at) (a .text .now))) ≡ taken
-all-pass c = let f = c .before .before in
-    let w = f .before in
-    let l = w .before .before .before .before .before .before .before .before .before .before in
-    let r = w .with-row .result in
-    verdict f ∙ answer-taken (firstOf (lateTests (l .before .before .before .args .kind) (r .«atom_count») (r .«context_count») (r .«link_count») (r .«mark_count») (w .before .row-clash .result))) (l .loop .k + 1)
-    (ap isPassed (sym (f .late-answer .ensures)) ∙ sym (c .before .is-passed2 .ensures) ∙ not-false _ (c .if2 .left))
-
-goes-on : (c : tie.Else2 Inv-loop μ-loop) → let l = c .before .before .before .before .before .before .before .before .before .before .before .before .before in
-    (l .loop .at + rowWidth ≤ length (l .before .before .before .args .text .now)) × (l .loop .k + 1 ≤ rowLimit)
-goes-on c = let l = c .before .before .before .before .before .before .before .before .before .before .before .before .before in
-    let b = c .before .before .before .before .before .before .before .before .before .before .before .before in
-    let a = l .before .before .before .args in
-    let i = l .loop .inv .2 in
-    row-fits (a .kind) (a .pattern) (a .text .now) (l .loop .at) (l .loop .k) (i .0) (i .2) (b .loop-test .taken) (l .loop .inv .1) (all-pass c)
-
-add-k : tie.Need-add-k Inv-loop μ-loop
-add-k c = omega (arith, goes-on c .1)
-
-add-at : tie.Need-add-at Inv-loop μ-loop
-add-at c = let l = c .before .before .before .before .before .before .before .before .before .before .before .before .before in
-    let s = l .before .before .before in
-    omega (arith, goes-on c .0, s .good)
+    c .turned-down2 .ensures ∙ turned-late (a .kind) (a .pattern) (a .text .now) (l .loop .k) (state l) (l .loop .inv) (c .before .before .before .before .before .before .before .before .before .before .before .before .before .before .before .before .before .before .before .before .before .before .before .before .before .before .before .before .before .before .before .before .loop-test .taken) (c .before .before .before .before .before .before .before .before .before .before .before .before .before .before .before .before .before .before .before .before .before .before .before .before .before .before .before .before .before .before .before .next-row .result) (c .before .before .before .before .before .before .before .before .before .before .before .before .before .before .before .before .before .before .before .before .before .before .before .before .before .before .before .before .before .before .before .next-row .ensures) (passes (c .before .before .before .before .before .before .before .before .before .before .before .before .before .before .before .before .before .before .before .before .before .before .before .before .before .before .before .before))
+    (after f) (made f) (c .before .before .before .before .before .before .before .before .before .before .before .before .before .before .before .before .before .before .before .before .before .before .before .before .before .row-clash .result) (f .late-answer .result)
+    (λ r q p. c .before .before .before .before .before .before .before .before .before .before .before .before .before .before .before .before .before .before .before .before .before .before .before .before .before .row-clash .ensures r (ap (λ (j : ℕ). getD (l .loop .sheet .contexts) j (record { number = 0; count = 0; links = []; row = 0 }) .number) (c .before .before .before .before .before .before .before .before .before .before .before .before .before .before .before .before .before .before .before .before .before .before .before .before .before .before .before .before2 .ensures) ∙ q) p)
+    (f .late-answer .ensures) (sym (c .before .before .is-passed2 .ensures) ∙ not-true _ (c .before .if2 .taken))
 
 loop-less : tie.Need-loop-less Inv-loop μ-loop
-loop-less c = search needs
+loop-less c = omega (arith, c .before .before .before .before .before .before .before .before .before .before .before .before .before .before .before .before .before .before .before .before .before .before .before .before .before .before .before .before .before .before .before .loop-test .taken)
 
 loop-again : tie.Need-loop-again Inv-loop μ-loop
-loop-again c = let l = c .before .before .before .before .before .before .before .before .before .before .before .before .before in
-    let b = c .before .before .before .before .before .before .before .before .before .before .before .before in
+loop-again c = let f = c .before .before in
+    let l = c .before .before .before .before .before .before .before .before .before .before .before .before .before .before .before .before .before .before .before .before .before .before .before .before .before .before .before .before .before .before .before .before in
     let a = l .before .before .before .args in
-    let i = l .loop .inv .2 in
-    let n = goes-on c in
-    (n .0, n .1, (withRow (i .0) (rowAt (drop (l .loop .at) (a .text .now))), made (c .before .before .before), read-next (a .kind) (a .pattern) (a .text .now) (l .loop .at) (l .loop .k) (i .0) (i .2) (b .loop-test .taken) (l .loop .inv .1) (all-pass c)))
+    kept-next (a .kind) (a .pattern) (a .text .now) (l .loop .k) (state l) (l .loop .inv) (c .before .before .before .before .before .before .before .before .before .before .before .before .before .before .before .before .before .before .before .before .before .before .before .before .before .before .before .before .before .before .before .loop-test .taken) (c .before .before .before .before .before .before .before .before .before .before .before .before .before .before .before .before .before .before .before .before .before .before .before .before .before .before .before .before .before .before .next-row .result) (c .before .before .before .before .before .before .before .before .before .before .before .before .before .before .before .before .before .before .before .before .before .before .before .before .before .before .before .before .before .before .next-row .ensures) (passes (c .before .before .before .before .before .before .before .before .before .before .before .before .before .before .before .before .before .before .before .before .before .before .before .before .before .before .before))
+    (after f) (made f) (c .before .before .before .before .before .before .before .before .before .before .before .before .before .before .before .before .before .before .before .before .before .before .before .before .row-clash .result) (f .late-answer .result)
+    (λ r q p. c .before .before .before .before .before .before .before .before .before .before .before .before .before .before .before .before .before .before .before .before .before .before .before .before .row-clash .ensures r (ap (λ (j : ℕ). getD (l .loop .sheet .contexts) j (record { number = 0; count = 0; links = []; row = 0 }) .number) (c .before .before .before .before .before .before .before .before .before .before .before .before .before .before .before .before .before .before .before .before .before .before .before .before .before .before .before2 .ensures) ∙ q) p)
+    (f .late-answer .ensures) (sym (c .before .is-passed2 .ensures) ∙ not-false _ (c .if2 .left))
+
+wired-requires : tie.Need-wired-requires Inv-loop μ-loop
+wired-requires c κs = search needs
 
 returns-3 : tie.Need-returns-3 Inv-loop μ-loop
-returns-3 c = let l = c .before in
+returns-3 c = let l = c .before .before in
     let a = l .before .before .before .args in
-    let i = l .loop .inv .2 in
-    rw (i .1) (ap readingOf (sym (read-end (a .kind) (a .pattern) (a .text .now) (l .loop .at) (l .loop .k) (i .0) (i .2) (c .loop-test .left))))
+    c .wired .ensures ∙ kept-end (a .kind) (a .pattern) (a .text .now) (l .loop .k) (state l) (l .loop .inv) (c .before .loop-test .left)
 
 pub read-text-spec : {M : Type 1} → statement M
 read-text-spec =
@@ -207,21 +229,43 @@ read-text-spec =
     μ-loop
     empty-requires
     loop-holds
-    is-ragged-requires
-    row-at-requires
-    early-answer-requires
+    mul-loop
+    next-row-requires
     is-passed-requires
+    turned-down-requires
     returns
+    before-requires
+    mul-row-clash
+    element-copy-out-row-clash
     row-clash-requires
-    add-with-row
-    cast-with-row
-    with-row-requires
-    add-late-answer
+    atom-of-requires
+    mul-t23
+    element-set-from-sheet
+    counted-requires
+    add-sheet
+    add-context-of
+    cast-context-of
+    context-of-requires
+    mul-t23-2
+    element-set-from-sheet-2
+    is-context-requires
+    counted-requires-2
+    add-sheet-2
+    row-ports-requires
+    slice-aggregate-add-row-links
+    slice-aggregate-add-row-links-2
+    add-row-links-requires
+    slice-aggregate-add-row-mark
+    slice-aggregate-add-row-mark-2
+    slice-aggregate-add-row-mark-3
+    slice-aggregate-add-row-mark-4
+    add-row-mark-requires
+    add-k
     late-answer-requires
     is-passed-requires-2
+    turned-down-requires-2
     returns-2
-    add-k
-    add-at
     loop-less
     loop-again
+    wired-requires
     returns-3)

@@ -8,12 +8,9 @@ use Rattle.sheet.proofs.read.row_clash.Tie as tie
 array-read-result : tie.Need-array-read-result
 array-read-result c = search needs
 
-last-number-requires : tie.Need-last-number-requires
-last-number-requires c κs = search needs
-
 returns : tie.Need-returns
-returns c = let a = c .before .before .before .args in
-    λ l e q p. clash-head (a .kind) (a .t2) (a .row) l (c .last-number .result) (c .last-number .ensures l e q) (c .before .if1 .taken)
+returns c = let a = c .before .before .args in
+    λ l q p. clash-head (a .kind) (a .t2) (a .row) l (a .last) q (c .if1 .taken)
 
 array-read-number : tie.Need-array-read-number
 array-read-number c = search needs
@@ -22,23 +19,23 @@ cast-number : tie.Need-cast-number
 cast-number c = search needs
 
 mul-ports-clash : tie.Need-mul-ports-clash
-mul-ports-clash c = omega (arith, c .before .before .before .pre .1 .context (c .if2 .taken))
+mul-ports-clash c = omega (arith, c .before .before .before .pre .context (c .if2 .taken))
 
 array-read-ports-clash : tie.Need-array-read-ports-clash
-array-read-ports-clash c = c .before .before .before .pre .1 .context (c .if2 .taken)
+array-read-ports-clash c = c .before .before .before .pre .context (c .if2 .taken)
 
 mul-ports-clash-2 : tie.Need-mul-ports-clash-2
-mul-ports-clash-2 c = omega (arith, c .before .before .before .pre .1 .context (c .if2 .taken))
+mul-ports-clash-2 c = omega (arith, c .before .before .before .pre .context (c .if2 .taken))
 
 array-read-ports-clash-2 : tie.Need-array-read-ports-clash-2
-array-read-ports-clash-2 c = c .before .before .before .pre .1 .context (c .if2 .taken)
+array-read-ports-clash-2 c = c .before .before .before .pre .context (c .if2 .taken)
 
 array-read-ports-clash-3 : tie.Need-array-read-ports-clash-3
 array-read-ports-clash-3 c = search needs
 
 add-ports-clash : tie.Need-add-ports-clash
 add-ports-clash c = let e : c .before .before .before .args .row .letter ≡ 1 = c .if2 .taken in
-    omega (arith, c .before .before .before .pre .1 .few (omega arith))
+    omega (arith, c .before .before .before .pre .few (omega arith))
 
 ports-clash-requires : tie.Need-ports-clash-requires
 ports-clash-requires c κs = search needs
@@ -46,18 +43,17 @@ ports-clash-requires c κs = search needs
 returns-2 : tie.Need-returns-2
 returns-2 c = let s = c .before .before .before .before in
     let a = s .args in
-    λ l e q p. c .ports-clash .ensures ∙ clash-blank (a .kind) (a .t2) (a .row) l (a .t3) p (c .before .before .if1 .left) (c .before .if2 .taken) (s .pre .1 .context (c .before .if2 .taken))
+    λ l q p. c .ports-clash .ensures ∙ clash-blank (a .kind) (a .t2) (a .row) l (a .t3) p (c .before .before .if1 .left) (c .before .if2 .taken) (s .pre .context (c .before .if2 .taken))
 
 returns-3 : tie.Need-returns-3
 returns-3 c = let a = c .before .before .before .args in
-    λ l e q p. clash-none (a .kind) (a .t2) (a .row) l (c .before .if1 .left) (c .if2 .left)
+    λ l q p. clash-none (a .kind) (a .t2) (a .row) l (c .before .if1 .left) (c .if2 .left)
 
 pub row-clash-spec : {M : Type 1} → statement M
 row-clash-spec =
     tie.close
     (tie.spec
     array-read-result
-    last-number-requires
     returns
     array-read-number
     cast-number

@@ -11,10 +11,10 @@ use Rattle.stepping.proofs.contexts.left_at.Statement.{statement}
 use Rattle.stepping.proofs.contexts.left_at.Tie as tie
 
 abbrev Inv-loop : tie.InvT-loop
-Inv-loop ports y contexts next₀ c₀ next c = (c ≤ contexts) × (length next ≡ figureContexts + 1) × ((i : ℕ) → i < c → (getD next i 0 ≡ 1) ↔ ((getD next₀ i 0 ≡ 1) × (getD ports (i * sheetLinks + y) 0 ≡ 1))) × ((i : ℕ) → c ≤ i → getD next i 0 ≡ getD next₀ i 0)
+Inv-loop left₀ ports y contexts c₀ left c = (c ≤ contexts) × (length left ≡ figureContexts + 1) × ((i : ℕ) → i < c → (getD left i 0 ≡ 1) ↔ ((getD left₀ i 0 ≡ 1) × (getD ports (i * sheetLinks + y) 0 ≡ 1))) × ((i : ℕ) → c ≤ i → getD left i 0 ≡ getD left₀ i 0)
 
 abbrev μ-loop : tie.MeasureT-loop
-μ-loop ports y contexts next₀ c₀ next c = contexts - c
+μ-loop left₀ ports y contexts c₀ left c = contexts - c
 
 loop-holds : tie.Need-loop-holds Inv-loop μ-loop
 loop-holds c = search needs
@@ -28,8 +28,8 @@ add-if1 c = search needs
 element-copy-out-if1 : tie.Need-element-copy-out-if1 Inv-loop μ-loop
 element-copy-out-if1 c = search needs
 
-array-write-next : tie.Need-array-write-next Inv-loop μ-loop
-array-write-next c = search needs
+element-write-left : tie.Need-element-write-left Inv-loop μ-loop
+element-write-left c = search needs
 
 add-c : tie.Need-add-c Inv-loop μ-loop
 add-c c = search needs
@@ -40,12 +40,12 @@ loop-less c = search needs
 loop-again : tie.Need-loop-again Inv-loop μ-loop
 loop-again c = let l = c .before .before .before .loop in
     let a = c .before .before .before .before .args in
-    let w = left-step (λ i. getD (a .ports .now) (i * sheetLinks + a .y) 0 ≡ 1) (a .left) (l .next) (l .c) (omega arith) (l .inv .2) (l .inv .3) (c .if1 .next)
+    let w = left-step (λ i. getD (a .ports .now) (i * sheetLinks + a .y) 0 ≡ 1) (a .left .now) (l .left) (l .c) (omega arith) (l .inv .2) (l .inv .3) (c .if1 .left)
     (⊎-elim (λ w. inl (w .0 .taken, w .1)) (λ w. inr (w .0 .left, w .1)) (c .if1 .came)) in
     (omega arith, w .0 ∙ l .inv .1, w .1, w .2)
 
 returns : tie.Need-returns Inv-loop μ-loop
-returns c = λ i h. c .before .loop .inv .2 i (omega arith)
+returns c = (c .before .loop .inv .1, λ i h. c .before .loop .inv .2 i (omega arith))
 
 pub left-at-spec : {M : Type 1} → statement M
 left-at-spec =
@@ -57,7 +57,7 @@ left-at-spec =
     mul-if1
     add-if1
     element-copy-out-if1
-    array-write-next
+    element-write-left
     add-c
     loop-less
     loop-again

@@ -2,27 +2,25 @@
 use borrow.Author.Needs.{needs}
 use native.Mathlib.Omega.{arith}
 use Prim.Native.Nat.{ℕ, _≤_, _+_, _-_}
-use mathlib.Core.Path.{_≡_, _∙_, ap}
+use mathlib.Core.Path.{_≡_, _∙_, ap, subst}
 use mathlib.Core.Logic.{⊎-elim}
-use mathlib.Core.List.{[], _∷_, map}
+use mathlib.Core.List.{List, [], _∷_, map}
 use lib.ListN.{length, getD, take, length-set}
-use mathlib.Core.Path.{subst}
-use mathlib.Core.List.{List}
 use Rattle.rows.specs.Limits.{sheetAtoms}
 use Rattle.rows.specs.declared.Atom.{Atom}
 use Rattle.sheet.specs.NormalRows.{pastAtoms}
 use Rattle.numbering.proofs.Turns.{unmapped}
-use Rattle.filling.specs.Whole.{labelledAtom, Grown}
+use Rattle.filling.specs.Whole.{placedAtom, Grown}
 use Rattle.filling.specs.declared.whole.Whole.{Whole}
 use Rattle.filling.proofs.Loops.{grown-none, grown-one, grown-full, grown-then, mapped-next}
 use Rattle.filling.proofs.whole.Whole.with_part.Statement.{statement}
 use Rattle.filling.proofs.whole.Whole.with_part.Tie as tie
 
 abbrev Inv-loop : tie.InvT-loop
-Inv-loop labels p part whole₀ i₀ whole i = (i ≤ part .«atom_count») × (length (part .atoms) ≡ sheetAtoms + 1) × (length (whole .atoms) ≡ sheetAtoms + 1) × Grown whole₀ whole (map (labelledAtom labels p) (take i (part .atoms)))
+Inv-loop p part whole₀ i₀ whole i = (i ≤ part .«atom_count») × (length (part .atoms) ≡ sheetAtoms + 1) × (length (whole .atoms) ≡ sheetAtoms + 1) × Grown whole₀ whole (map (placedAtom p) (take i (part .atoms)))
 
 abbrev μ-loop : tie.MeasureT-loop
-μ-loop labels p part whole₀ i₀ whole i = part .«atom_count» - i
+μ-loop p part whole₀ i₀ whole i = part .«atom_count» - i
 
 loop-holds : tie.Need-loop-holds Inv-loop μ-loop
 loop-holds c = (search needs, search (needs, unmapped), search (needs, unmapped), grown-none (c .args .self) (c .pre .0))
@@ -33,16 +31,13 @@ mul-atom c = omega (arith, c .before .before .pre .2 .atoms)
 element-copy-out-atom : tie.Need-element-copy-out-atom Inv-loop μ-loop
 element-copy-out-atom c = omega (arith, c .before .before .pre .2 .atoms)
 
-cast-labelled : tie.Need-cast-labelled Inv-loop μ-loop
-cast-labelled c = search needs
-
-labelled-requires : tie.Need-labelled-requires Inv-loop μ-loop
-labelled-requires c κs = let l = c .before .before .before .before in
+placed-requires : tie.Need-placed-requires Inv-loop μ-loop
+placed-requires c κs = let l = c .before .before .before in
     let h = l .before .pre in
-    (h .1, h .2 .atomCounts (l .loop .i), λ k. h .2 .atomLinks (l .loop .i) k)
+    (h .1, λ k. h .2 .atomLinks (l .loop .i) k)
 
-mul-t18 : tie.Need-mul-t18 Inv-loop μ-loop
-mul-t18 c = search needs
+mul-t17 : tie.Need-mul-t17 Inv-loop μ-loop
+mul-t17 c = search needs
 
 element-set-from-whole : tie.Need-element-set-from-whole Inv-loop μ-loop
 element-set-from-whole c = search needs
@@ -57,11 +52,11 @@ loop-less : tie.Need-loop-less Inv-loop μ-loop
 loop-less c = search needs
 
 loop-again : tie.Need-loop-again Inv-loop μ-loop
-loop-again c = let l = c .before .before .before .before .before .before in
+loop-again c = let l = c .before .before .before .before .before in
     let a = l .before .args in
-    let x = getD (a .t4 .atoms) (l .loop .i) pastAtoms in
-    let f = labelledAtom (a .labels .now) (a .p) in
-    let y : Atom = record { name = x .name; count = x .count; links = c .before .labelled .result } in
+    let x = getD (a .t3 .atoms) (l .loop .i) pastAtoms in
+    let f = placedAtom (a .p) in
+    let y : Atom = record { name = x .name; count = x .count; links = c .before .placed .result } in
     let w = l .loop .whole in
     let r = c .if1 .whole in
     let n = l .loop .inv .2 in
@@ -69,18 +64,18 @@ loop-again c = let l = c .before .before .before .before .before .before in
     (λ t. (ap (λ (u : Whole). length (u .atoms)) (t .1) ∙ simp length-set n, grown-one w r y n (t .0 .taken) (t .1)))
     (λ t. (ap (λ (u : Whole). length (u .atoms)) (t .1) ∙ n, grown-full w r y n (l .loop .inv .3 .few) (t .0 .left) (t .1)))
     (c .if1 .came) in
-    let h : Grown w r (f x ∷ []) = subst (λ (k : List ℕ). Grown w r (record { name = x .name; count = x .count; links = k } ∷ [])) (c .before .labelled .ensures) (g .1) in (
+    let h : Grown w r (f x ∷ []) = subst (λ (k : List ℕ). Grown w r (record { name = x .name; count = x .count; links = k } ∷ [])) (c .before .placed .ensures) (g .1) in (
       search needs,
       l .loop .inv .1,
       g .0,
-      subst (λ (k : List Atom). Grown (a .self) r k) (mapped-next f (a .t4 .atoms) (l .loop .i) pastAtoms (omega (arith, l .loop .inv .1, l .before .pre .2 .atoms)))
-          (grown-then (a .self) w r (map f (take (l .loop .i) (a .t4 .atoms))) (f x ∷ []) (l .loop .inv .3) h),
+      subst (λ (k : List Atom). Grown (a .self) r k) (mapped-next f (a .t3 .atoms) (l .loop .i) pastAtoms (omega (arith, l .loop .inv .1, l .before .pre .2 .atoms)))
+          (grown-then (a .self) w r (map f (take (l .loop .i) (a .t3 .atoms))) (f x ∷ []) (l .loop .inv .3) h),
     )
 
 returns : tie.Need-returns Inv-loop μ-loop
 returns c = let l = c .before in
     let a = l .before .args in
-    let e : l .loop .i ≡ a .t4 .«atom_count» = omega arith in
+    let e : l .loop .i ≡ a .t3 .«atom_count» = omega arith in
     rw e at (l .loop .inv .3)
 
 pub with-part-spec : {M : Type 1} → statement M
@@ -92,9 +87,8 @@ with-part-spec =
     loop-holds
     mul-atom
     element-copy-out-atom
-    cast-labelled
-    labelled-requires
-    mul-t18
+    placed-requires
+    mul-t17
     element-set-from-whole
     add-whole
     add-i
