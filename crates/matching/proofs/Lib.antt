@@ -2,3 +2,5 @@ pub mod SearchLaws
 pub mod SearchTurns
 pub mod SearchWhole
 pub mod ChosenLaws
+mod Excusing
+mod Forcing

@@ -1,10 +1,11 @@
 -- One turn of the search's loop, on the arrays that the code holds.
-use Prim.Native.Nat.{ℕ, suc, _+_, _-_, _*_, _≤_, _<_}
-use mathlib.Core.Path.{_≡_, ap, ap₂, sym, _∙_, subst, subst₂}
-use mathlib.Core.Logic.{_≢_, inl, inr}
+use Prim.Native.Nat.{ℕ, zero, suc, _+_, _-_, _*_, _≤_, _<_}
+use mathlib.Core.Path.{_≡_, refl, ap, ap₂, sym, _∙_, subst, subst₂}
+use mathlib.Core.Logic.{_≢_, _⊎_, inl, inr}
 use mathlib.Core.List.{List, [], _∷_, _++_, append-assoc}
 use mathlib.Core.Bool.{Bool, true, false}
-use native.Mathlib.Decide.{ℕ-discrete, decLt}
+use mathlib.Core.Option.{Option, none, some}
+use native.Mathlib.Decide.{ℕ-discrete}
 use native.Mathlib.Numerals.{add-one}
 use native.Mathlib.Omega.{arith}
 use lib.ListN.{length, getD, take, set, replicate, length-set}
@@ -19,7 +20,7 @@ use Rattle.network.specs.NetIn.{netIn}
 use Rattle.network.specs.Begun.{Begun, testAfter, leastAfter}
 use Rattle.network.proofs.NetIn.{atoms-length}
 use Rattle.network.specs.Ready.{Ready, AtomsIn}
-use Rattle.matching.specs.Search.{mayIn, KeepsIn, Kept, searchFrom, foundList, foundIn, Skipped}
+use Rattle.matching.specs.Search.{mayIn, KeepsIn, Kept, behind, searchFrom, foundList, foundIn, Skipped, Excuses, Only, Onward}
 use Rattle.narrowing.specs.Sets.{Keeps}
 use Rattle.narrowing.specs.Tables.{mayAtom, mayLink, Blank}
 use Rattle.narrowing.specs.Laid.{LaidOut}
@@ -30,25 +31,18 @@ use Rattle.matching.specs.declared.search.Found.{Found}
 use Rattle.matching.proofs.SearchLaws.{nothing-found, none-found, some-found, none-begun, begun-none, restBounds, tried-start, tried-next, tried-end, tried-found}
 use Rattle.rows.proofs.Padding.{getD-filled}
 
--- What the loop keeps: sheet atoms 1 to t were tried in vain, and those with a cost failed.
+-- What the loop keeps: sheet atoms 1 to t were tried in vain, and those with a 1 fail.
 pub record Tries (sheet figure : form.Normal) (pre failed : List ℕ) (work t : ℕ) : Type 0 where
   pub within : t ≤ sheet .«atom_count»
   pub tried : Tried (testAfter (netIn sheet) (netIn figure) pre) (suc t) (restBounds (netIn sheet) (netIn figure) pre)
-  pub failures : (u : ℕ) → getD failed u 0 ≢ 0 → ¬ Begun (netIn sheet) (netIn figure) (pre ++ (suc u ∷ []))
+  pub failures : (u : ℕ) → getD failed u 0 ≡ 1 → ¬ Begun (netIn sheet) (netIn figure) (pre ++ (suc u ∷ []))
   pub worked : 1 ≤ work
 
 pub tries-same : {sheet figure : form.Normal} {pre failed failed′ : List ℕ} {work work′ t : ℕ} → failed′ ≡ failed → work′ ≡ work
     → Tries sheet figure pre failed work t → Tries sheet figure pre failed′ work′ t
 tries-same {sheet} {figure} {pre} {failed} {failed′} {work} {work′} {t} e f u = subst (λ (w : ℕ). Tries sheet figure pre failed′ w t) (sym f) (subst (λ (l : List ℕ). Tries sheet figure pre l work t) (sym e) u)
 
-pub some-left : (left : ℕ) → left ≢ 0 → 0 < left
-some-left left h = go (decLt 0 left)
-  where
-    go : Dec (0 < left) → 0 < left
-    go (yes k) = k
-    go (no k) = absurd (h (omega arith))
-
-module _ (sheet figure : form.Normal) (ready : Ready sheet figure) (chosen : List ℕ) (left : ℕ) (few : left ≤ figure .«atom_count») (atoms : AtomsIn sheet (figure .«atom_count» - left) chosen) where
+module _ (sheet figure : form.Normal) (ready : Ready sheet figure) (chosen : List ℕ) (k : ℕ) (few : k ≤ figure .«atom_count») (atoms : AtomsIn sheet k chosen) where
   abbrev S : Net
   S = netIn sheet
 
@@ -56,10 +50,10 @@ module _ (sheet figure : form.Normal) (ready : Ready sheet figure) (chosen : Lis
   F = netIn figure
 
   abbrev pre : List ℕ
-  pre = take (figure .«atom_count» - left) chosen
+  pre = take k chosen
 
-  pub pre-length : length pre ≡ figure .«atom_count» - left
-  pre-length = length-take-le (figure .«atom_count» - left) chosen (omega (arith, atoms .room, ready .figure-fit .atom-count))
+  pub pre-length : length pre ≡ k
+  pre-length = length-take-le k chosen (omega (arith, atoms .room, ready .figure-fit .atom-count))
 
   figure-atoms : length (F .atoms) ≡ figure .«atom_count»
   figure-atoms = atoms-length figure (ready .figure-fit)
@@ -70,18 +64,15 @@ module _ (sheet figure : form.Normal) (ready : Ready sheet figure) (chosen : Lis
   pub nothing-begun : ¬ Begun S F pre → (r : Found) → r .ok ≡ false → foundIn sheet figure r ≡ searchFrom S F pre
   nothing-begun n r h = nothing-found sheet figure r h ∙ sym (begun-none S F pre (omega (arith, pre-length, figure-atoms)) n)
 
-  module _ (unfinished : left ≢ 0) where
-    above : 0 < left
-    above = some-left left unfinished
-
+  module _ (unfinished : k < figure .«atom_count») where
     small : length pre < length (F .atoms)
-    small = omega (arith, above, pre-length, figure-atoms)
+    small = omega (arith, pre-length, figure-atoms)
 
-    pub tries-start : (cost : List ℕ) → cost ≡ replicate sheetAtoms 0 → Tries sheet figure pre cost 1 0
-    tries-start cost e = record {
+    pub tries-start : (failed : List ℕ) → failed ≡ replicate sheetAtoms 0 → Tries sheet figure pre failed 1 0
+    tries-start failed e = record {
       within = omega arith;
       tried = tried-start S F pre small;
-      failures = λ u h b. h (ap (λ (l : List ℕ). getD l u 0) e ∙ getD-filled {A = ℕ} 0 sheetAtoms u);
+      failures = λ u h b. absurd (let z : _≡_ {A = ℕ} 0 1 = sym (ap (λ (l : List ℕ). getD l u 0) e ∙ getD-filled {A = ℕ} 0 sheetAtoms u) ∙ h in omega arith);
       worked = omega arith;
     }
 
@@ -91,67 +82,93 @@ module _ (sheet figure : form.Normal) (ready : Ready sheet figure) (chosen : Lis
         nothing-found sheet figure r k ∙ sym (tried-end S F pre small (subst (λ (i : ℕ). Tried (testAfter S F pre) (suc i) (restBounds S F pre)) e (u .tried)))
 
     -- the sets keep a sheet atom with which something begins
-    kept : (a l : List ℕ) → KeepsIn sheet figure pre a l → (t : ℕ) → Begun S F (pre ++ (suc t ∷ [])) → mayIn a (figure .«atom_count» - left) t ≡ true
+    kept : (a l : List ℕ) → KeepsIn sheet figure pre a l → (t : ℕ) → Begun S F (pre ++ (suc t ∷ [])) → mayIn a k t ≡ true
     unfolding mayIn
-    kept a l keeps t b = says-eq (getD a ((figure .«atom_count» - left) * sheetAtoms + t) 0) 1 .complete (ap (λ (i : ℕ). getD a i 0) (sym place) ∙ marked)
+    kept a l keeps t b = says-eq (getD a (k * sheetAtoms + t) 0) 1 .complete (ap (λ (i : ℕ). getD a i 0) (sym place) ∙ marked)
       where
         split : b .0 .atomsTo ≡ pre ++ (suc t ∷ b .2 .0)
         split = b .2 .1 ∙ append-assoc pre (suc t ∷ []) (b .2 .0)
 
-        marked : mayAtom a (figure .«atom_count» - left + 1) (atomTo (b .0) (figure .«atom_count» - left + 1))
-        marked = keeps (b .0) (b .1) ((suc t ∷ b .2 .0), split) .atoms (figure .«atom_count» - left + 1) (omega arith, omega (arith, above, figure-atoms))
+        marked : mayAtom a (k + 1) (atomTo (b .0) (k + 1))
+        marked = keeps (b .0) (b .1) ((suc t ∷ b .2 .0), split) .atoms (k + 1) (omega arith, omega (arith, figure-atoms))
 
-        at : atomTo (b .0) (figure .«atom_count» - left + 1) ≡ suc t
-        at = ap (λ (l : List ℕ). numberAt l (figure .«atom_count» - left + 1)) split ∙ ap (λ (k : ℕ). getD (pre ++ (suc t ∷ b .2 .0)) k 0) (let q : figure .«atom_count» - left + 1 - 1 ≡ length pre = omega (arith, pre-length) in q) ∙ getD-append-seam pre (suc t) (b .2 .0) 0
+        at : atomTo (b .0) (k + 1) ≡ suc t
+        at = ap (λ (l : List ℕ). numberAt l (k + 1)) split ∙ ap (λ (i : ℕ). getD (pre ++ (suc t ∷ b .2 .0)) i 0) (let q : k + 1 - 1 ≡ length pre = omega (arith, pre-length) in q) ∙ getD-append-seam pre (suc t) (b .2 .0) 0
 
-        place : (figure .«atom_count» - left + 1 - 1) * sheetAtoms + (atomTo (b .0) (figure .«atom_count» - left + 1) - 1) ≡ (figure .«atom_count» - left) * sheetAtoms + t
-        place = ap₂ (λ (i j : ℕ). i * sheetAtoms + j) (let q : figure .«atom_count» - left + 1 - 1 ≡ figure .«atom_count» - left = omega arith in q) (ap (λ (i : ℕ). i - 1) at ∙ (let q : suc t - 1 ≡ t = omega arith in q))
+        place : (k + 1 - 1) * sheetAtoms + (atomTo (b .0) (k + 1) - 1) ≡ k * sheetAtoms + t
+        place = ap₂ (λ (i j : ℕ). i * sheetAtoms + j) (let q : k + 1 - 1 ≡ k = omega arith in q) (ap (λ (i : ℕ). i - 1) at ∙ (let q : suc t - 1 ≡ t = omega arith in q))
+
+    -- the choice of a sheet atom, as the code writes it
+    next-taken : (t : ℕ) → take (k + 1) (set chosen k t) ≡ pre ++ (t ∷ [])
+    next-taken t = ap (λ (i : ℕ). take i (set chosen k t)) (add-one k) ∙ take-suc-set chosen k t (omega (arith, atoms .room, ready .figure-fit .atom-count))
+
+    next-within : (t : ℕ) → Range (sheet .«atom_count») t → AtomsIn sheet (k + 1) (set chosen k t)
+    next-within t q = record { room = length-set chosen _ _ ∙ atoms .room; within = λ i l. go i l (ℕ-discrete i k) }
+      where
+        go : (i : ℕ) → i < k + 1 → Dec (i ≡ k) → Range (sheet .«atom_count») (getD (set chosen k t) i 0)
+        go i l (yes e) = subst (Range (sheet .«atom_count»)) (sym (ap (λ (j : ℕ). getD (set chosen k t) j 0) e ∙ getD-set-same chosen k t 0 (omega (arith, atoms .room, ready .figure-fit .atom-count)))) q
+        go i l (no e) = subst (Range (sheet .«atom_count»)) (sym (getD-set-other chosen k i t 0 e)) (atoms .within i (omega (arith, e)))
+
+    -- A figure atom that has one candidate goes there.
+    module _ (a l : List ℕ) (keeps : KeepsIn sheet figure pre a l) (t : ℕ) (only : Only a k (sheet .«atom_count») t) (placed : t ≢ 0) where
+      elsewhere : (u : ℕ) → u < sheet .«atom_count» → suc u ≢ t → ¬ Begun S F (pre ++ (suc u ∷ []))
+      elsewhere u h other b = other (only .1 placed u h (kept a l keeps u b))
+
+      up-to : (e : ℕ) → e ≤ sheet .«atom_count» → ((u : ℕ) → u < e → ¬ Begun S F (pre ++ (suc u ∷ []))) → Tried (testAfter S F pre) (suc e) (restBounds S F pre)
+      up-to zero h vain = tried-start S F pre small
+      up-to (suc e) h vain = tried-next S F pre small (suc e) (up-to e (omega arith) (λ u q. vain u (omega arith))) (vain e (omega arith))
+
+      same-after : (o : Option (List ℕ)) → leastAfter S F (pre ++ (t ∷ [])) ≡ o → searchFrom S F (pre ++ (t ∷ [])) ≡ searchFrom S F pre
+      same-after (some l) e =
+          tried-found S F pre small t (omega (arith, only .0, sheet-atoms)) (subst (λ (i : ℕ). Tried (testAfter S F pre) i (restBounds S F pre)) (let q : suc (t - 1) ≡ t = omega (arith, placed) in q) (up-to (t - 1) (omega (arith, only .0)) (λ u h. elsewhere u (omega (arith, only .0)) (λ q. absurd (omega (arith, q)))))) l e
+      same-after none e = ap (behind (pre ++ (t ∷ []))) e ∙ sym (tried-end S F pre small (subst (λ (i : ℕ). Tried (testAfter S F pre) (suc i) (restBounds S F pre)) (sym sheet-atoms) (up-to (sheet .«atom_count») (omega arith) (λ u h. nowhere u h (ℕ-discrete (suc u) t)))))
+        where
+          nowhere : (u : ℕ) → u < sheet .«atom_count» → Dec (suc u ≡ t) → ¬ Begun S F (pre ++ (suc u ∷ []))
+          nowhere u h (yes q) = subst (λ (i : ℕ). ¬ Begun S F (pre ++ (i ∷ []))) (sym q) (none-begun S F (pre ++ (t ∷ [])) e)
+          nowhere u h (no q) = elsewhere u h q
+
+      pub forced-onward : Onward sheet figure a l k chosen (k + 1) (set chosen k t)
+      forced-onward = record {
+        atoms-in = next-within t (omega (arith, placed), only .0);
+        keeps = λ p g s. keeps p g ((t ∷ s .0), s .1 ∙ ap (λ (m : List ℕ). m ++ s .0) (next-taken t) ∙ append-assoc pre (t ∷ []) (s .0));
+        same = ap (searchFrom S F) (next-taken t) ∙ same-after (leastAfter S F (pre ++ (t ∷ []))) refl;
+      }
 
     module _ (failed : List ℕ) (work t : ℕ) (u : Tries sheet figure pre failed work t) (h : t < sheet .«atom_count») where
       more : ¬ Begun S F (pre ++ (suc t ∷ [])) → Tried (testAfter S F pre) (suc (t + 1)) (restBounds S F pre)
       more n = subst (λ (i : ℕ). Tried (testAfter S F pre) (suc i) (restBounds S F pre)) (sym (add-one t)) (tried-next S F pre small (suc t) (u .tried) n)
 
-      pub tries-skip : (a l : List ℕ) → KeepsIn sheet figure pre a l → Skipped sheet a pre failed (figure .«atom_count» - left) t → Tries sheet figure pre failed work (t + 1)
+      pub tries-skip : (a l : List ℕ) → KeepsIn sheet figure pre a l → Skipped a failed k t → Tries sheet figure pre failed work (t + 1)
       tries-skip a l keeps s = record { within = omega arith; tried = more (go s); failures = u .failures; worked = u .worked }
         where
-          go : Skipped sheet a pre failed (figure .«atom_count» - left) t → ¬ Begun S F (pre ++ (suc t ∷ []))
-          go (inl e) b = both-ways (kept a l keeps t b) e
-          go (inr e) b = u .failures (e .by) (e .tried) (e .alike (ready .sheet-normal) F (ready .figure-normal) b)
+          go : Skipped a failed k t → ¬ Begun S F (pre ++ (suc t ∷ []))
+          go (inl e) = u .failures t e
+          go (inr e) = λ b. both-ways (kept a l keeps t b) e
 
-      -- the next choice, as the code writes it
-      abbrev next : List ℕ
-      next = set chosen (figure .«atom_count» - left) (t + 1)
+      pub next-begin : take (k + 1) (set chosen k (t + 1)) ≡ pre ++ (suc t ∷ [])
+      next-begin = next-taken (t + 1) ∙ ap (λ (i : ℕ). pre ++ (i ∷ [])) (add-one t)
 
-      pub next-begin : take (figure .«atom_count» - (left - 1)) next ≡ pre ++ (suc t ∷ [])
-      next-begin =
-          let k : figure .«atom_count» - (left - 1) ≡ suc (figure .«atom_count» - left) = omega (arith, above) in
-          ap (λ (i : ℕ). take i next) k ∙ take-suc-set chosen (figure .«atom_count» - left) (t + 1) (omega (arith, above, atoms .room, ready .figure-fit .atom-count)) ∙ ap (λ (i : ℕ). pre ++ (i ∷ [])) (add-one t)
+      pub next-atoms : AtomsIn sheet (k + 1) (set chosen k (t + 1))
+      next-atoms = next-within (t + 1) (omega arith, omega arith)
 
-      pub next-atoms : AtomsIn sheet (figure .«atom_count» - (left - 1)) next
-      next-atoms = record { room = length-set chosen _ _ ∙ atoms .room; within = λ i l. go i l (ℕ-discrete i (figure .«atom_count» - left)) }
-        where
-          go : (i : ℕ) → i < figure .«atom_count» - (left - 1) → Dec (i ≡ figure .«atom_count» - left) → Range (sheet .«atom_count») (getD next i 0)
-          go i l (yes e) = subst (Range (sheet .«atom_count»)) (sym (ap (λ (j : ℕ). getD next j 0) e ∙ getD-set-same chosen (figure .«atom_count» - left) (t + 1) 0 (omega (arith, above, atoms .room, ready .figure-fit .atom-count)))) (omega arith, omega arith)
-          go i l (no e) = subst (Range (sheet .«atom_count»)) (sym (getD-set-other chosen (figure .«atom_count» - left) i (t + 1) 0 e)) (atoms .within i (omega (arith, above, e)))
-
-      module _ (r : Found) (e : foundIn sheet figure r ≡ searchFrom S F (take (figure .«atom_count» - (left - 1)) next)) where
+      module _ (r : Found) (e : foundIn sheet figure r ≡ searchFrom S F (take (k + 1) (set chosen k (t + 1)))) where
         found-next : foundIn sheet figure r ≡ searchFrom S F (pre ++ (suc t ∷ []))
         found-next = e ∙ ap (searchFrom S F) next-begin
 
         pub tries-hit : r .ok ≡ true → foundIn sheet figure r ≡ searchFrom S F pre
-        tries-hit k =
-            let l = some-found (foundList sheet figure r) (r .ok) (pre ++ (suc t ∷ [])) (leastAfter S F (pre ++ (suc t ∷ []))) found-next k in
+        tries-hit q =
+            let l = some-found (foundList sheet figure r) (r .ok) (pre ++ (suc t ∷ [])) (leastAfter S F (pre ++ (suc t ∷ []))) found-next q in
             found-next ∙ tried-found S F pre small (suc t) (omega (arith, sheet-atoms)) (u .tried) (l .0) (l .1)
 
-        pub tries-miss : r .ok ≡ false → (cost spent : ℕ) → 1 ≤ spent → Tries sheet figure pre (set failed t cost) spent (t + 1)
-        tries-miss k cost spent w = record { within = omega arith; tried = more n; failures = λ v c. go v c (ℕ-discrete v t); worked = w }
+        pub tries-miss : r .ok ≡ false → (marked : List ℕ) → Excuses sheet pre t failed marked → (spent : ℕ) → 1 ≤ spent → Tries sheet figure pre marked spent (t + 1)
+        tries-miss q marked excuses spent w = record { within = omega arith; tried = more n; failures = λ v c. go v (excuses v c); worked = w }
           where
             n : ¬ Begun S F (pre ++ (suc t ∷ []))
-            n = none-begun S F (pre ++ (suc t ∷ [])) (none-found (foundList sheet figure r) (r .ok) (pre ++ (suc t ∷ [])) (leastAfter S F (pre ++ (suc t ∷ []))) found-next k)
+            n = none-begun S F (pre ++ (suc t ∷ [])) (none-found (foundList sheet figure r) (r .ok) (pre ++ (suc t ∷ [])) (leastAfter S F (pre ++ (suc t ∷ []))) found-next q)
 
-            go : (v : ℕ) → getD (set failed t cost) v 0 ≢ 0 → Dec (v ≡ t) → ¬ Begun S F (pre ++ (suc v ∷ []))
-            go v c (yes q) = subst (λ (i : ℕ). ¬ Begun S F (pre ++ (suc i ∷ []))) (sym q) n
-            go v c (no q) = u .failures v (λ z. c (getD-set-other failed t v cost 0 q ∙ z))
+            go : (v : ℕ) → (getD failed v 0 ≡ 1) ⊎ Follows S pre (suc t) (suc v) → ¬ Begun S F (pre ++ (suc v ∷ []))
+            go v (inl c) = u .failures v c
+            go v (inr f) = λ b. n (f (ready .sheet-normal) F (ready .figure-normal) b)
 
 -- What choosing promises, for the sheet and figure at hand.
 pub choice-kept : (sheet figure : form.Normal) → Ready sheet figure → (k t : ℕ) → k < figure .«atom_count» → (a b l : List ℕ)

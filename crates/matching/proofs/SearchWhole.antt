@@ -1,6 +1,6 @@
 -- The search from the beginning gives the smallest good placing.
-use Prim.Native.Nat.{ℕ, _-_}
-use mathlib.Core.Path.{_≡_, refl, ap, sym, _∙_, subst}
+use Prim.Native.Nat.{ℕ}
+use mathlib.Core.Path.{_≡_, refl, ap, sym, _∙_}
 use mathlib.Core.List.{List, []}
 use mathlib.Core.Bool.{Bool, true, false}
 use mathlib.Core.Option.{Option, none, some}
@@ -17,7 +17,7 @@ use Rattle.network.specs.NetIn.{netIn}
 use Rattle.network.specs.Begun.{leastAfter}
 use Rattle.network.proofs.NetIn.{atoms-length}
 use Rattle.network.specs.Ready.{Ready, AtomsIn}
-use Rattle.matching.specs.Search.{KeepsIn, behind, searchFrom, foundList, foundIn, placedIn}
+use Rattle.matching.specs.Search.{behind, searchFrom, foundList, foundIn, placedIn}
 use Rattle.matching.specs.declared.search.Found.{Found}
 
 behind-nothing : (o : Option (List ℕ)) → behind [] o ≡ o
@@ -25,14 +25,8 @@ behind-nothing none = refl
 behind-nothing (some l) = refl
 
 -- nothing is chosen yet
-none-chosen : (n : ℕ) (chosen : List ℕ) → take (n - n) chosen ≡ []
-none-chosen n chosen = ap (λ (k : ℕ). take k chosen) (let e : n - n ≡ 0 = omega arith in e)
-
-pub no-atoms : (sheet : form.Normal) (n : ℕ) (chosen : List ℕ) → length chosen ≡ sheetAtoms → AtomsIn sheet (n - n) chosen
-no-atoms sheet n chosen e = record { room = e; within = λ i h. absurd (omega arith) }
-
-pub keeps-start : (sheet figure : form.Normal) (n : ℕ) (chosen a l : List ℕ) → KeepsIn sheet figure [] a l → KeepsIn sheet figure (take (n - n) chosen) a l
-keeps-start sheet figure n chosen a l k = subst (λ (pre : List ℕ). KeepsIn sheet figure pre a l) (sym (none-chosen n chosen)) k
+pub no-atoms : (sheet : form.Normal) (chosen : List ℕ) → length chosen ≡ sheetAtoms → AtomsIn sheet 0 chosen
+no-atoms sheet chosen e = record { room = e; within = λ i h. absurd (omega arith) }
 
 module _ (sheet figure : form.Normal) (ready : Ready sheet figure) (r : Found) (atoms : length (r .«atoms_to») ≡ sheetAtoms) (links : length (r .«links_to») ≡ sheetLinks) where
   abbrev parts : Placing
@@ -51,9 +45,6 @@ module _ (sheet figure : form.Normal) (ready : Ready sheet figure) (r : Found) (
       go true = ap some (sym parts-list)
       go false = refl
 
-  pub placed-smallest : (chosen : List ℕ) → foundIn sheet figure r ≡ searchFrom (netIn sheet) (netIn figure) (take (figure .«atom_count» - figure .«atom_count») chosen)
-      → placedIn sheet figure r ≡ smallest (netIn sheet) (netIn figure)
+  pub placed-smallest : foundIn sheet figure r ≡ searchFrom (netIn sheet) (netIn figure) [] → placedIn sheet figure r ≡ smallest (netIn sheet) (netIn figure)
   unfolding smallest
-  placed-smallest chosen e =
-      placed-found
-      ∙ ap (placingIn (netIn sheet) (netIn figure)) (e ∙ ap (searchFrom (netIn sheet) (netIn figure)) (none-chosen (figure .«atom_count») chosen) ∙ behind-nothing (leastAfter (netIn sheet) (netIn figure) []))
+  placed-smallest e = placed-found ∙ ap (placingIn (netIn sheet) (netIn figure)) (e ∙ behind-nothing (leastAfter (netIn sheet) (netIn figure) []))

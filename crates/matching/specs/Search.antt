@@ -1,5 +1,5 @@
 -- The recursive search: what it gives.
-use Prim.Native.Nat.{ℕ, suc, _+_, _*_, _<_}
+use Prim.Native.Nat.{ℕ, suc, _+_, _*_, _<_, _≤_}
 use mathlib.Core.Path.{_≡_}
 use mathlib.Core.Logic.{_≢_, _⊎_}
 use mathlib.Core.List.{List, _++_}
@@ -14,6 +14,7 @@ use Rattle.placing.specs.Net.{Net}
 use Rattle.placing.specs.Placing.{Placing}
 use Rattle.network.specs.NetIn.{netIn}
 use Rattle.network.specs.Begun.{Begun, leastAfter}
+use Rattle.network.specs.Ready.{Ready, AtomsIn}
 use Rattle.narrowing.specs.Sets.{Keeps}
 use Rattle.narrowing.specs.Tables.{mayAtom, mayLink}
 use Rattle.symmetry.specs.Follows.{Follows}
@@ -40,20 +41,21 @@ abbrev pub placedIn : form.Normal → form.Normal → Found → Option Placing
 placedIn sheet figure r =
     pick (r .ok) (some (record { atomsTo = take (figure .«atom_count») (r .«atoms_to»); linksTo = take (figure .«class_count») (r .«links_to»); given = take (sheet .«atom_count») (r .given) })) none
 
--- a candidate that failed, and with which nothing begins that does not begin with it
-pub record Excused (sheet : form.Normal) (pre failed : List ℕ) (u : ℕ) : Type 0 where
-  pub by : ℕ
-  pub earlier : by < u
-  pub tried : getD failed by 0 ≢ 0
-  pub alike : Follows (netIn sheet) pre (suc by) (suc u)
-
 -- figure atom k may go to sheet atom t, both counted from 0, by the table of the sets
 unfoldable pub mayIn : List ℕ → ℕ → ℕ → Bool
 mayIn atoms k t = eqb (getD atoms (k * sheetAtoms + t) 0) 1
 
--- a candidate that is not in the sets, or is excused
-abbrev pub Skipped : form.Normal → List ℕ → List ℕ → List ℕ → ℕ → ℕ → Type 0
-Skipped sheet atoms pre failed k t = (mayIn atoms k t ≡ false) ⊎ Excused sheet pre failed t
+-- a candidate that is known to fail, or is not in the sets
+abbrev pub Skipped : List ℕ → List ℕ → ℕ → ℕ → Type 0
+Skipped atoms failed k t = (getD failed t 0 ≡ 1) ⊎ (mayIn atoms k t ≡ false)
+
+-- After the choices pre, what has a 1 in the second list has one in the first, or fails as surely as t.
+abbrev pub Excuses : form.Normal → List ℕ → ℕ → List ℕ → List ℕ → Type 0
+Excuses sheet pre t failed next = (u : ℕ) → getD next u 0 ≡ 1 → (getD failed u 0 ≡ 1) ⊎ Follows (netIn sheet) pre (suc t) (suc u)
+
+-- Sheet atom r, counted from 1, is the only one of the first n that figure atom k may go to, or r is 0.
+abbrev pub Only : List ℕ → ℕ → ℕ → ℕ → Type 0
+Only atoms k n r = (r ≤ n) × (r ≢ 0 → (t : ℕ) → t < n → mayIn atoms k t ≡ true → suc t ≡ r)
 
 -- every good placing that begins so stays in the sets
 abbrev pub KeepsIn : form.Normal → form.Normal → (pre atoms links : List ℕ) → Type 0
@@ -63,3 +65,16 @@ KeepsIn sheet figure pre atoms links = Keeps (netIn sheet) (netIn figure) pre (m
 pub record Kept (sheet figure : form.Normal) (pre atoms links : List ℕ) (lost : Bool) : Type 0 where
   pub keeps : KeepsIn sheet figure pre atoms links
   pub none : lost ≡ true → ¬ Begun (netIn sheet) (netIn figure) pre
+
+-- The first r figure atoms are placed, where k were: the sets are kept, and the smallest good placing is the same.
+pub record Onward (sheet figure : form.Normal) (atoms links : List ℕ) (k : ℕ) (chosen : List ℕ) (r : ℕ) (placed : List ℕ) : Type 0 where
+  pub atoms-in : AtomsIn sheet r placed
+  pub keeps : KeepsIn sheet figure (take r placed) atoms links
+  pub same : searchFrom (netIn sheet) (netIn figure) (take r placed) ≡ searchFrom (netIn sheet) (netIn figure) (take k chosen)
+
+-- so for every sheet of n atoms and figure of m whose sets these are
+pub record Forward (atoms : List ℕ) (n m k : ℕ) (chosen : List ℕ) (r : ℕ) (placed : List ℕ) : Type 0 where
+  pub after : k ≤ r
+  pub within : r ≤ m
+  pub onward : (sheet figure : form.Normal) (links : List ℕ) → Ready sheet figure → sheet .«atom_count» ≡ n → figure .«atom_count» ≡ m → AtomsIn sheet k chosen → KeepsIn sheet figure (take k chosen) atoms links
+      → Onward sheet figure atoms links k chosen r placed

@@ -1,4 +1,5 @@
 // Finding a figure in a sheet.
 mod colours;
 mod excuse;
+mod forced;
 pub mod search;

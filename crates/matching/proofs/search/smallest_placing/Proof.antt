@@ -1,9 +1,9 @@
 -- `search::smallest_placing` meets its contract: the search from the beginning. Assumes nothing.
-use Rattle.matching.proofs.SearchWhole.{keeps-start, no-atoms, placed-smallest}
+use Rattle.matching.proofs.SearchWhole.{no-atoms, placed-smallest}
 use Rattle.matching.proofs.SearchTurns.{nothing-begun, narrow-kept}
-use Prim.Native.Nat.{ℕ, _-_}
-use mathlib.Core.List.{List}
-use lib.ListN.{take, replicate}
+use Prim.Native.Nat.{ℕ}
+use mathlib.Core.List.{List, []}
+use lib.ListN.{replicate}
 use Rattle.rows.specs.Limits.{sheetAtoms}
 use Rattle.narrowing.specs.Laid.{LaidOut}
 use Rattle.narrowing.proofs.Laying.{laid-rowed}
@@ -32,11 +32,10 @@ returns : tie.Need-returns
 returns c =
     let b = c .before .before .before .before .before .before .before .before .before .before .before .before .before in
     let s = c .before .before .before .before .start in
-    let n = b .args .figure .«atom_count» in
     let chosen : List ℕ = replicate sheetAtoms 0 in
-    placed-smallest (b .args .sheet) (b .args .figure) (b .pre) (c .nothing .result) (search (needs, c .nothing .ok)) (search (needs, c .nothing .ok)) chosen
-    (nothing-begun (b .args .sheet) (b .args .figure) (b .pre) chosen n (omega arith) (no-atoms (b .args .sheet) n chosen refl)
-    (c .before .before .mark-lost .ensures (c .before .if1 .taken) (take (n - n) chosen) (s .last .1 .1 .1 .1 .0) (keeps-start (b .args .sheet) (b .args .figure) n chosen (s .last .1 .1 .1 .1 .0) (s .last .1 .1 .1 .1 .1 .0) (s .ensures))) (c .nothing .result) (c .nothing .ensures))
+    placed-smallest (b .args .sheet) (b .args .figure) (b .pre) (c .nothing .result) (search (needs, c .nothing .ok)) (search (needs, c .nothing .ok))
+    (nothing-begun (b .args .sheet) (b .args .figure) (b .pre) chosen 0 (omega arith) (no-atoms (b .args .sheet) chosen refl)
+    (c .before .before .mark-lost .ensures (c .before .if1 .taken) [] (s .last .1 .1 .1 .1 .0) (s .ensures)) (c .nothing .result) (c .nothing .ensures))
 
 narrow-requires : tie.Need-narrow-requires
 narrow-requires c κs =
@@ -48,13 +47,12 @@ search-requires c κs =
     let b = c .before .before .before .before .before .before .before .before .before .before .before .before .before .before .before .before .before .before .before .before .before .before in
     let s = c .before .before .before .before .before .before .before .before .before .before .before .before .before .start in
     let w = c .before .before .before .before .narrow in
-    let n = b .args .figure .«atom_count» in
     let os : LaidOut (b .args .sheet) (c .before .before .before .before .before .before .before .before .before .before .before .before .before .before .before .before .before .before .before .before .lay .last .1 .0) (b .args .sheet .«atom_count») = record { count = refl; fit = b .pre .sheet-fit; normal = b .pre .sheet-normal; atoms = c .before .before .before .before .before .before .before .before .before .before .before .before .before .before .before .before .before .before .before .before .lay .ensures } in
-    let of : LaidOut (b .args .figure) (c .before .before .before .before .before .before .before .before .before .before .before .before .before .before .before .before .before .before .lay2 .last .1 .0) n = record { count = refl; fit = b .pre .figure-fit; normal = b .pre .figure-normal; atoms = c .before .before .before .before .before .before .before .before .before .before .before .before .before .before .before .before .before .before .lay2 .ensures } in (
+    let of : LaidOut (b .args .figure) (c .before .before .before .before .before .before .before .before .before .before .before .before .before .before .before .before .before .before .lay2 .last .1 .0) (b .args .figure .«atom_count») = record { count = refl; fit = b .pre .figure-fit; normal = b .pre .figure-normal; atoms = c .before .before .before .before .before .before .before .before .before .before .before .before .before .before .before .before .before .before .lay2 .ensures } in (
       b .pre,
       omega arith,
-      no-atoms (b .args .sheet) n _ refl,
-      narrow-kept (b .args .sheet) (b .args .figure) _ _ _ _ os of _ (s .last .1 .1 .1 .1 .0) (s .last .1 .1 .1 .1 .1 .0) _ _ (w .result) (w .ensures .0) (w .ensures .1) (keeps-start (b .args .sheet) (b .args .figure) n _ (s .last .1 .1 .1 .1 .0) (s .last .1 .1 .1 .1 .1 .0) (s .ensures)),
+      no-atoms (b .args .sheet) _ refl,
+      narrow-kept (b .args .sheet) (b .args .figure) _ _ _ _ os of _ (s .last .1 .1 .1 .1 .0) (s .last .1 .1 .1 .1 .1 .0) _ _ (w .result) (w .ensures .0) (w .ensures .1) (s .ensures),
       os,
       of,
     )
@@ -62,7 +60,7 @@ search-requires c κs =
 returns-2 : tie.Need-returns-2
 returns-2 c =
     let b = c .before .before .before .before .before .before .before .before .before .before .before .before .before .before .before .before .before .before .before .before .before .before .before in
-    placed-smallest (b .args .sheet) (b .args .figure) (b .pre) (c .search .result) (search (needs, c .search .ok)) (search (needs, c .search .ok)) _ (c .search .ensures)
+    placed-smallest (b .args .sheet) (b .args .figure) (b .pre) (c .search .result) (search (needs, c .search .ok)) (search (needs, c .search .ok)) (c .search .ensures)
 
 pub smallest-placing-spec : {M : Type 1} → statement M
 smallest-placing-spec =

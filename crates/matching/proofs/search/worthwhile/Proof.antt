@@ -1,22 +1,21 @@
--- `search::worthwhile` meets its contract: what is turned down is not in the sets, or is excused. Assumes nothing.
-use borrow.Author.Tests.{not-true, not-false}
+-- What is turned down is known to fail, or is not in the sets.
+use borrow.Author.Needs.{needs}
 use mathlib.Core.Path.{sym, _∙_}
 use mathlib.Core.Logic.{inl, inr}
-use native.Mathlib.Omega.{arith}
 use Rattle.matching.proofs.search.worthwhile.Statement.{statement}
 use Rattle.matching.proofs.search.worthwhile.Tie as tie
 
-may-requires : tie.Need-may-requires
-may-requires c κs = (c .pre .1, omega (arith, c .pre .0 .atom-count))
+element-copy-out-if1 : tie.Need-element-copy-out-if1
+element-copy-out-if1 c = search needs
 
 returns : tie.Need-returns
-returns c e = inl (sym (c .before .may .ensures) ∙ not-true _ (c .if1 .taken))
+returns c e = inl (c .if1 .taken)
 
-excused-requires : tie.Need-excused-requires
-excused-requires c κs = (c .before .before .pre .0, omega (arith, c .before .before .pre .1), c .before .before .pre .2)
+may-requires : tie.Need-may-requires
+may-requires c κs = search needs
 
 returns-2 : tie.Need-returns-2
-returns-2 c e = inr (c .excused .ensures (not-false _ e))
+returns-2 c e = inr (sym (c .may .ensures) ∙ e)
 
 pub worthwhile-spec : {M : Type 1} → statement M
-worthwhile-spec = tie.close (tie.spec may-requires returns excused-requires returns-2)
+worthwhile-spec = tie.close (tie.spec element-copy-out-if1 returns may-requires returns-2)

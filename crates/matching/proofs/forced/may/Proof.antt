@@ -1,8 +1,8 @@
--- `search::may` meets its contract. Assumes nothing.
+-- `forced::may` meets its contract. Assumes nothing.
 use borrow.Author.Needs.{needs}
 use Rattle.matching.specs.Search.{mayIn}
-use Rattle.matching.proofs.search.may.Statement.{statement}
-use Rattle.matching.proofs.search.may.Tie as tie
+use Rattle.matching.proofs.forced.may.Statement.{statement}
+use Rattle.matching.proofs.forced.may.Tie as tie
 
 mul-result : tie.Need-mul-result
 mul-result c = search needs
