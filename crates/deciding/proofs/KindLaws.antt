@@ -16,23 +16,29 @@ use Rattle.network.proofs.NetIn.{used-length, used-at, used-in, context-of}
 use Rattle.deciding.specs.Flags.{Among}
 use Rattle.deciding.specs.Links.{Places}
 use Rattle.deciding.specs.Kinds.{StandingIn, doubledBy, Doubled, twoTo, KindsTo, KindsIn}
-use Rattle.deciding.proofs.Sets.{set-cases}
+use Rattle.deciding.proofs.Sets.{set-cases, below-or}
 
-pub doubled-next : (kinds flags next : List ℕ) → length next ≡ sheetLinks → (x : ℕ) → x < sheetLinks → ((z : ℕ) → z < x → getD next z 0 ≡ doubledBy kinds flags z)
-    → (v : ℕ) → v ≡ getD flags x 0
-    → (length (set next x (getD kinds x 0 + getD kinds x 0 + v)) ≡ sheetLinks) × ((z : ℕ) → z < x + 1 → getD (set next x (getD kinds x 0 + getD kinds x 0 + v)) z 0 ≡ doubledBy kinds flags z)
-doubled-next kinds flags next room x h below v e = (
-  length-set next x w ∙ room,
-  λ z k. set-cases (λ (u : ℕ). u ≡ doubledBy kinds flags z) next x w z (omega arith)
-      (λ f. ap (λ (u : ℕ). getD kinds x 0 + getD kinds x 0 + u) e ∙ ap (λ (i : ℕ). doubledBy kinds flags i) (sym f)) (λ f. below z (apart z k f (decLt z x))),
-)
+-- numbers that are doubled in place: those before x are done
+pub record Doubling (l flags : List ℕ) (x : ℕ) (r : List ℕ) : Type 0 where
+  pub room : length r ≡ sheetLinks
+  pub done : (z : ℕ) → z < x → getD r z 0 ≡ doubledBy l flags z
+  pub rest : (z : ℕ) → x ≤ z → getD r z 0 ≡ getD l z 0
+
+pub doubling-next : (l flags r : List ℕ) (x : ℕ) → x < sheetLinks → Doubling l flags x r → (v : ℕ) → v ≡ getD flags x 0 → Doubling l flags (x + 1) (set r x (getD r x 0 + getD r x 0 + v))
+doubling-next l flags r x h d v e = record {
+  room = length-set r x w ∙ d .room;
+  done = λ z k. set-cases (λ (u : ℕ). u ≡ doubledBy l flags z) r x w z fits (λ f. here ∙ ap (doubledBy l flags) (sym f)) (λ f. d .done z (below-or z x (omega arith) f));
+  rest = λ z k. set-cases (λ (u : ℕ). u ≡ getD l z 0) r x w z fits (λ f. absurd (omega arith)) (λ f. d .rest z (omega arith));
+}
   where
     w : ℕ
-    w = getD kinds x 0 + getD kinds x 0 + v
+    w = getD r x 0 + getD r x 0 + v
 
-    apart : (z : ℕ) → z < x + 1 → ¬ (z ≡ x) → Dec (z < x) → z < x
-    apart z k f (yes u) = u
-    apart z k f (no u) = absurd (f (omega arith))
+    fits : x < length r
+    fits = omega (arith, d .room)
+
+    here : getD r x 0 + getD r x 0 + v ≡ doubledBy l flags x
+    here = omega (arith, d .rest x (omega arith))
 
 -- two to the power of c grows
 pub two-more : (c d : ℕ) → c ≤ d → twoTo c ≤ twoTo d

@@ -57,11 +57,11 @@ pub record Judges (sheet figure : form.Normal) (atoms : List ℕ) (holds : Type 
   pub passed : r ≡ true → holds
   pub refused : r ≡ false → NoneWith (netIn sheet) (netIn figure) (take (figure .«atom_count») atoms)
 
-abbrev pub AtomsPut : form.Normal → form.Normal → List ℕ → Links → Type 0
-AtomsPut sheet figure atoms r = Judges sheet figure atoms (Told sheet figure atoms (r .to) × AtomsAgree sheet figure atoms (r .to)) (r .ok)
+abbrev pub AtomsPut : form.Normal → form.Normal → List ℕ → List ℕ → Bool → Type 0
+AtomsPut sheet figure atoms to ok = Judges sheet figure atoms (Told sheet figure atoms to × AtomsAgree sheet figure atoms to) ok
 
-abbrev pub MarksPut : form.Normal → form.Normal → List ℕ → Links → Type 0
-MarksPut sheet figure atoms r = Judges sheet figure atoms (Told sheet figure atoms (r .to) × AtomsAgree sheet figure atoms (r .to) × MarksAgree sheet figure (r .to)) (r .ok)
+abbrev pub MarksPut : form.Normal → form.Normal → List ℕ → List ℕ → Bool → Type 0
+MarksPut sheet figure atoms to ok = Judges sheet figure atoms (Told sheet figure atoms to × AtomsAgree sheet figure atoms to × MarksAgree sheet figure to) ok
 
 -- all of them
 pub record Agrees (sheet figure : form.Normal) (atoms to : List ℕ) : Type 0 where

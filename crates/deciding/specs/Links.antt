@@ -3,7 +3,7 @@ use Prim.Native.Nat.{ℕ, suc, _≤_, _<_}
 use mathlib.Core.Path.{_≡_}
 use mathlib.Core.Logic.{_≢_, _⊎_}
 use mathlib.Core.List.{List}
-use mathlib.Core.Bool.{true, false}
+use mathlib.Core.Bool.{Bool, true, false}
 use lib.ListN.{length, take, getD, set}
 use Rattle.rows.specs.Format.{mostLinks}
 use Rattle.rows.specs.Limits.{sheetLinks}
@@ -12,16 +12,15 @@ use Rattle.placing.specs.Net.{Net, Range}
 use Rattle.placing.specs.Placing.{Placing, numberAt, linkTo, Good}
 use Rattle.network.specs.NetIn.{netIn}
 use Rattle.completing.specs.Completion.{Open}
-use Rattle.deciding.specs.declared.links.Links.{Links}
 
 -- link x, from 0, is put at y, where nothing else stood
 pub record Enters (to : List ℕ) (x y : ℕ) (r : List ℕ) : Type 0 where
   pub at : (getD to x 0 ≡ 0) ⊎ (getD to x 0 ≡ y)
   pub is : r ≡ set to x y
 
-pub record Entered (to : List ℕ) (x y : ℕ) (r : Links) : Type 0 where
-  pub done : r .ok ≡ true → Enters to x y (r .to)
-  pub clash : r .ok ≡ false → (getD to x 0 ≢ 0) × (getD to x 0 ≢ y)
+pub record Entered (to : List ℕ) (x y : ℕ) (r : List ℕ) (ok : Bool) : Type 0 where
+  pub done : ok ≡ true → Enters to x y r
+  pub clash : ok ≡ false → (getD to x 0 ≢ 0) × (getD to x 0 ≢ y)
 
 -- the first `count` are numbers of links
 pub record Places (count : ℕ) (a : List ℕ) : Type 0 where
@@ -53,9 +52,9 @@ pub record Clash (to a b : List ℕ) (count : ℕ) : Type 0 where
   pub first-from : (first ≡ getD to link 0) ⊎ AcrossFrom a b count link first
   pub second-from : AcrossFrom a b count link second
 
-pub record PlacesPut (to a b : List ℕ) (count : ℕ) (r : Links) : Type 0 where
-  pub done : r .ok ≡ true → PlacesIn to a b count (r .to)
-  pub clash : r .ok ≡ false → Clash to a b count
+pub record PlacesPut (to a b : List ℕ) (count : ℕ) (r : List ℕ) (ok : Bool) : Type 0 where
+  pub done : ok ≡ true → PlacesIn to a b count r
+  pub clash : ok ≡ false → Clash to a b count
 
 -- figure link x is not open, and goes to y in every good placing with the atoms l
 pub record Tells (S F : Net) (l : List ℕ) (x y : ℕ) : Type 0 where

@@ -12,13 +12,9 @@ pub fn links_of(sheet: Normal, figure: Normal, atoms_to: [u16; Sheet::ATOMS]) ->
     requires { ⌜ Ready sheet figure × AtomsIn sheet (figure .«atom_count») «atoms_to» ⌝ }
     ensures { λ r. ⌜ AllPut sheet figure «atoms_to» r ⌝ }
 {
-    let by_atoms = put_atoms(sheet, figure, atoms_to, [0; Sheet::LINKS]);
-    if !by_atoms.ok {
-        return by_atoms;
-    }
-    let to = by_atoms.to;
-    if !marks_back(sheet, figure) {
-        return Links { ok: false, to };
-    }
-    put_marks(sheet, figure, to)
+    let mut to = [0u16; Sheet::LINKS];
+    let ok = put_atoms(sheet, figure, &atoms_to, &mut to)
+        && marks_back(sheet, figure)
+        && put_marks(sheet, figure, &mut to);
+    Links { ok, to }
 }

@@ -2,6 +2,8 @@
 use rows::Sheet;
 use sheet::normal::Normal;
 ghost use Prim.Native.Nat.{_<_};
+ghost use mathlib.Core.Path.{_≡_};
+ghost use lib.ListN.{length};
 ghost use Rattle.rows.specs.Limits.{sheetLinks};
 ghost use Rattle.network.specs.Ready.{Ready, AtomsIn};
 ghost use Rattle.deciding.specs.Links.{Entered, Told, Places, PlacesPut};
@@ -13,86 +15,68 @@ pub struct Links {
     pub to: [u16; Sheet::LINKS],
 }
 
-// Link x, from 0, at y.
-pub(crate) fn enter(to: [u16; Sheet::LINKS], x: usize, y: u16) -> Links
+// Link x, from 0, at y; false where it is elsewhere.
+pub(crate) fn enter(to: &mut [u16; Sheet::LINKS], x: usize, y: u16) -> bool
     requires { ⌜ x < sheetLinks ⌝ }
-    ensures { λ r. ⌜ Entered to x y r ⌝ }
+    ensures { λ r. ⌜ Entered (now (to .entry)) x y (now (to .exit)) r ⌝ }
 {
-    let mut next = to;
-    let at = next[x];
+    let at = to[x];
     if at != 0 {
         if at != y {
-            return Links {
-                ok: false,
-                to: next,
-            };
+            return false;
         }
     }
-    next[x] = y;
-    Links { ok: true, to: next }
+    to[x] = y;
+    true
 }
 
-// The first `count` links of a, place by place, at those of b.
+// The first `count` links of a, place by place, at those of b; false where two places disagree.
 fn put_places(
-    to: [u16; Sheet::LINKS],
+    to: &mut [u16; Sheet::LINKS],
     a: [u16; Sheet::MOST_LINKS],
     b: [u16; Sheet::MOST_LINKS],
     count: usize,
-) -> Links
-    requires { ⌜ Places count a × Places count b ⌝ }
-    ensures { λ r. ⌜ PlacesPut to a b count r ⌝ }
+) -> bool
+    requires { ⌜ Places count a × Places count b × (length (now to) ≡ sheetLinks) ⌝ }
+    ensures { λ r. ⌜ PlacesPut (now (to .entry)) a b count (now (to .exit)) r ⌝ }
 {
-    let mut next = to;
     let mut k = 0;
     while k < count {
-        let entered = enter(next, (a[k] - 1) as usize, b[k]);
-        if !entered.ok {
-            return entered;
+        if !enter(&mut *to, (a[k] - 1) as usize, b[k]) {
+            return false;
         }
-        let with = entered.to;
-        next = with;
         k += 1;
     }
-    Links { ok: true, to: next }
+    true
 }
 
 // The links of the figure atoms, where names and link counts agree too.
 pub(crate) fn put_atoms(
     sheet: Normal,
     figure: Normal,
-    atoms_to: [u16; Sheet::ATOMS],
-    to: [u16; Sheet::LINKS],
-) -> Links
-    requires { ⌜ Ready sheet figure × AtomsIn sheet (figure .«atom_count») «atoms_to» × Told sheet figure «atoms_to» to ⌝ }
-    ensures { λ r. ⌜ AtomsPut sheet figure «atoms_to» r ⌝ }
+    atoms_to: &[u16; Sheet::ATOMS],
+    to: &mut [u16; Sheet::LINKS],
+) -> bool
+    requires { ⌜ Ready sheet figure × AtomsIn sheet (figure .«atom_count») (now «atoms_to») × Told sheet figure (now «atoms_to») (now to) ⌝ }
+    ensures { λ r. ⌜ AtomsPut sheet figure (now («atoms_to» .entry)) (now (to .exit)) r ⌝ }
 {
-    let mut next = to;
     let mut i = 0;
     while i < figure.atom_count {
         let t = (atoms_to[i] - 1) as usize;
         let a = figure.atoms[i];
         let b = sheet.atoms[t];
         if a.name != b.name {
-            return Links {
-                ok: false,
-                to: next,
-            };
+            return false;
         }
         if a.count != b.count {
-            return Links {
-                ok: false,
-                to: next,
-            };
+            return false;
         }
         let x = a.links;
         let y = b.links;
-        let placed = put_places(next, x, y, a.count as usize);
-        if !placed.ok {
-            return placed;
+        if !put_places(&mut *to, x, y, a.count as usize) {
+            return false;
         }
-        let with = placed.to;
-        next = with;
         i += 1;
     }
-    Links { ok: true, to: next }
+    true
 }

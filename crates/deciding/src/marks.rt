@@ -1,5 +1,4 @@
 // The figure links that the marks decide.
-use crate::links::Links;
 use crate::links::enter;
 use rows::Sheet;
 use sheet::normal::Normal;
@@ -11,9 +10,9 @@ ghost use Rattle.deciding.specs.Links.{Told};
 ghost use Rattle.deciding.specs.Agrees.{PlaceOf, AtomsAgree, MarksBack, Judges, MarksPut};
 
 // The index of a mark among the first `count`, or `count`.
-fn place_of(marks: [u16; Sheet::MARK_ROOM], count: usize, mark: u16) -> usize
+fn place_of(marks: &[u16; Sheet::MARK_ROOM], count: usize, mark: u16) -> usize
     requires { ⌜ count ≤ sheetMarks ⌝ }
-    ensures { λ r. ⌜ PlaceOf marks count mark r ⌝ }
+    ensures { λ r. ⌜ PlaceOf (now (marks .entry)) count mark r ⌝ }
 {
     let mut i = 0;
     while i < count {
@@ -26,30 +25,22 @@ fn place_of(marks: [u16; Sheet::MARK_ROOM], count: usize, mark: u16) -> usize
 }
 
 // The figure's marks are on the sheet, and their links go to those of the sheet's marks.
-pub(crate) fn put_marks(sheet: Normal, figure: Normal, to: [u16; Sheet::LINKS]) -> Links
+pub(crate) fn put_marks(sheet: Normal, figure: Normal, to: &mut [u16; Sheet::LINKS]) -> bool
     requires { ⌜ Ready sheet figure ⌝ }
-    ensures { λ r. ⌜ ((atoms : List ℕ) → AtomsIn sheet (figure .«atom_count») atoms → Told sheet figure atoms to → AtomsAgree sheet figure atoms to → MarksPut sheet figure atoms r) ⌝ }
+    ensures { λ r. ⌜ ((atoms : List ℕ) → AtomsIn sheet (figure .«atom_count») atoms → Told sheet figure atoms (now (to .entry)) → AtomsAgree sheet figure atoms (now (to .entry)) → MarksPut sheet figure atoms (now (to .exit)) r) ⌝ }
 {
-    let marks = sheet.marks;
-    let mut next = to;
     let mut i = 0;
     while i < figure.mark_count {
-        let j = place_of(marks, sheet.mark_count, figure.marks[i]);
+        let j = place_of(&sheet.marks, sheet.mark_count, figure.marks[i]);
         if j == sheet.mark_count {
-            return Links {
-                ok: false,
-                to: next,
-            };
+            return false;
         }
-        let entered = enter(next, (figure.marked[i] - 1) as usize, sheet.marked[j]);
-        if !entered.ok {
-            return entered;
+        if !enter(&mut *to, (figure.marked[i] - 1) as usize, sheet.marked[j]) {
+            return false;
         }
-        let with = entered.to;
-        next = with;
         i += 1;
     }
-    Links { ok: true, to: next }
+    true
 }
 
 // The sheet's marks are in the figure.
@@ -57,10 +48,9 @@ pub(crate) fn marks_back(sheet: Normal, figure: Normal) -> bool
     requires { ⌜ Ready sheet figure ⌝ }
     ensures { λ r. ⌜ ((atoms : List ℕ) → Judges sheet figure atoms (MarksBack sheet figure) r) ⌝ }
 {
-    let marks = figure.marks;
     let mut i = 0;
     while i < sheet.mark_count {
-        let j = place_of(marks, figure.mark_count, sheet.marks[i]);
+        let j = place_of(&figure.marks, figure.mark_count, sheet.marks[i]);
         if j == figure.mark_count {
             return false;
         }

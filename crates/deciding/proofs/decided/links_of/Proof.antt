@@ -1,42 +1,42 @@
 -- `decided::links_of` meets its contract. Assumes nothing.
-use mathlib.Core.Path.{refl}
-use borrow.Author.Tests.{not-true, not-false}
+use borrow.Author.Needs.{needs}
+use mathlib.Core.Path.{refl, sym, _∙_}
+use mathlib.Core.Logic.{⊎-elim}
 use Rattle.placing.proofs.FirstLaws.{both-ways}
 use Rattle.deciding.proofs.Telling.{told-start}
 use Rattle.deciding.proofs.decided.links_of.Statement.{statement}
 use Rattle.deciding.proofs.decided.links_of.Tie as tie
 
 put-atoms-requires : tie.Need-put-atoms-requires
-put-atoms-requires c κs = (c .pre .0, c .pre .1, told-start (c .args .sheet) (c .args .figure) (c .args .atoms-to) _ refl)
-
-returns : tie.Need-returns
-returns c = let f = not-true _ (c .if1 .taken) in record { passed = λ g. both-ways g f; refused = λ g. c .before .before .put-atoms .ensures .refused f }
+put-atoms-requires c κs = let s = c .before .before in (s .pre .0, s .pre .1, told-start (s .args .sheet) (s .args .figure) (s .args .t3) _ refl)
 
 marks-back-requires : tie.Need-marks-back-requires
-marks-back-requires c κs = c .before .before .before .before .pre .0
-
-returns-2 : tie.Need-returns-2
-returns-2 c = record { passed = λ g. both-ways g refl; refused = λ g. c .before .marks-back .ensures (c .before .before .before .before .before .before .args .atoms-to) .refused (not-true _ (c .if2 .taken)) }
+marks-back-requires c κs = search needs
 
 put-marks-requires : tie.Need-put-marks-requires
-put-marks-requires c κs = c .before .before .before .before .before .before .pre .0
+put-marks-requires c κs = search needs
 
-returns-3 : tie.Need-returns-3
-returns-3 c = let b = c .before .before .before .before .before .before .before in
-    let p = c .before .before .before .before .before .before .put-atoms .ensures .passed (not-false _ (c .before .before .before .before .if1 .left)) in
-    let m = c .put-marks .ensures (b .args .atoms-to) (b .pre .1) (p .0) (p .1) in
+returns : tie.Need-returns
+returns c = let j = c .before .before .before in
+    let s = j .before .before .before .before in
+    let ok = c .before .before .if2 .taken in
+    ⊎-elim
+    (λ w.
+    let p = j .before .put-atoms .ensures .passed (w .0 .taken) in
+    let m = c .put-marks .ensures (s .args .t3) (s .pre .1) (p .0) (p .1) in
     record {
-      passed = λ g. let n = m .passed g in record { told = n .0; atoms-agree = n .1; marks-agree = n .2; marks-back = c .before .before .marks-back .ensures (b .args .atoms-to) .passed (not-false _ (c .before .if2 .left)) };
-      refused = λ g. m .refused g;
+      passed = λ g. let n = m .passed g in record { told = n .0; atoms-agree = n .1; marks-agree = n .2; marks-back = w .1 .ensures (s .args .t3) .passed (sym (w .2) ∙ ok) };
+      refused = m .refused;
+    })
+    (λ w. both-ways ok (w .1 ∙ w .0 .left))
+    (j .if1 .came)
+
+returns-2 : tie.Need-returns-2
+returns-2 c = let a = c .before .before .before .before .before .args in
+    record {
+      passed = λ g. both-ways g (c .if2 .left);
+      refused = λ g. ⊎-elim (λ w. w .1 .ensures (a .t3) .refused (sym (w .2) ∙ c .if2 .left)) (λ w. c .before .before .put-atoms .ensures .refused (w .0 .left)) (c .before .if1 .came);
     }
 
 pub links-of-spec : {M : Type 1} → statement M
-links-of-spec =
-    tie.close
-    (tie.spec
-    put-atoms-requires
-    returns
-    marks-back-requires
-    returns-2
-    put-marks-requires
-    returns-3)
+links-of-spec = tie.close (tie.spec put-atoms-requires marks-back-requires put-marks-requires returns returns-2)

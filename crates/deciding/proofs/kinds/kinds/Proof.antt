@@ -23,31 +23,45 @@ mul-row c = omega (arith, c .loop-test .taken, c .before .before .pre .context-c
 element-copy-out-row : tie.Need-element-copy-out-row Inv-loop μ-loop
 element-copy-out-row c = omega (arith, c .loop-test .taken, c .before .before .pre .context-count)
 
-cast-standing : tie.Need-cast-standing Inv-loop μ-loop
-cast-standing c = omega (arith, row-places (c .before .before .before .before .before .args .t1) (c .before .before .before .before .before .pre) (c .before .before .before .before .loop .c) (c .before .before .before .loop-test .taken) .few)
+cast-flag-links : tie.Need-cast-flag-links Inv-loop μ-loop
+cast-flag-links c = let s = c .before .before .before .before .before .before in
+    let l = c .before .before .before .before .before .loop in
+    let h = c .before .before .before .before .loop-test .taken in
+    omega (arith, row-places (s .args .t1) (s .pre) (l .c) h .few)
 
-standing-requires : tie.Need-standing-requires Inv-loop μ-loop
-standing-requires c κs = row-places (c .before .before .before .before .before .args .t1) (c .before .before .before .before .before .pre) (c .before .before .before .before .loop .c) (c .before .before .before .loop-test .taken)
+flag-links-requires : tie.Need-flag-links-requires Inv-loop μ-loop
+flag-links-requires c κs = let s = c .before .before .before .before .before .before in
+    let l = c .before .before .before .before .before .loop in
+    let h = c .before .before .before .before .loop-test .taken in
+    (row-places (s .args .t1) (s .pre) (l .c) h, refl)
 
-doubled-requires : tie.Need-doubled-requires Inv-loop μ-loop
-doubled-requires c κs = kinds-small (c .before .before .before .before .before .before .args .t1) (c .before .before .before .before .before .before .pre) (c .before .before .before .before .before .loop .c) (c .before .before .before .before .before .loop .k) (c .standing .result) (c .before .before .before .before .before .loop .inv .1) (c .standing .ensures) (c .before .before .before .before .loop-test .taken)
+double-requires : tie.Need-double-requires Inv-loop μ-loop
+double-requires c κs = let s = c .before .before .before .before .before .before .before .before .before in
+    let l = c .before .before .before .before .before .before .before .before .loop in
+    let h = c .before .before .before .before .before .before .before .loop-test .taken in
+    let f = c .before .before .flag-links in
+    (l .inv .1 .room, kinds-small (s .args .t1) (s .pre) (l .c) (l .k) (f .last .0) (l .inv .1) (f .ensures) h)
 
 add-c : tie.Need-add-c Inv-loop μ-loop
-add-c c = omega (arith, c .before .before .before .before .before .loop-test .taken, c .before .before .before .before .before .before .before .pre .context-count)
+add-c c = omega (arith, c .before .before .before .before .before .before .before .before .loop-test .taken, c .before .before .before .before .before .before .before .before .before .before .pre .context-count)
 
 loop-less : tie.Need-loop-less Inv-loop μ-loop
-loop-less c = omega (arith, c .before .before .before .before .before .loop-test .taken)
+loop-less c = omega (arith, c .before .before .before .before .before .before .before .before .loop-test .taken)
 
 loop-again : tie.Need-loop-again Inv-loop μ-loop
-loop-again c = (
-  omega (arith, c .before .before .before .before .before .loop-test .taken),
-  subst (λ (n : ℕ). KindsTo (c .before .before .before .before .before .before .before .args .t1) n (c .doubled .result)) (sym (add-one (c .before .before .before .before .before .before .loop .c)))
-      (kinds-next (c .before .before .before .before .before .before .before .args .t1) (c .before .before .before .before .before .before .before .pre) (c .before .before .before .before .before .before .loop .c) (c .before .before .before .before .before .before .loop .k) (c .before .standing .result) (c .before .before .before .before .before .before .loop .inv .1) (c .before .standing .ensures) (c .before .before .before .before .before .loop-test .taken) (c .doubled .result) (c .doubled .ensures)),
-)
+loop-again c = let s = c .before .before .before .before .before .before .before .before .before .before in
+    let l = c .before .before .before .before .before .before .before .before .before .loop in
+    let h = c .before .before .before .before .before .before .before .before .loop-test .taken in
+    let f = c .before .before .before .flag-links in (
+      omega (arith, h),
+      subst (λ (n : ℕ). KindsTo (s .args .t1) n (c .double .last .0)) (sym (add-one (l .c))) (kinds-next (s .args .t1) (s .pre) (l .c) (l .k) (f .last .0) (l .inv .1) (f .ensures) h (c .double .last .0) (c .double .ensures)),
+    )
 
 returns : tie.Need-returns Inv-loop μ-loop
-returns c = let e : c .before .loop .c ≡ c .before .before .args .t1 .«context_count» = omega arith in
-    kinds-end (c .before .before .args .t1) (c .before .before .pre) (c .before .loop .k) (subst (λ (n : ℕ). KindsTo (c .before .before .args .t1) n (c .before .loop .k)) e (c .before .loop .inv .1))
+returns c = let s = c .before .before in
+    let l = c .before .loop in
+    let e : l .c ≡ s .args .t1 .«context_count» = omega arith in
+    kinds-end (s .args .t1) (s .pre) (l .k) (subst (λ (n : ℕ). KindsTo (s .args .t1) n (l .k)) e (l .inv .1))
 
 pub kinds-spec : {M : Type 1} → statement M
 kinds-spec =
@@ -58,9 +72,9 @@ kinds-spec =
     loop-holds
     mul-row
     element-copy-out-row
-    cast-standing
-    standing-requires
-    doubled-requires
+    cast-flag-links
+    flag-links-requires
+    double-requires
     add-c
     loop-less
     loop-again

@@ -11,38 +11,40 @@ use Rattle.deciding.proofs.marks.marks_back.Statement.{statement}
 use Rattle.deciding.proofs.marks.marks_back.Tie as tie
 
 abbrev Inv-loop : tie.InvT-loop
-Inv-loop figure sheet marks i₀ i = (i ≤ sheet .«mark_count») × ((k : ℕ) → k < i → MarkBack sheet figure k)
+Inv-loop sheet figure i₀ i = (i ≤ sheet .«mark_count») × ((k : ℕ) → k < i → MarkBack sheet figure k)
 
 abbrev μ-loop : tie.MeasureT-loop
-μ-loop figure sheet marks i₀ i = sheet .«mark_count» - i
+μ-loop sheet figure i₀ i = sheet .«mark_count» - i
 
 loop-holds : tie.Need-loop-holds Inv-loop μ-loop
 loop-holds c = (omega arith, λ k h. absurd (omega arith))
 
 mul-place-of : tie.Need-mul-place-of Inv-loop μ-loop
-mul-place-of c = omega (arith, c .loop-test .taken, c .before .before .before .pre .sheet-fit .mark-count)
+mul-place-of c = omega (arith, c .before .before .loop-test .taken, c .before .before .before .before .pre .sheet-fit .mark-count)
 
 element-copy-out-place-of : tie.Need-element-copy-out-place-of Inv-loop μ-loop
-element-copy-out-place-of c = omega (arith, c .loop-test .taken, c .before .before .before .pre .sheet-fit .mark-count)
+element-copy-out-place-of c = omega (arith, c .before .before .loop-test .taken, c .before .before .before .before .pre .sheet-fit .mark-count)
 
 place-of-requires : tie.Need-place-of-requires Inv-loop μ-loop
-place-of-requires c κs = c .before .before .before .before .pre .figure-fit .mark-count
+place-of-requires c κs = c .before .before .before .before .before .pre .figure-fit .mark-count
 
 returns : tie.Need-returns Inv-loop μ-loop
-returns c = λ atoms. record {
-  passed = λ g. both-ways g refl;
-  refused = λ g. back-missing (c .before .before .before .before .before .before .before .args .t1) (c .before .before .before .before .before .before .before .args .figure) (c .before .before .before .before .before .before .before .pre) atoms (c .before .before .before .before .before .loop .i) (c .before .before .before .before .loop-test .taken) (c .before .before .place-of .ensures .missing (c .if1 .taken));
-}
+returns c = let s = c .before .before .before .before .before .before .before in
+    let a = s .args in
+    let l = c .before .before .before .before .before .before .loop in
+    let h = c .before .before .before .before .before .loop-test .taken in
+    λ atoms. record { passed = λ g. both-ways g refl; refused = λ g. back-missing (a .t1) (a .t2) (s .pre) atoms (l .i) h (c .before .place-of .ensures .missing (c .if1 .taken)) }
 
 add-i : tie.Need-add-i Inv-loop μ-loop
-add-i c = omega (arith, c .before .before .before .before .loop-test .taken, c .before .before .before .before .before .before .before .pre .sheet-fit .mark-count)
+add-i c = omega (arith, c .before .before .before .before .before .loop-test .taken, c .before .before .before .before .before .before .before .pre .sheet-fit .mark-count)
 
 loop-less : tie.Need-loop-less Inv-loop μ-loop
-loop-less c = omega (arith, c .before .before .before .before .loop-test .taken)
+loop-less c = omega (arith, c .before .before .before .before .before .loop-test .taken)
 
 loop-again : tie.Need-loop-again Inv-loop μ-loop
-loop-again c = let h = below-or _ _ (c .before .before .place-of .ensures .within) (c .if1 .left) in
-    (omega (arith, c .before .before .before .before .loop-test .taken), below-more _ _ (c .before .before .before .before .before .loop .inv .1) (c .before .before .place-of .result, h, c .before .before .place-of .ensures .found h))
+loop-again c = let p = c .before .place-of in
+    let h = below-or _ _ (p .ensures .within) (c .if1 .left) in
+    (omega (arith, c .before .before .before .before .before .loop-test .taken), below-more _ _ (c .before .before .before .before .before .before .loop .inv .1) (p .result, h, p .ensures .found h))
 
 returns-2 : tie.Need-returns-2 Inv-loop μ-loop
 returns-2 c = λ atoms. record { passed = λ g i h. c .before .loop .inv .1 i (omega arith); refused = λ g. both-ways refl g }
