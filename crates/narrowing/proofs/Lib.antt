@@ -9,3 +9,4 @@ pub mod Obeying
 pub mod Passes
 -- Atoms laid out in one array.
 pub mod Laying
+pub mod Marks

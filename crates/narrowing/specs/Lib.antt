@@ -1,4 +1,5 @@
 pub mod Sets
 pub mod Tables
 pub mod Laid
+pub mod Marks
 pub mod Steps

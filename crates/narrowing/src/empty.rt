@@ -2,15 +2,16 @@
 use crate::ATOM_PAIRS;
 use crate::LINK_PAIRS;
 use rows::Sheet;
-use sheet::normal::Normal;
 ghost use mathlib.Core.Path.{_≡_};
 ghost use mathlib.Core.Bool.{true};
 ghost use mathlib.Core.List.{List};
 ghost use Prim.Native.Nat.{ℕ, _-_, _<_, _≤_};
 ghost use Rattle.rows.specs.Limits.{sheetAtoms, sheetLinks};
+ghost use Rattle.sheet.specs.declared.normal.Normal.{Normal as NormalForm};
 ghost use Rattle.placing.specs.Net.{Range, Normal as NormalNet};
 ghost use Rattle.network.specs.Begun.{Begun};
 ghost use Rattle.network.specs.NetIn.{netIn, Fit};
+ghost use Rattle.narrowing.specs.Marks.{MarkLinks, MarksIn};
 ghost use Rattle.narrowing.specs.Sets.{Keeps};
 ghost use Rattle.narrowing.specs.Tables.{mayAtom, mayLink, Blank};
 
@@ -46,15 +47,20 @@ fn no_link(links: &[u8; LINK_PAIRS], x: usize, n: usize) -> bool
     none
 }
 
-// Some marked figure link may go nowhere, so that there is no good placing.
-pub fn mark_lost(sheet: Normal, figure: Normal, links: &[u8; LINK_PAIRS]) -> bool
-    requires { ⌜ Fit sheet × Fit figure × NormalNet (netIn sheet) × NormalNet (netIn figure) ⌝ }
-    ensures { λ r. ⌜ (r ≡ true → (pre a : List ℕ) → Keeps (netIn sheet) (netIn figure) pre (mayAtom a) (mayLink (now (links .entry))) → ¬ Begun (netIn sheet) (netIn figure) pre) ⌝ }
+// Some marked figure link may go to none of the n sheet links, so that there is no good placing: the
+// figure has m marks.
+pub fn mark_lost(
+    marked: &[u16; Sheet::MARK_ROOM],
+    m: usize,
+    n: usize,
+    links: &[u8; LINK_PAIRS],
+) -> bool
+    requires { ⌜ MarkLinks (now marked) m × (n ≤ sheetLinks) ⌝ }
+    ensures { λ r. ⌜ (r ≡ true → (sheet figure : NormalForm) (marks : List ℕ) → Fit sheet → NormalNet (netIn sheet) → sheet .«class_count» ≡ n → MarksIn figure marks (now (marked .entry)) m → (pre a : List ℕ) → Keeps (netIn sheet) (netIn figure) pre (mayAtom a) (mayLink (now (links .entry))) → ¬ Begun (netIn sheet) (netIn figure) pre) ⌝ }
 {
-    let n = sheet.class_count;
     let mut p = 0;
-    while p < figure.mark_count {
-        let x = figure.marked[p] as usize;
+    while p < m {
+        let x = marked[p] as usize;
         if no_link(links, x, n) {
             return true;
         }

@@ -6,6 +6,7 @@ use native.Mathlib.Decide.{ℕ-discrete}
 use native.Mathlib.Omega.{arith}
 use lib.ListN.{getD, take}
 use Rattle.hyperlmntal.specs.Link.{_∈_}
+use Rattle.rows.specs.declared.Context.{Context}
 use Rattle.sheet.specs.declared.normal.Normal.{Normal as NormalForm}
 use Rattle.placing.specs.Net.{NetCell, cellLinks}
 use Rattle.placing.proofs.Lists.{member-at, getD-of}
@@ -13,6 +14,8 @@ use Rattle.placing.proofs.Standing.{of-cells}
 use Rattle.network.specs.NetIn.{contextIn, netIn, contextAt, Fit}
 use Rattle.network.proofs.NetIn.{used-length, used-at, contexts-length, context-index}
 use Rattle.narrowing.specs.Tables.{StaysCleared}
+use Rattle.narrowing.proofs.NetRows.{row-wider}
+use Rattle.starting.specs.Steps.{nthContext, Ported, PortsCleared}
 
 module _ (n : NormalForm) (fit : Fit n) where
   -- where a context has a link
@@ -40,18 +43,19 @@ module _ (n : NormalForm) (fit : Fit n) where
           let g : z .0 < c .count = omega (arith, z .1, used-length _ _ _ f) in
           record { context = i; of-net = h; place = z .0; of-row = g; there = sym (used-at _ _ _ f (z .0) g) ∙ getD-of (take (c .count) (c .links)) (z .0) 0 x (z .2) }
 
--- the links of the first i contexts are 0
-abbrev pub PortsTo : NormalForm → List ℕ → ℕ → Type 0
-PortsTo n a i = (h k : ℕ) → h < i → k < contextAt n h .count → getD a (getD (contextAt n h .links) k 0 - 1) 0 ≡ 0
+module _ (l : List Context) (a b : List ℕ) (i : ℕ) where
+  pub ports-next : PortsCleared l i a → StaysCleared a b → ((k : ℕ) → k < nthContext l i .count → getD b (getD (nthContext l i .links) k 0 - 1) 0 ≡ 0) → PortsCleared l (i + 1) b
+  ports-next f s g h k u m = go (ℕ-discrete h i)
+    where
+      go : Dec (h ≡ i) → getD b (getD (nthContext l h .links) k 0 - 1) 0 ≡ 0
+      go (yes e) = subst (λ (j : ℕ). getD b (getD (nthContext l j .links) k 0 - 1) 0 ≡ 0) (sym e) (g k (subst (λ (j : ℕ). k < nthContext l j .count) e m))
+      go (no d) = s (getD (nthContext l h .links) k 0 - 1) (f h k (omega arith) m)
 
-pub ports-next : (n : NormalForm) (a b : List ℕ) (i : ℕ) → PortsTo n a i → StaysCleared a b → ((k : ℕ) → k < contextAt n i .count → getD b (getD (contextAt n i .links) k 0 - 1) 0 ≡ 0) → PortsTo n b (i + 1)
-ports-next n a b i f s g h k l m = go (ℕ-discrete h i)
-  where
-    go : Dec (h ≡ i) → getD b (getD (contextAt n h .links) k 0 - 1) 0 ≡ 0
-    go (yes e) = subst (λ (j : ℕ). getD b (getD (contextAt n j .links) k 0 - 1) 0 ≡ 0) (sym e) (g k (subst (λ (j : ℕ). k < contextAt n j .count) e m))
-    go (no d) = s (getD (contextAt n h .links) k 0 - 1) (f h k (omega arith) m)
-
-pub ports-all : (n : NormalForm) → Fit n → (a : List ℕ) → PortsTo n a (n .«context_count») → (x : ℕ) → (x + 1) ∈ cellLinks ((netIn n) .contexts) → getD a x 0 ≡ 0
+pub ports-all : (n : NormalForm) → Fit n → (a : List ℕ) → PortsCleared (n .contexts) (n .«context_count») a → (x : ℕ) → (x + 1) ∈ cellLinks ((netIn n) .contexts) → getD a x 0 ≡ 0
 ports-all n fit a f x m =
     let t = port-of n fit (x + 1) m in
     subst (λ (q : ℕ). getD a q 0 ≡ 0) (let q : getD (contextAt n (t .context) .links) (t .place) 0 - 1 ≡ x = omega (arith, t .there) in q) (f (t .context) (t .place) (t .of-net) (t .of-row))
+
+-- the contexts of a net
+pub net-ported : (n : NormalForm) → Fit n → Ported (n .contexts) (n .«context_count»)
+net-ported n fit = record { few = fit .context-count; links = λ i h. row-wider (fit .contexts i h) (fit .class-count) }

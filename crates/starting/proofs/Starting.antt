@@ -1,6 +1,6 @@
 -- A good placing stays in the sets of the start, as the arrays have them.
 use Prim.Native.Nat.{ℕ, _+_, _-_, _*_, _<_}
-use mathlib.Core.Path.{_≡_, sym, _∙_, ap, subst}
+use mathlib.Core.Path.{_≡_, refl, sym, _∙_, ap, subst}
 use mathlib.Core.List.{List, []}
 use native.Mathlib.Omega.{arith}
 use lib.ListN.{length, getD, replicate, getD-replicate}
@@ -20,6 +20,7 @@ use Rattle.narrowing.proofs.Staying.{stays-more}
 use Rattle.narrowing.proofs.Obeying.{here, there, same-count, link-sent, link-place}
 use Rattle.starting.specs.Count.{count}
 use Rattle.starting.specs.Steps.{Alike, placesOf, Enough, MarksOn, MarksBack}
+use Rattle.starting.proofs.Marking.{enough-same}
 use Rattle.starting.proofs.GoodLinks.{places-among, closed-marks, closed-places}
 
 -- atoms of nets that are alike, as they are laid out
@@ -27,6 +28,12 @@ pub alike-laid : (S F : NormalForm) (sheet : List ℕ) (n : ℕ) (figure : List 
     → Stays sheetAtoms a b (λ i t. i < m → t < n → Alike (laidAtom figure i) (laidAtom sheet t)) → Stays sheetAtoms a b (λ i t. i < m → t < n → Alike (atomAt F i) (atomAt S t))
 alike-laid S F sheet n figure m os of a b s = stays-more sheetAtoms a b _ s _
     (λ i t q f h k. subst (λ (w : Atom). Alike w (laidAtom sheet t)) (sym (of .atoms i h)) (subst (λ (w : Atom). Alike (atomAt F i) w) (sym (os .atoms t k)) (f h k)))
+
+-- places of nets that are enough, as they are counted
+pub enough-counted : (S F : NormalForm) → Fit F → (closed wanted counts : List ℕ) → ((x : ℕ) → x < sheetLinks → getD wanted x 0 ≡ placesOf F x) → ((x : ℕ) → x < sheetLinks → getD counts x 0 ≡ placesOf S x) → (a b : List ℕ)
+    → Stays sheetLinks a b (λ x y. x < F .«class_count» → Enough (getD closed x 0) (getD wanted x 0) (getD counts y 0)) → Stays sheetLinks a b (λ x y. x < F .«class_count» → Enough (getD closed x 0) (placesOf F x) (placesOf S y))
+enough-counted S F ff closed wanted counts w c a b s = stays-more sheetLinks a b _ s _
+    (λ x y h f k. enough-same (f k) refl (sym (w x (omega (arith, k, ff .class-count)))) (sym (c y h)))
 
 -- no context has a link that is 1 in the array
 abbrev pub ClosedIn : NormalForm → List ℕ → Type 0

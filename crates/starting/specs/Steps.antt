@@ -1,13 +1,15 @@
 -- What the steps of the start look at, on the arrays of normal forms: atoms are counted from 0, links and marks by their numbers.
-use Prim.Native.Nat.{ℕ, _+_, _≤_, _<_}
+use Prim.Native.Nat.{ℕ, _+_, _-_, _≤_, _<_}
 use mathlib.Core.Path.{_≡_}
-use mathlib.Core.List.{List}
-use lib.ListN.{getD}
+use mathlib.Core.List.{List, []}
+use lib.ListN.{length, getD}
 use Rattle.hyperlmntal.specs.Link.{_∈_}
+use Rattle.rows.specs.Limits.{sheetLinks, figureContexts}
 use Rattle.rows.specs.declared.Atom.{Atom}
+use Rattle.rows.specs.declared.Context.{Context}
 use Rattle.sheet.specs.declared.normal.Normal.{Normal as NormalForm}
 use Rattle.placing.specs.Net.{cellLinks}
-use Rattle.network.specs.NetIn.{netIn}
+use Rattle.network.specs.NetIn.{netIn, Used}
 use Rattle.narrowing.specs.Steps.{linkOf}
 use Rattle.starting.specs.Count.{count}
 
@@ -25,9 +27,23 @@ pub record Alike (here there : Atom) : Type 0 where
 abbrev pub placesOf : NormalForm → ℕ → ℕ
 placesOf n x = count (x + 1) (cellLinks ((netIn n) .atoms))
 
--- no number of a list is over n
-abbrev pub AllAtMost : List ℕ → ℕ → Type 0
-AllAtMost l n = (q : ℕ) → getD l q 0 ≤ n
+-- context i of an array; past its end the logic reads zeros and an empty list
+abbrev pub nthContext : List Context → ℕ → Context
+nthContext l i = getD l i (record { number = 0; count = 0; links = []; row = 0 })
+
+-- the first n contexts have links that are numbers of links
+pub record Ported (contexts : List Context) (n : ℕ) : Type 0 where
+  pub few : n ≤ figureContexts
+  pub links : (i : ℕ) → i < n → Used sheetLinks (nthContext contexts i .count) (nthContext contexts i .links)
+
+-- 0 at the links of the first n contexts
+abbrev pub PortsCleared : List Context → ℕ → List ℕ → Type 0
+PortsCleared contexts n a = (i k : ℕ) → i < n → k < nthContext contexts i .count → getD a (getD (nthContext contexts i .links) k 0 - 1) 0 ≡ 0
+
+-- a count for each link, none over n
+pub record Tally (l : List ℕ) (n : ℕ) : Type 0 where
+  pub width : length l ≡ sheetLinks
+  pub most : (q : ℕ) → getD l q 0 ≤ n
 
 -- enough places, and as many if no context has the figure link: closed is then 1
 pub record Enough (closed wanted there : ℕ) : Type 0 where

@@ -1,51 +1,49 @@
 // What a net says of each of its links: how many places of atoms it has, whether a context has it, and
 // which link has a mark.
+use narrowing::LAID;
+use narrowing::laid::laid_atom;
 use rows::Atom;
 use rows::Context;
 use rows::Sheet;
-use sheet::normal::Normal;
 ghost use mathlib.Core.Path.{_≡_};
 ghost use Prim.Native.Nat.{ℕ, _+_, _-_, _*_, _<_, _≤_};
 ghost use lib.ListN.{getD, take};
 ghost use Rattle.hyperlmntal.specs.Link.{_∈_};
 ghost use Rattle.rows.specs.Format.{mostLinks};
 ghost use Rattle.rows.specs.Limits.{sheetAtoms, sheetLinks};
-ghost use Rattle.placing.specs.Net.{cellLinks, Normal as NormalNet};
-ghost use Rattle.network.specs.NetIn.{netIn, Fit, Used};
+ghost use Rattle.sheet.specs.declared.normal.Normal.{Normal as NormalForm};
+ghost use Rattle.network.specs.NetIn.{netIn, Used};
+ghost use Rattle.narrowing.specs.Laid.{Rowed, LaidOut};
+ghost use Rattle.narrowing.specs.Marks.{MarkLinks, MarksIn};
 ghost use Rattle.narrowing.specs.Tables.{StaysCleared};
 ghost use Rattle.starting.specs.Count.{count};
-ghost use Rattle.starting.specs.Steps.{placesOf, AllAtMost};
+ghost use Rattle.starting.specs.Steps.{placesOf, Tally, Ported, PortsCleared};
 
 // An atom's places added to the counts, each of which is at most n.
-fn count_places(atom: Atom, counts: [u16; Sheet::LINKS], n: usize) -> [u16; Sheet::LINKS]
-    requires { ⌜ Used sheetLinks (atom .count) (atom .links) × (n ≤ sheetAtoms * mostLinks) × AllAtMost counts n ⌝ }
-    ensures { λ r. ⌜ AllAtMost r (n + mostLinks) × ((x : ℕ) → x < sheetLinks → getD r x 0 ≡ getD counts x 0 + count (x + 1) (take (atom .count) (atom .links))) ⌝ }
+fn count_places(atom: Atom, counts: &mut [u16; Sheet::LINKS], n: usize)
+    requires { ⌜ Used sheetLinks (atom .count) (atom .links) × (n ≤ sheetAtoms * mostLinks) × Tally (now counts) n ⌝ }
+    ensures { λ _. ⌜ Tally (now (counts .exit)) (n + mostLinks) × ((x : ℕ) → x < sheetLinks → getD (now (counts .exit)) x 0 ≡ getD (now (counts .entry)) x 0 + count (x + 1) (take (atom .count) (atom .links))) ⌝ }
 {
-    let mut sums = counts;
     let count = atom.count as usize;
     let mut k = 0;
     while k < count {
         let x = atom.links[k] as usize;
-        sums[x - 1] += 1;
+        counts[x - 1] += 1;
         k += 1;
     }
-    sums
 }
 
-// How many places of atoms each link has.
-pub(crate) fn place_counts(net: Normal) -> [u16; Sheet::LINKS]
-    requires { ⌜ Fit net ⌝ }
-    ensures { λ r. ⌜ ((x : ℕ) → x < sheetLinks → getD r x 0 ≡ placesOf net x) ⌝ }
+// How many places of n atoms each link has, into a table of zeros.
+pub(crate) fn place_counts(laid: &[u16; LAID], n: usize, counts: &mut [u16; Sheet::LINKS])
+    requires { ⌜ Rowed (now laid) n × Tally (now counts) 0 ⌝ }
+    ensures { λ _. ⌜ ((net : NormalForm) → LaidOut net (now (laid .entry)) n → (x : ℕ) → x < sheetLinks → getD (now (counts .exit)) x 0 ≡ placesOf net x) ⌝ }
 {
-    let mut counts = [0u16; Sheet::LINKS];
     let mut i = 0;
-    while i < net.atom_count {
-        let atom = net.atoms[i];
-        let sums = count_places(atom, counts, i * Sheet::MOST_LINKS);
-        counts = sums;
+    while i < n {
+        let atom = laid_atom(laid, i);
+        count_places(atom, counts, i * Sheet::MOST_LINKS);
         i += 1;
     }
-    counts
 }
 
 // 0 at the links of a context.
@@ -63,30 +61,37 @@ fn clear_ports(context: Context, closed: &mut [u8; Sheet::LINKS])
     }
 }
 
-// 0 at the links of contexts, and 1 elsewhere.
-pub(crate) fn closed_links(net: Normal) -> [u8; Sheet::LINKS]
-    requires { ⌜ Fit net ⌝ }
-    ensures { λ r. ⌜ ((x : ℕ) → (x + 1) ∈ cellLinks ((netIn net) .contexts) → getD r x 0 ≡ 0) ⌝ }
+// 0 at the links of the first n contexts; the other links are closed, and stay 1.
+pub(crate) fn closed_links(
+    contexts: [Context; Sheet::CONTEXT_ROOM],
+    n: usize,
+    closed: &mut [u8; Sheet::LINKS],
+)
+    requires { ⌜ Ported contexts n ⌝ }
+    ensures { λ _. ⌜ PortsCleared contexts n (now (closed .exit)) ⌝ }
 {
-    let mut closed = [1u8; Sheet::LINKS];
     let mut i = 0;
-    while i < net.context_count {
-        let context = net.contexts[i];
-        clear_ports(context, &mut closed);
+    while i < n {
+        let context = contexts[i];
+        clear_ports(context, closed);
         i += 1;
     }
-    closed
 }
 
-// The link of a mark, or 0.
-pub(crate) fn link_of(net: Normal, m: u16) -> usize
-    requires { ⌜ Fit net × NormalNet (netIn net) ⌝ }
-    ensures { λ r. ⌜ ((x : ℕ) → (x, m) ∈ (netIn net) .marks → x ≡ r) ⌝ }
+// The link of mark m among n marks, or 0.
+pub(crate) fn link_of<'a>(
+    marks: &'a [u16; Sheet::MARK_ROOM],
+    marked: &'a [u16; Sheet::MARK_ROOM],
+    n: usize,
+    m: u16,
+) -> usize
+    requires { ⌜ MarkLinks (now marked) n ⌝ }
+    ensures { λ r. ⌜ ((net : NormalForm) → MarksIn net (now (marks .entry)) (now (marked .entry)) n → (x : ℕ) → (x, m) ∈ (netIn net) .marks → x ≡ r) ⌝ }
 {
     let mut p = 0;
-    while p < net.mark_count {
-        if net.marks[p] == m {
-            return net.marked[p] as usize;
+    while p < n {
+        if marks[p] == m {
+            return marked[p] as usize;
         }
         p += 1;
     }

@@ -11,15 +11,17 @@ use sheet::normal::Normal;
 ghost use mathlib.Core.Path.{_≡_};
 ghost use mathlib.Core.Bool.{true};
 ghost use mathlib.Core.List.{[]};
-ghost use Prim.Native.Nat.{_+_, _*_, _-_, _<_};
+ghost use Prim.Native.Nat.{_+_, _*_, _-_, _<_, _≤_};
 ghost use lib.ListN.{getD, replicate};
 ghost use Rattle.rows.specs.Limits.{sheetAtoms, sheetLinks};
-ghost use Rattle.placing.specs.Net.{Range, Normal as NormalNet};
-ghost use Rattle.network.specs.NetIn.{netIn, Fit};
+ghost use Rattle.sheet.specs.declared.normal.Normal.{Normal as NormalForm};
+ghost use Rattle.placing.specs.Net.{Range};
+ghost use Rattle.network.specs.NetIn.{netIn};
 ghost use Rattle.narrowing.specs.Laid.{LaidOut};
+ghost use Rattle.narrowing.specs.Marks.{MarkLinks, MarksIn};
 ghost use Rattle.narrowing.specs.Sets.{Keeps};
 ghost use Rattle.narrowing.specs.Tables.{mayAtom, mayLink, Stays};
-ghost use Rattle.starting.specs.Steps.{placesOf, Enough, MarksOn, MarksBack};
+ghost use Rattle.starting.specs.Steps.{Enough, MarksOn, MarksBack};
 
 // Whether a sheet link has places enough for a figure link: as many as wanted, or more if it is not closed.
 fn enough(closed: u8, wanted: u16, there: u16) -> bool
@@ -54,21 +56,20 @@ fn enough_row(
     }
 }
 
-// Figure links to sheet links that have places enough.
-fn start_places(
-    sheet: Normal,
-    figure: Normal,
+// Figure links 1 to n to sheet links that have places enough.
+fn start_places<'a>(
+    n: usize,
     closed: &[u8; Sheet::LINKS],
+    wanted: &'a [u16; Sheet::LINKS],
+    counts: &'a [u16; Sheet::LINKS],
     links: &mut [u8; LINK_PAIRS],
 )
-    requires { ⌜ Fit sheet × Fit figure ⌝ }
-    ensures { λ _. ⌜ Stays sheetLinks (now (links .entry)) (now (links .exit)) (λ x y. x < figure .«class_count» → Enough (getD (now (closed .entry)) x 0) (placesOf figure x) (placesOf sheet y)) ⌝ }
+    requires { ⌜ n ≤ sheetLinks ⌝ }
+    ensures { λ _. ⌜ Stays sheetLinks (now (links .entry)) (now (links .exit)) (λ x y. x < n → Enough (getD (now (closed .entry)) x 0) (getD (now (wanted .entry)) x 0) (getD (now (counts .entry)) y 0)) ⌝ }
 {
-    let wanted = place_counts(figure);
-    let counts = place_counts(sheet);
     let mut x = 1;
-    while x <= figure.class_count {
-        enough_row(x, closed[x - 1], wanted[x - 1], &counts, links);
+    while x <= n {
+        enough_row(x, closed[x - 1], wanted[x - 1], counts, links);
         x += 1;
     }
 }
@@ -87,15 +88,23 @@ fn only_link(x: usize, y: usize, links: &mut [u8; LINK_PAIRS])
     }
 }
 
-// Marked figure links to the sheet links with their marks.
-fn start_marks(sheet: Normal, figure: Normal, links: &mut [u8; LINK_PAIRS])
-    requires { ⌜ Fit sheet × Fit figure × NormalNet (netIn sheet) ⌝ }
-    ensures { λ _. ⌜ Stays sheetLinks (now (links .entry)) (now (links .exit)) (MarksOn sheet figure) ⌝ }
+// Marked figure links to the sheet links with their marks: the sheet has n marks, the figure m.
+fn start_marks<'a>(
+    marks: &'a [u16; Sheet::MARK_ROOM],
+    marked: &'a [u16; Sheet::MARK_ROOM],
+    n: usize,
+    figure_marks: &'a [u16; Sheet::MARK_ROOM],
+    figure_marked: &'a [u16; Sheet::MARK_ROOM],
+    m: usize,
+    links: &mut [u8; LINK_PAIRS],
+)
+    requires { ⌜ MarkLinks (now marked) n × MarkLinks (now «figure_marked») m ⌝ }
+    ensures { λ _. ⌜ ((sheet figure : NormalForm) → MarksIn sheet (now (marks .entry)) (now (marked .entry)) n → MarksIn figure (now («figure_marks» .entry)) (now («figure_marked» .entry)) m → Stays sheetLinks (now (links .entry)) (now (links .exit)) (MarksOn sheet figure)) ⌝ }
 {
     let mut p = 0;
-    while p < figure.mark_count {
-        let x = figure.marked[p] as usize;
-        let y = link_of(sheet, figure.marks[p]);
+    while p < m {
+        let x = figure_marked[p] as usize;
+        let y = link_of(marks, marked, n, figure_marks[p]);
         only_link(x, y, links);
         p += 1;
     }
@@ -117,20 +126,24 @@ fn only_closed(x: usize, y: usize, closed: &[u8; Sheet::LINKS], links: &mut [u8;
     }
 }
 
-// Closed figure links to sheet links with no other marks.
-fn start_closed(
-    sheet: Normal,
-    figure: Normal,
+// Closed figure links to sheet links with no other marks: the sheet has n marks, the figure m.
+fn start_closed<'a>(
+    marks: &'a [u16; Sheet::MARK_ROOM],
+    marked: &'a [u16; Sheet::MARK_ROOM],
+    n: usize,
+    figure_marks: &'a [u16; Sheet::MARK_ROOM],
+    figure_marked: &'a [u16; Sheet::MARK_ROOM],
+    m: usize,
     closed: &[u8; Sheet::LINKS],
     links: &mut [u8; LINK_PAIRS],
 )
-    requires { ⌜ Fit sheet × Fit figure × NormalNet (netIn figure) ⌝ }
-    ensures { λ _. ⌜ Stays sheetLinks (now (links .entry)) (now (links .exit)) (λ x y. getD (now (closed .entry)) x 0 ≡ 1 → MarksBack sheet figure x y) ⌝ }
+    requires { ⌜ MarkLinks (now marked) n × MarkLinks (now «figure_marked») m ⌝ }
+    ensures { λ _. ⌜ ((sheet figure : NormalForm) → MarksIn sheet (now (marks .entry)) (now (marked .entry)) n → MarksIn figure (now («figure_marks» .entry)) (now («figure_marked» .entry)) m → Stays sheetLinks (now (links .entry)) (now (links .exit)) (λ x y. getD (now (closed .entry)) x 0 ≡ 1 → MarksBack sheet figure x y)) ⌝ }
 {
     let mut q = 0;
-    while q < sheet.mark_count {
-        let y = sheet.marked[q] as usize;
-        let x = link_of(figure, sheet.marks[q]);
+    while q < n {
+        let y = marked[q] as usize;
+        let x = link_of(figure_marks, figure_marked, m, marks[q]);
         only_closed(x, y, closed, links);
         q += 1;
     }
@@ -149,8 +162,30 @@ pub fn start<'a>(
     ensures { λ _. ⌜ Keeps (netIn sheet) (netIn figure) [] (mayAtom (now (atoms .exit))) (mayLink (now (links .exit))) ⌝ }
 {
     start_atoms(laid, sheet.atom_count, parts, figure.atom_count, atoms);
-    let closed = closed_links(figure);
-    start_places(sheet, figure, &closed, links);
-    start_marks(sheet, figure, links);
-    start_closed(sheet, figure, &closed, links);
+    let mut closed = [1u8; Sheet::LINKS];
+    closed_links(figure.contexts, figure.context_count, &mut closed);
+    let mut wanted = [0u16; Sheet::LINKS];
+    place_counts(parts, figure.atom_count, &mut wanted);
+    let mut counts = [0u16; Sheet::LINKS];
+    place_counts(laid, sheet.atom_count, &mut counts);
+    start_places(figure.class_count, &closed, &wanted, &counts, links);
+    start_marks(
+        &sheet.marks,
+        &sheet.marked,
+        sheet.mark_count,
+        &figure.marks,
+        &figure.marked,
+        figure.mark_count,
+        links,
+    );
+    start_closed(
+        &sheet.marks,
+        &sheet.marked,
+        sheet.mark_count,
+        &figure.marks,
+        &figure.marked,
+        figure.mark_count,
+        &closed,
+        links,
+    );
 }

@@ -1,18 +1,22 @@
 -- Invariant: p is at most the number of marks.
 use native.Mathlib.Omega.{arith}
 use borrow.Author.Needs.{needs}
-use Prim.Native.Nat.{_≤_, _-_}
-use mathlib.Core.Path.{refl}
+use Prim.Native.Nat.{ℕ, _≤_, _-_}
+use mathlib.Core.Path.{refl, sym, subst}
+use mathlib.Core.List.{List}
+use lib.ListN.{getD}
+use Rattle.rows.specs.Limits.{sheetLinks}
 use Rattle.placing.proofs.FirstLaws.{both-ways}
+use Rattle.narrowing.specs.Tables.{Blank}
 use Rattle.narrowing.proofs.Passes.{mark-hopeless}
 use Rattle.narrowing.proofs.empty.mark_lost.Statement.{statement}
 use Rattle.narrowing.proofs.empty.mark_lost.Tie as tie
 
 abbrev Inv-loop : tie.InvT-loop
-Inv-loop links figure n p₀ p = p ≤ figure .«mark_count»
+Inv-loop marked m n links p₀ p = p ≤ m
 
 abbrev μ-loop : tie.MeasureT-loop
-μ-loop links figure n p₀ p = figure .«mark_count» - p
+μ-loop marked m n links p₀ p = m - p
 
 loop-holds : tie.Need-loop-holds Inv-loop μ-loop
 loop-holds c = search needs
@@ -24,20 +28,19 @@ element-copy-out-x : tie.Need-element-copy-out-x Inv-loop μ-loop
 element-copy-out-x c = search needs
 
 cast-x : tie.Need-cast-x Inv-loop μ-loop
-cast-x c = let f = c .before .before .before .pre .1 in
-    omega (arith, f .marked (c .before .before .loop .p) (c .before .loop-test .taken) .1, f .class-count)
+cast-x c = let l = c .before .before in
+    omega (arith, l .before .pre .0 .numbered (l .loop .p) (c .before .loop-test .taken) .1)
 
 no-link-requires : tie.Need-no-link-requires Inv-loop μ-loop
-no-link-requires c κs = let f = c .before .before .before .pre .1 in
-    let r = f .marked (c .before .before .loop .p) (c .before .loop-test .taken) in
-    ((r .0, omega (arith, r .1, f .class-count)), c .before .before .before .pre .0 .class-count)
+no-link-requires c κs = let l = c .before .before in
+    (l .before .pre .0 .numbered (l .loop .p) (c .before .loop-test .taken), l .before .pre .1)
 
 returns : tie.Need-returns Inv-loop μ-loop
-returns c =
-    let l = c .before .before .before .before in
-    let s = l .before in
-    let f = s .pre in
-    λ e pre a h. mark-hopeless (s .args .sheet) (s .args .t2) (f .0) (f .1) (f .2) (f .3) pre a (s .args .links .now) h (l .loop .p) (c .before .before .before .loop-test .taken) (c .before .no-link .ensures (c .if1 .taken))
+returns c = let l = c .before .before .before .before in
+    let p = l .loop .p in
+    let rows = l .before .args .links .now in
+    λ e sheet figure marks fs ns k o pre a h. mark-hopeless sheet figure fs (o .fit) ns (o .normal) pre a rows h p (omega (arith, c .before .before .before .loop-test .taken, o .count))
+    (subst (λ (w : List ℕ). Blank sheetLinks rows (getD w p 0 - 1) (sheet .«class_count»)) (sym (o .same-marked)) (λ t b. c .before .no-link .ensures (c .if1 .taken) t (omega (arith, b, k))))
 
 add-p : tie.Need-add-p Inv-loop μ-loop
 add-p c = search needs

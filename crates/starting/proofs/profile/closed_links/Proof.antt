@@ -2,17 +2,16 @@
 use native.Mathlib.Omega.{arith}
 use borrow.Author.Needs.{needs}
 use Prim.Native.Nat.{_≤_, _-_}
-use mathlib.Core.Path.{_≡_}
-use Rattle.narrowing.proofs.NetRows.{row-wider}
-use Rattle.starting.proofs.Ports.{PortsTo, ports-next, ports-all}
+use Rattle.starting.specs.Steps.{PortsCleared}
+use Rattle.starting.proofs.Ports.{ports-next}
 use Rattle.starting.proofs.profile.closed_links.Statement.{statement}
 use Rattle.starting.proofs.profile.closed_links.Tie as tie
 
 abbrev Inv-loop : tie.InvT-loop
-Inv-loop net closed₀ i₀ closed i = (i ≤ net .«context_count») × PortsTo net closed i
+Inv-loop n closed₀ contexts i₀ closed i = (i ≤ n) × PortsCleared contexts i closed
 
 abbrev μ-loop : tie.MeasureT-loop
-μ-loop net closed₀ i₀ closed i = net .«context_count» - i
+μ-loop n closed₀ contexts i₀ closed i = n - i
 
 loop-holds : tie.Need-loop-holds Inv-loop μ-loop
 loop-holds c = (search needs, λ h k l m. absurd (omega arith))
@@ -20,13 +19,12 @@ loop-holds c = (search needs, λ h k l m. absurd (omega arith))
 mul-context : tie.Need-mul-context Inv-loop μ-loop
 mul-context c = search needs
 
-element-copy-out-context : tie.Need-element-copy-out-context Inv-loop μ-loop
-element-copy-out-context c = search needs
+array-copy-out-context : tie.Need-array-copy-out-context Inv-loop μ-loop
+array-copy-out-context c = search needs
 
 clear-ports-requires : tie.Need-clear-ports-requires Inv-loop μ-loop
 clear-ports-requires c κs = let l = c .before .before .before in
-    let f = l .before .pre in
-    row-wider (f .contexts (l .loop .i) (c .before .before .loop-test .taken)) (f .class-count)
+    l .before .pre .links (l .loop .i) (c .before .before .loop-test .taken)
 
 add-i : tie.Need-add-i Inv-loop μ-loop
 add-i c = search needs
@@ -40,9 +38,7 @@ loop-again c = let l = c .before .before .before .before in
 
 returns : tie.Need-returns Inv-loop μ-loop
 returns c = let l = c .before in
-    let s = l .before in
-    let e : l .loop .i ≡ s .args .t1 .«context_count» = omega arith in
-    ports-all (s .args .t1) (s .pre) (l .loop .closed) (rw e at (l .loop .inv .1))
+    λ i k h. l .loop .inv .1 i k (omega arith)
 
 pub closed-links-spec : {M : Type 1} → statement M
 closed-links-spec =
@@ -52,7 +48,7 @@ closed-links-spec =
     μ-loop
     loop-holds
     mul-context
-    element-copy-out-context
+    array-copy-out-context
     clear-ports-requires
     add-i
     loop-less

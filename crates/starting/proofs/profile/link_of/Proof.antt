@@ -5,15 +5,15 @@ use Prim.Native.Nat.{ℕ, _≤_, _-_, _<_}
 use mathlib.Core.Path.{_≡_}
 use borrow.Author.Count.{below-more}
 use lib.ListN.{getD}
-use Rattle.starting.proofs.Tallies.{mark-found, mark-nowhere}
+use Rattle.starting.proofs.Marking.{mark-found, mark-nowhere}
 use Rattle.starting.proofs.profile.link_of.Statement.{statement}
 use Rattle.starting.proofs.profile.link_of.Tie as tie
 
 abbrev Inv-loop : tie.InvT-loop
-Inv-loop m net p₀ p = (p ≤ net .«mark_count») × ((q : ℕ) → q < p → getD (net .marks) q 0 ≡ m → ⊥)
+Inv-loop marks marked n m p₀ p = (p ≤ n) × ((q : ℕ) → q < p → getD marks q 0 ≡ m → ⊥)
 
 abbrev μ-loop : tie.MeasureT-loop
-μ-loop m net p₀ p = net .«mark_count» - p
+μ-loop marks marked n m p₀ p = n - p
 
 loop-holds : tie.Need-loop-holds Inv-loop μ-loop
 loop-holds c = (search needs, λ q h. absurd (omega arith))
@@ -32,13 +32,12 @@ element-copy-out-result c = search needs
 
 cast-result : tie.Need-cast-result Inv-loop μ-loop
 cast-result c = let l = c .before .before .before .before in
-    let f = l .before .pre .0 in
-    omega (arith, f .marked (l .loop .p) (c .before .before .before .loop-test .taken) .1, f .class-count)
+    omega (arith, l .before .pre .numbered (l .loop .p) (c .before .before .before .loop-test .taken) .1)
 
 returns : tie.Need-returns Inv-loop μ-loop
 returns c = let l = c .before .before .before .before in
-    let s = l .before in
-    mark-found (s .args .t1) (s .pre .0) (s .pre .1) (s .args .m) (l .loop .p) (c .before .before .before .loop-test .taken) (c .before .if1 .taken)
+    let s = l .before .args in
+    λ net o. mark-found net (s .marks .now) (s .marked .now) (s .n) o (s .m) (l .loop .p) (c .before .before .before .loop-test .taken) (c .before .if1 .taken)
 
 add-p : tie.Need-add-p Inv-loop μ-loop
 add-p c = search needs
@@ -51,8 +50,8 @@ loop-again c = (search needs, below-more _ _ (c .before .before .before .loop .i
 
 returns-2 : tie.Need-returns-2 Inv-loop μ-loop
 returns-2 c = let l = c .before in
-    let s = l .before in
-    λ x i. absurd (mark-nowhere (s .args .t1) (s .pre .0) (s .pre .1) (s .args .m) (λ p h. l .loop .inv .1 p (omega arith)) x i)
+    let s = l .before .args in
+    λ net o x i. absurd (mark-nowhere net (s .marks .now) (s .marked .now) (s .n) o (s .m) (λ p h. l .loop .inv .1 p (omega arith)) x i)
 
 pub link-of-spec : {M : Type 1} → statement M
 link-of-spec =

@@ -2,45 +2,43 @@
 use native.Mathlib.Omega.{arith}
 use borrow.Author.Needs.{needs}
 use Prim.Native.Nat.{ℕ, _≤_, _+_, _-_, _*_, _<_}
-use mathlib.Core.Path.{_≡_}
-use mathlib.Core.List.{[], map}
+use mathlib.Core.Path.{_≡_, sym, subst}
+use mathlib.Core.List.{map}
 use lib.ListN.{getD, take}
 use Rattle.rows.specs.Format.{mostLinks}
 use Rattle.rows.specs.Limits.{sheetLinks}
+use Rattle.rows.specs.declared.Atom.{Atom}
+use Rattle.sheet.specs.declared.normal.Normal.{Normal as NormalForm}
 use Rattle.placing.specs.Net.{cellLinks}
-use Rattle.network.specs.NetIn.{atomIn}
-use Rattle.narrowing.proofs.NetRows.{row-wider}
+use Rattle.network.specs.NetIn.{atomIn, Used}
+use Rattle.narrowing.specs.Laid.{LaidOut}
 use Rattle.starting.specs.Count.{count}
-use Rattle.starting.specs.Steps.{AllAtMost}
+use Rattle.starting.specs.Steps.{Tally}
 use Rattle.starting.proofs.Tallies.{rows-counted}
 use Rattle.starting.proofs.profile.place_counts.Statement.{statement}
 use Rattle.starting.proofs.profile.place_counts.Tie as tie
-use Rattle.rows.proofs.Padding.{getD-filled}
 
 abbrev Inv-loop : tie.InvT-loop
-Inv-loop net counts₀ i₀ counts i = (i ≤ net .«atom_count») × AllAtMost counts (i * mostLinks) × ((x : ℕ) → x < sheetLinks → getD counts x 0 ≡ count (x + 1) (cellLinks (map atomIn (take i (net .atoms)))))
+Inv-loop laid n counts₀ i₀ counts i = (i ≤ n) × Tally counts (i * mostLinks) × ((net : NormalForm) → LaidOut net laid n → (x : ℕ) → x < sheetLinks → getD counts x 0 ≡ count (x + 1) (cellLinks (map atomIn (take i (net .atoms)))))
 
 abbrev μ-loop : tie.MeasureT-loop
-μ-loop net counts₀ i₀ counts i = net .«atom_count» - i
+μ-loop laid n counts₀ i₀ counts i = n - i
 
 loop-holds : tie.Need-loop-holds Inv-loop μ-loop
 unfolding count
-loop-holds c = (search needs, (λ q. omega (arith, getD-filled {A = ℕ} 0 sheetLinks q)), λ x h. getD-filled {A = ℕ} 0 sheetLinks x)
+loop-holds c = (search needs, c .pre .1, λ net o x h. omega (arith, c .pre .1 .most x))
 
-mul-atom : tie.Need-mul-atom Inv-loop μ-loop
-mul-atom c = search needs
-
-element-copy-out-atom : tie.Need-element-copy-out-atom Inv-loop μ-loop
-element-copy-out-atom c = search needs
+laid-atom-requires : tie.Need-laid-atom-requires Inv-loop μ-loop
+laid-atom-requires c κs = omega (arith, c .loop-test .taken, c .before .before .pre .0 .few)
 
 mul-count-places : tie.Need-mul-count-places Inv-loop μ-loop
 mul-count-places c = search needs
 
 count-places-requires : tie.Need-count-places-requires Inv-loop μ-loop
-count-places-requires c κs = let l = c .before .before in
-    let f = l .before .pre in
-    let h = c .before .loop-test .taken in
-    (row-wider (f .atoms (l .loop .i) h) (f .class-count), omega (arith, h, f .atom-count), l .loop .inv .1)
+count-places-requires c κs = let l = c .before .before .before in
+    let f = l .before .pre .0 in
+    let h = c .before .before .loop-test .taken in
+    (subst (λ (a : Atom). Used sheetLinks (a .count) (a .links)) (sym (c .before .laid-atom .ensures)) (f .atoms (l .loop .i) h), omega (arith, h, f .few), l .loop .inv .1)
 
 add-i : tie.Need-add-i Inv-loop μ-loop
 add-i c = search needs
@@ -49,18 +47,18 @@ loop-less : tie.Need-loop-less Inv-loop μ-loop
 loop-less c = search needs
 
 loop-again : tie.Need-loop-again Inv-loop μ-loop
-loop-again c = let l = c .before .before .before in
-    let s = l .before in
-    let h = c .before .before .loop-test .taken in (
+loop-again c = let l = c .before .before .before .before in
+    let s = l .before .args in
+    let a = c .before .before .laid-atom in
+    let f = c .count-places .ensures in (
       search needs,
-      (λ q. omega (arith, c .count-places .ensures .0 q)),
-      rows-counted (s .args .t1 .atoms) (l .loop .counts) (c .count-places .result) (l .loop .i) (record { name = 0; count = 0; links = [] }) (omega (arith, h, s .pre .atom-count, s .pre .atom-room)) (l .loop .inv .2) (c .count-places .ensures .1),
+      record { width = f .0 .width; most = λ q. omega (arith, f .0 .most q) },
+      λ net o. rows-counted net (s .laid .now) (s .n) o (l .loop .counts) (c .count-places .last .1 .0) (l .loop .i) (a .result) (c .before .before .before .loop-test .taken) (a .ensures) (l .loop .inv .2 net o) (f .1),
     )
 
 returns : tie.Need-returns Inv-loop μ-loop
 returns c = let l = c .before in
-    let e : l .loop .i ≡ l .before .args .t1 .«atom_count» = omega arith in
-    rw e at (l .loop .inv .2)
+    λ net o. let e : l .loop .i ≡ net .«atom_count» = omega (arith, o .count) in rw e at (l .loop .inv .2 net o)
 
 pub place-counts-spec : {M : Type 1} → statement M
 place-counts-spec =
@@ -69,8 +67,7 @@ place-counts-spec =
     Inv-loop
     μ-loop
     loop-holds
-    mul-atom
-    element-copy-out-atom
+    laid-atom-requires
     mul-count-places
     count-places-requires
     add-i

@@ -1,37 +1,65 @@
 -- Each step keeps what a good placing needs.
-use Rattle.starting.proofs.Starting.{start-keeps, alike-laid}
-use Rattle.narrowing.proofs.Laying.{laid-rowed}
 use borrow.Author.Needs.{needs}
+use Rattle.narrowing.specs.Marks.{MarksIn}
+use Rattle.narrowing.proofs.Laying.{laid-rowed}
+use Rattle.narrowing.proofs.Marks.{own-marks, mark-links}
+use Rattle.starting.proofs.Tallies.{tally-none}
+use Rattle.starting.proofs.Ports.{net-ported, ports-all}
+use Rattle.starting.proofs.Starting.{start-keeps, alike-laid, enough-counted}
 use Rattle.starting.proofs.start.start.Statement.{statement}
 use Rattle.starting.proofs.start.start.Tie as tie
 
+-- the marks of the sheet and of the figure
+sheet-marks : (s : tie.Start) → MarksIn (s .args .t1) (s .args .t1 .marks) (s .args .t1 .marked) (s .args .t1 .«mark_count»)
+sheet-marks s = own-marks (s .args .t1) (s .pre .0 .fit) (s .pre .0 .normal)
+
+figure-marks : (s : tie.Start) → MarksIn (s .args .t2) (s .args .t2 .marks) (s .args .t2 .marked) (s .args .t2 .«mark_count»)
+figure-marks s = own-marks (s .args .t2) (s .pre .1 .fit) (s .pre .1 .normal)
+
 start-atoms-requires : tie.Need-start-atoms-requires
 start-atoms-requires c κs = let s = c .before in
-    (laid-rowed (s .args .sheet) (s .args .laid .now) _ (s .pre .0), laid-rowed (s .args .figure) (s .args .parts .now) _ (s .pre .1))
+    (laid-rowed (s .args .t1) (s .args .laid .now) _ (s .pre .0), laid-rowed (s .args .t2) (s .args .parts .now) _ (s .pre .1))
 
 closed-links-requires : tie.Need-closed-links-requires
-closed-links-requires c κs = search needs
+closed-links-requires c κs = let s = c .before .before .before .before in
+    net-ported (s .args .t2) (s .pre .1 .fit)
+
+place-counts-requires : tie.Need-place-counts-requires
+place-counts-requires c κs = let s = c .before .before .before .before .before .before in
+    (laid-rowed (s .args .t2) (s .args .parts .now) _ (s .pre .1), tally-none)
+
+place-counts-requires-2 : tie.Need-place-counts-requires-2
+place-counts-requires-2 c κs = let s = c .before .before .before .before .before .before .before .before in
+    (laid-rowed (s .args .t1) (s .args .laid .now) _ (s .pre .0), tally-none)
 
 start-places-requires : tie.Need-start-places-requires
 start-places-requires c κs = search needs
 
 start-marks-requires : tie.Need-start-marks-requires
-start-marks-requires c κs = search needs
+start-marks-requires c κs = let s = c .before .before .before .before .before .before .before .before .before .before .before .before .before .before .before .before .before .before .before .before .before in
+    (mark-links (s .args .t1) _ _ _ (sheet-marks s), mark-links (s .args .t2) _ _ _ (figure-marks s))
 
 start-closed-requires : tie.Need-start-closed-requires
-start-closed-requires c κs = search needs
+start-closed-requires c κs = let s = c .before .before .before .before .before .before .before .before .before .before .before .before .before .before .before .before .before .before .before .before .before .before .before .before .before .before .before .before .before .before in
+    (mark-links (s .args .t1) _ _ _ (sheet-marks s), mark-links (s .args .t2) _ _ _ (figure-marks s))
 
 returns : tie.Need-returns
-returns c = let marks = c .before .before .before in
-    let places = marks .before .before in
-    let shut = places .before .before .before in
-    let atoms = shut .before in
+returns c = let marks = c .before .before .before .before .before .before .before .before .before in
+    let places = marks .before .before .before .before .before .before .before .before in
+    let counted = places .before .before .before .before .before in
+    let wanted = counted .before .before in
+    let shut = wanted .before .before in
+    let atoms = shut .before .before .before in
     let s = atoms .before .before in
+    let sheet = s .args .t1 in
+    let figure = s .args .t2 in
     let os = s .pre .0 in
     let of = s .pre .1 in
-    start-keeps (s .args .sheet) (s .args .figure) (os .fit) (of .fit) (os .normal) (of .normal) (atoms .start-atoms .last .1 .1 .1 .1 .0) (places .start-places .last .1 .1 .1 .0) (marks .start-marks .last .1 .1 .0) (c .start-closed .last .1 .1 .1 .0) (shut .closed-links .result) (shut .closed-links .ensures)
-    (rw (s .pre .2) at (alike-laid (s .args .sheet) (s .args .figure) (s .args .laid .now) _ (s .args .parts .now) _ os of (s .args .atoms .now) (atoms .start-atoms .last .1 .1 .1 .1 .0) (atoms .start-atoms .ensures)))
-    (rw (s .pre .3) at (places .start-places .ensures)) (marks .start-marks .ensures) (c .start-closed .ensures)
+    let closed = shut .closed-links .last .1 .1 .0 in
+    start-keeps sheet figure (os .fit) (of .fit) (os .normal) (of .normal) (atoms .start-atoms .last .1 .1 .1 .1 .0) (places .start-places .last .1 .1 .1 .1 .0) (marks .start-marks .last .1 .1 .1 .1 .1 .1 .0) (c .start-closed .last .1 .1 .1 .1 .1 .1 .1 .0) closed (ports-all figure (of .fit) closed (shut .closed-links .ensures))
+    (rw (s .pre .2) at (alike-laid sheet figure (s .args .laid .now) _ (s .args .parts .now) _ os of (s .args .atoms .now) (atoms .start-atoms .last .1 .1 .1 .1 .0) (atoms .start-atoms .ensures)))
+    (rw (s .pre .3) at (enough-counted sheet figure (of .fit) closed (wanted .place-counts .last .1 .1 .0) (counted .place-counts2 .last .1 .1 .0) (wanted .place-counts .ensures figure of) (counted .place-counts2 .ensures sheet os) (s .args .links .now) (places .start-places .last .1 .1 .1 .1 .0) (places .start-places .ensures)))
+    (marks .start-marks .ensures sheet figure (sheet-marks s) (figure-marks s)) (c .start-closed .ensures sheet figure (sheet-marks s) (figure-marks s))
 
 pub start-spec : {M : Type 1} → statement M
 start-spec =
@@ -39,6 +67,8 @@ start-spec =
     (tie.spec
     start-atoms-requires
     closed-links-requires
+    place-counts-requires
+    place-counts-requires-2
     start-places-requires
     start-marks-requires
     start-closed-requires

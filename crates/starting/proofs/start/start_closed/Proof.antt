@@ -5,6 +5,8 @@ use Prim.Native.Nat.{_≤_, _+_, _-_}
 use mathlib.Core.Path.{_≡_}
 use lib.ListN.{getD}
 use Rattle.rows.specs.Limits.{sheetLinks}
+use Rattle.sheet.specs.declared.normal.Normal.{Normal as NormalForm}
+use Rattle.narrowing.specs.Marks.{MarksIn}
 use Rattle.narrowing.specs.Tables.{Stays}
 use Rattle.narrowing.proofs.Staying.{stays-then}
 use Rattle.starting.specs.Steps.{MarksBack}
@@ -13,13 +15,13 @@ use Rattle.starting.proofs.start.start_closed.Statement.{statement}
 use Rattle.starting.proofs.start.start_closed.Tie as tie
 
 abbrev Inv-loop : tie.InvT-loop
-Inv-loop figure closed links₀ sheet q₀ links q = (q ≤ sheet .«mark_count») × Stays sheetLinks links₀ links (λ x y. getD closed x 0 ≡ 1 → MarksBack sheet figure x y)
+Inv-loop marks marked n figure-marks figure-marked m closed links₀ q₀ links q = (q ≤ n) × ((sheet figure : NormalForm) → MarksIn sheet marks marked n → MarksIn figure figure-marks figure-marked m → Stays sheetLinks links₀ links (λ x y. getD closed x 0 ≡ 1 → MarksBack sheet figure x y))
 
 abbrev μ-loop : tie.MeasureT-loop
-μ-loop figure closed links₀ sheet q₀ links q = sheet .«mark_count» - q
+μ-loop marks marked n figure-marks figure-marked m closed links₀ q₀ links q = n - q
 
 loop-holds : tie.Need-loop-holds Inv-loop μ-loop
-loop-holds c = (search needs, λ z v h m p. m)
+loop-holds c = (search needs, λ sheet figure os of z v h m p. m)
 
 mul-y : tie.Need-mul-y Inv-loop μ-loop
 mul-y c = search needs
@@ -29,8 +31,7 @@ element-copy-out-y c = search needs
 
 cast-y : tie.Need-cast-y Inv-loop μ-loop
 cast-y c = let l = c .before .before in
-    let f = l .before .pre .0 in
-    omega (arith, f .marked (l .loop .q) (c .before .loop-test .taken) .1, f .class-count)
+    omega (arith, l .before .pre .0 .numbered (l .loop .q) (c .before .loop-test .taken) .1)
 
 mul-link-of : tie.Need-mul-link-of Inv-loop μ-loop
 mul-link-of c = search needs
@@ -39,14 +40,11 @@ element-copy-out-link-of : tie.Need-element-copy-out-link-of Inv-loop μ-loop
 element-copy-out-link-of c = search needs
 
 link-of-requires : tie.Need-link-of-requires Inv-loop μ-loop
-link-of-requires c κs = let f = c .before .before .before .before .pre in
-    (f .1, f .2)
+link-of-requires c κs = c .before .before .before .before .pre .1
 
 only-closed-requires : tie.Need-only-closed-requires Inv-loop μ-loop
 only-closed-requires c κs = let l = c .before .before .before .before .before in
-    let f = l .before .pre .0 in
-    let r = f .marked (l .loop .q) (c .before .before .before .before .loop-test .taken) in
-    (r .0, omega (arith, r .1, f .class-count))
+    l .before .pre .0 .numbered (l .loop .q) (c .before .before .before .before .loop-test .taken)
 
 add-q : tie.Need-add-q Inv-loop μ-loop
 add-q c = search needs
@@ -56,11 +54,11 @@ loop-less c = search needs
 
 loop-again : tie.Need-loop-again Inv-loop μ-loop
 loop-again c = let l = c .before .before .before .before .before .before in
-    let s = l .before in
+    let s = l .before .args in
     let t = c .before .before .link-of in (
       search needs,
-      stays-then sheetLinks (s .args .links .now) (l .loop .links) (λ x y. getD (s .args .closed .now) x 0 ≡ 1 → MarksBack (s .args .t1) (s .args .figure) x y) (l .loop .inv .1) (c .only-closed .last .1 .1 .1 .0) (λ z v. v ≡ getD (s .args .t1 .marked) (l .loop .q) 0 - 1 → getD (s .args .closed .now) z 0 ≡ 1 → z + 1 ≡ t .result) (c .only-closed .ensures)
-          (λ z v h f e o. mark-back (s .args .t1) (s .args .figure) (s .pre .0) (l .loop .q) (t .result) (c .before .before .before .before .before .loop-test .taken) (t .ensures) z v (f o) e),
+      λ sheet figure os of. stays-then sheetLinks (s .links .now) (l .loop .links) (λ x y. getD (s .closed .now) x 0 ≡ 1 → MarksBack sheet figure x y) (l .loop .inv .1 sheet figure os of) (c .only-closed .last .1 .1 .1 .0) (λ z v. v ≡ getD (s .marked .now) (l .loop .q) 0 - 1 → getD (s .closed .now) z 0 ≡ 1 → z + 1 ≡ t .result) (c .only-closed .ensures)
+          (λ z v h f e k. mark-back sheet figure (s .marks .now) (s .marked .now) (s .n) os (l .loop .q) (t .result) (c .before .before .before .before .before .loop-test .taken) (t .ensures figure of) z v (f k) e),
     )
 
 returns : tie.Need-returns Inv-loop μ-loop

@@ -5,6 +5,8 @@ use Prim.Native.Nat.{_≤_, _+_, _-_}
 use mathlib.Core.Path.{_≡_}
 use lib.ListN.{getD}
 use Rattle.rows.specs.Limits.{sheetLinks}
+use Rattle.sheet.specs.declared.normal.Normal.{Normal as NormalForm}
+use Rattle.narrowing.specs.Marks.{MarksIn}
 use Rattle.narrowing.specs.Tables.{Stays}
 use Rattle.narrowing.proofs.Staying.{stays-then}
 use Rattle.starting.specs.Steps.{MarksOn}
@@ -13,13 +15,13 @@ use Rattle.starting.proofs.start.start_marks.Statement.{statement}
 use Rattle.starting.proofs.start.start_marks.Tie as tie
 
 abbrev Inv-loop : tie.InvT-loop
-Inv-loop sheet links₀ figure p₀ links p = (p ≤ figure .«mark_count») × Stays sheetLinks links₀ links (MarksOn sheet figure)
+Inv-loop marks marked n figure-marks figure-marked m links₀ p₀ links p = (p ≤ m) × ((sheet figure : NormalForm) → MarksIn sheet marks marked n → MarksIn figure figure-marks figure-marked m → Stays sheetLinks links₀ links (MarksOn sheet figure))
 
 abbrev μ-loop : tie.MeasureT-loop
-μ-loop sheet links₀ figure p₀ links p = figure .«mark_count» - p
+μ-loop marks marked n figure-marks figure-marked m links₀ p₀ links p = m - p
 
 loop-holds : tie.Need-loop-holds Inv-loop μ-loop
-loop-holds c = (search needs, λ z v h m p. m)
+loop-holds c = (search needs, λ sheet figure os of z v h m p. m)
 
 mul-x : tie.Need-mul-x Inv-loop μ-loop
 mul-x c = search needs
@@ -29,8 +31,7 @@ element-copy-out-x c = search needs
 
 cast-x : tie.Need-cast-x Inv-loop μ-loop
 cast-x c = let l = c .before .before in
-    let f = l .before .pre .1 in
-    omega (arith, f .marked (l .loop .p) (c .before .loop-test .taken) .1, f .class-count)
+    omega (arith, l .before .pre .1 .numbered (l .loop .p) (c .before .loop-test .taken) .1)
 
 mul-link-of : tie.Need-mul-link-of Inv-loop μ-loop
 mul-link-of c = search needs
@@ -39,14 +40,11 @@ element-copy-out-link-of : tie.Need-element-copy-out-link-of Inv-loop μ-loop
 element-copy-out-link-of c = search needs
 
 link-of-requires : tie.Need-link-of-requires Inv-loop μ-loop
-link-of-requires c κs = let f = c .before .before .before .before .pre in
-    (f .0, f .2)
+link-of-requires c κs = c .before .before .before .before .pre .0
 
 only-link-requires : tie.Need-only-link-requires Inv-loop μ-loop
 only-link-requires c κs = let l = c .before .before .before .before .before in
-    let f = l .before .pre .1 in
-    let r = f .marked (l .loop .p) (c .before .before .before .before .loop-test .taken) in
-    (r .0, omega (arith, r .1, f .class-count))
+    l .before .pre .1 .numbered (l .loop .p) (c .before .before .before .before .loop-test .taken)
 
 add-p : tie.Need-add-p Inv-loop μ-loop
 add-p c = search needs
@@ -56,11 +54,11 @@ loop-less c = search needs
 
 loop-again : tie.Need-loop-again Inv-loop μ-loop
 loop-again c = let l = c .before .before .before .before .before .before in
-    let s = l .before in
+    let s = l .before .args in
     let t = c .before .before .link-of in (
       search needs,
-      stays-then sheetLinks (s .args .links .now) (l .loop .links) (MarksOn (s .args .sheet) (s .args .t2)) (l .loop .inv .1) (c .only-link .last .1 .1 .0) (λ z v. z ≡ getD (s .args .t2 .marked) (l .loop .p) 0 - 1 → v + 1 ≡ t .result) (c .only-link .ensures)
-          (λ z v h. mark-on (s .args .sheet) (s .args .t2) (s .pre .1) (l .loop .p) (t .result) (c .before .before .before .before .before .loop-test .taken) (t .ensures) z v),
+      λ sheet figure os of. stays-then sheetLinks (s .links .now) (l .loop .links) (MarksOn sheet figure) (l .loop .inv .1 sheet figure os of) (c .only-link .last .1 .1 .0) (λ z v. z ≡ getD (s .figure-marked .now) (l .loop .p) 0 - 1 → v + 1 ≡ t .result) (c .only-link .ensures)
+          (λ z v h. mark-on sheet figure (s .figure-marks .now) (s .figure-marked .now) (s .m) of (l .loop .p) (t .result) (c .before .before .before .before .before .loop-test .taken) (t .ensures sheet os) z v),
     )
 
 returns : tie.Need-returns Inv-loop μ-loop

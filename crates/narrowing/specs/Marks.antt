@@ -1,0 +1,22 @@
+-- The marks of a net in two arrays: the marks, and the link of each.
+use Prim.Native.Nat.{ℕ, _≤_, _<_}
+use mathlib.Core.Path.{_≡_}
+use mathlib.Core.List.{List}
+use lib.ListN.{getD}
+use Rattle.rows.specs.Limits.{sheetLinks, sheetMarks}
+use Rattle.sheet.specs.declared.normal.Normal.{Normal as NormalForm}
+use Rattle.placing.specs.Net.{Range, Normal}
+use Rattle.network.specs.NetIn.{netIn, Fit}
+
+-- n marks, whose links are numbers of links
+pub record MarkLinks (marked : List ℕ) (n : ℕ) : Type 0 where
+  pub few : n ≤ sheetMarks
+  pub numbered : (p : ℕ) → p < n → Range sheetLinks (getD marked p 0)
+
+-- the n marks of a net in normal form
+pub record MarksIn (net : NormalForm) (marks marked : List ℕ) (n : ℕ) : Type 0 where
+  pub count : net .«mark_count» ≡ n
+  pub fit : Fit net
+  pub normal : Normal (netIn net)
+  pub same-marks : net .marks ≡ marks
+  pub same-marked : net .marked ≡ marked
