@@ -12,9 +12,9 @@ ghost use Rattle.network.specs.NetIn.{Fit};
 ghost use Rattle.stepping.specs.Flags.{Within, Ported, atPort, rowAt, portOf, portOfNumber, goesTo};
 
 // For each sheet link 1 where a figure link goes.
-pub fn used_links(count: usize, to: [u16; Sheet::LINKS], none: u16) -> [u8; Sheet::LINKS]
-    requires { ⌜ (count ≤ sheetLinks) × (none ≤ sheetLinks + 1) × Within none count to ⌝ }
-    ensures { λ r. ⌜ ((y : ℕ) → (getD r y 0 ≡ 1) ↔ ((x : ℕ) × (x < count) × goesTo to none x y)) ⌝ }
+pub fn used_links(count: usize, to: &[u16; Sheet::LINKS], none: u16) -> [u8; Sheet::LINKS]
+    requires { ⌜ (count ≤ sheetLinks) × (none ≤ sheetLinks + 1) × Within none count (now to) ⌝ }
+    ensures { λ r. ⌜ ((y : ℕ) → (getD r y 0 ≡ 1) ↔ ((x : ℕ) × (x < count) × goesTo (now (to .entry)) none x y)) ⌝ }
 {
     let mut flags = [0u8; Sheet::LINKS];
     let mut x = 0;
@@ -76,15 +76,15 @@ fn port_rows(
 
 // For the context of row c and link y, both from 0: 1 at c * LINKS + y where a row with its number has a
 // port that goes to y.
-pub fn port_table(figure: Normal, to: [u16; Sheet::LINKS], none: u16) -> [u8; PORTS]
-    requires { ⌜ (none ≤ sheetLinks + 1) × Fit figure × Within none (figure .«class_count») to ⌝ }
-    ensures { λ r. ⌜ ((p : ℕ) → (getD r p 0 ≡ 1) ↔ ((c : ℕ) × (c < figure .«context_count») × portOfNumber figure to none c p)) ⌝ }
+pub fn port_table(figure: Normal, to: &[u16; Sheet::LINKS], none: u16) -> [u8; PORTS]
+    requires { ⌜ (none ≤ sheetLinks + 1) × Fit figure × Within none (figure .«class_count») (now to) ⌝ }
+    ensures { λ r. ⌜ ((p : ℕ) → (getD r p 0 ≡ 1) ↔ ((c : ℕ) × (c < figure .«context_count») × portOfNumber figure (now (to .entry)) none c p)) ⌝ }
 {
     let contexts = figure.contexts;
     let mut table = [0u8; PORTS];
     let mut c = 0;
     while c < figure.context_count {
-        port_rows(&mut table, c, contexts, figure.context_count, &to, none);
+        port_rows(&mut table, c, contexts, figure.context_count, to, none);
         c += 1;
     }
     table

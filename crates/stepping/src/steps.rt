@@ -102,13 +102,13 @@ pub(crate) fn step_labels(
 }
 
 // A sheet link at which two figure links have different labels, 0 where there is none.
-pub fn apart(figure: Normal, to: [u16; Sheet::LINKS], none: u16) -> u16
-    requires { ⌜ Fit figure × (none ≤ sheetLinks + 1) × ((x : ℕ) → x < figure .«class_count» → Range none (getD to x 0)) ⌝ }
-    ensures { λ r. ⌜ Apart figure to none r ⌝ }
+pub fn apart(figure: Normal, to: &[u16; Sheet::LINKS], none: u16) -> u16
+    requires { ⌜ Fit figure × (none ≤ sheetLinks + 1) × ((x : ℕ) → x < figure .«class_count» → Range none (getD (now to) x 0)) ⌝ }
+    ensures { λ r. ⌜ Apart figure (now (to .entry)) none r ⌝ }
 {
     let contexts = figure.contexts;
     let mut labels = [0u16; Sheet::LINKS];
-    step_labels(&mut labels, &to, contexts, figure.context_count);
+    step_labels(&mut labels, to, contexts, figure.context_count);
     let mut owner = [0u16; Sheet::LINKS];
     let mut x = 0;
     while x < figure.class_count {

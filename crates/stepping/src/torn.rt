@@ -71,17 +71,17 @@ fn differ(labels: &[u16; Sheet::LINKS], to: &[u16; Sheet::LINKS], y: u16, count:
 
 // Two links that go to y are not linked there, even if all with a flag go there. Where y has one link or
 // none, there is nothing to look for.
-pub fn torn(figure: Normal, to: [u16; Sheet::LINKS], flags: [u8; Sheet::LINKS], y: u16) -> bool
-    requires { ⌜ Fit figure × ((x : ℕ) → x < figure .«class_count» → 1 ≤ getD to x 0) ⌝ }
-    ensures { λ r. ⌜ (r ≡ true → (S : Net) (atoms un : List ℕ) → y ≤ S .links → ((x : ℕ) → suc x ∈ un → getD flags x 0 ≡ 1) → Torn S (netIn figure) (stateIn figure atoms to) un y) ⌝ }
+pub fn torn(figure: Normal, to: &[u16; Sheet::LINKS], flags: &[u8; Sheet::LINKS], y: u16) -> bool
+    requires { ⌜ Fit figure × ((x : ℕ) → x < figure .«class_count» → 1 ≤ getD (now to) x 0) ⌝ }
+    ensures { λ r. ⌜ (r ≡ true → (S : Net) (atoms un : List ℕ) → y ≤ S .links → ((x : ℕ) → suc x ∈ un → getD (now (flags .entry)) x 0 ≡ 1) → Torn S (netIn figure) (stateIn figure atoms (now (to .entry))) un y) ⌝ }
 {
-    if two_at(&to, y, figure.class_count) {
+    if two_at(to, y, figure.class_count) {
         let contexts = figure.contexts;
         let mut all = [0u16; Sheet::LINKS];
         let mut labels = [0u16; Sheet::LINKS];
-        gathered(&mut all, &to, &flags, y, figure.class_count);
+        gathered(&mut all, to, flags, y, figure.class_count);
         step_labels(&mut labels, &all, contexts, figure.context_count);
-        return differ(&labels, &to, y, figure.class_count);
+        return differ(&labels, to, y, figure.class_count);
     }
     false
 }
