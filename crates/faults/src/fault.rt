@@ -159,7 +159,7 @@ pub fn find(
     ensures { λ r. ⌜ ((atoms un : List ℕ) → TakenIn sheet figure (stateIn figure atoms to) taken → Partial (netIn sheet) (netIn figure) (stateIn figure atoms to) un → Finds sheet figure (stateIn figure atoms to) r) ⌝ }
 {
     let none = (sheet.class_count + 1) as u16;
-    let y = apart(figure, to, none);
+    let y = apart(figure, &to, none);
     if y != 0 {
         let mut links = [0u8; Sheet::LINKS];
         links[(y - 1) as usize] = 1;
@@ -169,7 +169,7 @@ pub fn find(
             given: [0; Sheet::ATOMS],
         };
     }
-    let used = used_links(figure.class_count, to, none);
-    let ports = port_table(figure, to, none);
+    let used = used_links(figure.class_count, &to, none);
+    let ports = port_table(figure, &to, none);
     served(sheet, figure, chains, &used, &ports, taken)
 }

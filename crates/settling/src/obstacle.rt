@@ -24,7 +24,7 @@ pub(crate) fn obstacle(
     requires { ⌜ Ready sheet figure × ChainsIn sheet (now chains) × LinksIn sheet figure to × (y ≤ sheet .«class_count») ⌝ }
     ensures { λ r. ⌜ Hinders sheet figure taken to flags r ⌝ }
 {
-    if torn(figure, to, flags, y) {
+    if torn(figure, &to, &flags, y) {
         return Fault {
             found: true,
             links: [0; Sheet::LINKS],

@@ -8,7 +8,7 @@ use native.Mathlib.Omega.{arith}
 use lib.ListN.{length, getD, set, length-set}
 use Rattle.rows.specs.Held.{relabelled}
 use Rattle.rows.specs.Limits.{sheetLinks}
-use Rattle.sheet.specs.declared.normal.Normal as form
+use Rattle.rows.specs.declared.Context.{Context}
 use Rattle.placing.specs.Net.{Range}
 use Rattle.placing.specs.Placing.{numberAt}
 use Rattle.placing.proofs.Joined.{relabelled-hit, relabelled-miss}
@@ -25,8 +25,8 @@ relabelled-same from to c e = go (ℕ-discrete c from)
     go (no q) = relabelled-miss from to c q
 
 -- a tie holds both ways
-pub tie-back : (figure : form.Normal) (to : List ℕ) (x z : ℕ) → Tie figure to x z → Tie figure to z x
-tie-back figure to x z t = record {
+pub tie-back : (contexts : List Context) (rows : ℕ) (to : List ℕ) (x z : ℕ) → Tie contexts rows to x z → Tie contexts rows to z x
+tie-back contexts rows to x z t = record {
   row = t .row;
   first = t .second;
   second = t .first;
@@ -51,17 +51,17 @@ module _ (labels next : List ℕ) (a b : ℕ) (ra : a < sheetLinks) (rb : b < sh
       go (yes q) = relabelled-hit _ _ _ q
       go (no q) = relabelled-miss _ _ _ q
 
-  pub joined-sound : (figure : form.Normal) (to : List ℕ) → Tie figure to (suc a) (suc b) → Sound figure to labels → Sound figure to next
-  joined-sound figure to t s x z h k e = at (ℕ-discrete (getD labels x 0) (getD labels b 0)) (ℕ-discrete (getD labels z 0) (getD labels b 0))
+  pub joined-sound : (contexts : List Context) (rows : ℕ) (to : List ℕ) → Tie contexts rows to (suc a) (suc b) → Sound contexts rows to labels → Sound contexts rows to next
+  joined-sound contexts rows to t s x z h k e = at (ℕ-discrete (getD labels x 0) (getD labels b 0)) (ℕ-discrete (getD labels z 0) (getD labels b 0))
     where
       R : ℕ → ℕ → Type 0
-      R = Tie figure to
+      R = Tie contexts rows to
 
       both : relabelled (getD labels b 0) (getD labels a 0) (getD labels x 0) ≡ relabelled (getD labels b 0) (getD labels a 0) (getD labels z 0)
       both = sym (new x h) ∙ e ∙ new z k
 
       back : Reach R (suc b) (suc a)
-      back = move (tie-back figure to (suc a) (suc b) t) stay
+      back = move (tie-back contexts rows to (suc a) (suc b) t) stay
 
       at : Dec (getD labels x 0 ≡ getD labels b 0) → Dec (getD labels z 0 ≡ getD labels b 0) → Reach R (suc x) (suc z)
       at (yes i) (yes j) = s x z h k (i ∙ sym j)
@@ -71,12 +71,12 @@ module _ (labels next : List ℕ) (a b : ℕ) (ra : a < sheetLinks) (rb : b < sh
 
 module _ (to ports : List ℕ) (count : ℕ) where
   pub grew-same : (l : List ℕ) → Grew to ports count l l
-  grew-same l = record { kept = λ x z h k e. e; sound = λ f r i j k s. s }
+  grew-same l = record { kept = λ x z h k e. e; sound = λ c n r i j k s. s }
 
   pub grew-then : (l m n : List ℕ) → Grew to ports count l m → Grew to ports count m n → Grew to ports count l n
   grew-then l m n f g = record {
     kept = λ x z h k e. g .kept x z h k (f .kept x z h k e);
-    sound = λ figure row i j k s. g .sound figure row i j k (f .sound figure row i j k s);
+    sound = λ contexts rows row i j k s. g .sound contexts rows row i j k (f .sound contexts rows row i j k s);
   }
 
   -- ports that were tied stay tied
@@ -94,7 +94,7 @@ module _ (to ports : List ℕ) (count : ℕ) where
       → Grew to ports count labels next
   grew-joined at k ha hk ra rk e labels next new = record {
     kept = joined-kept labels next (a - 1) (b - 1) ia ib new;
-    sound = λ figure row i c p. joined-sound labels next (a - 1) (b - 1) ia ib new figure to (record {
+    sound = λ contexts rows row i c p. joined-sound labels next (a - 1) (b - 1) ia ib new contexts rows to (record {
       row = row;
       first = at;
       second = k;
@@ -151,11 +151,11 @@ module _ (to ports : List ℕ) (count : ℕ) where
     )
 
 -- each link its own label
-pub own-sound : (figure : form.Normal) (to labels : List ℕ) → ((x : ℕ) → x < sheetLinks → getD labels x 0 ≡ x + 1) → Sound figure to labels
-own-sound figure to labels f x z h k e =
+pub own-sound : (contexts : List Context) (rows : ℕ) (to labels : List ℕ) → ((x : ℕ) → x < sheetLinks → getD labels x 0 ≡ x + 1) → Sound contexts rows to labels
+own-sound contexts rows to labels f x z h k e =
     let p = f x h in let q = f z k in
     let i : suc x ≡ suc z = omega arith in
-    subst (Reach (Tie figure to) (suc x)) i stay
+    subst (Reach (Tie contexts rows to) (suc x)) i stay
 
 -- one link more, whose label may change
 module _ (from to : ℕ) (start l : List ℕ) (x : ℕ) (h : x < length l)

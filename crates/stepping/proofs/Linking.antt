@@ -19,7 +19,7 @@ use Rattle.network.proofs.NetIn.{context-of}
 use Rattle.stepping.proofs.Reading.{context-in, port-in, port-place, link-at}
 
 -- linked links have one label
-pub linked-label : (S : Net) (figure : form.Normal) (f : Fit figure) (atoms to labels : List ℕ) → Labelled figure to labels → (y : ℕ) {a b : ℕ} → Linked S (netIn figure) (stateIn figure atoms to) y a b
+pub linked-label : (S : Net) (figure : form.Normal) (f : Fit figure) (atoms to labels : List ℕ) → Labelled (figure .contexts) (figure .«context_count») to labels → (y : ℕ) {a b : ℕ} → Linked S (netIn figure) (stateIn figure atoms to) y a b
     → numberAt labels a ≡ numberAt labels b
 linked-label S figure f atoms to labels w y here = refl
 linked-label S figure f atoms to labels w y (step {x} {x′} s l) =
@@ -47,7 +47,7 @@ module _ (S : Net) (figure : form.Normal) (f : Fit figure) (atoms to : List ℕ)
   port-of : (c k x : ℕ) → c < figure .«context_count» → k < contextAt figure c .count → getD (contextAt figure c .links) k 0 ≡ x → x ∈ (contextIn (contextAt figure c)) .1
   port-of c k x h l e = subst (λ (z : ℕ). z ∈ take (contextAt figure c .count) (contextAt figure c .links)) e (port-in figure f c k h l)
 
-  reach-linked : {a b : ℕ} (y : ℕ) → Reach (Tie figure to) a b → At S F q a y → Linked S F q y a b
+  reach-linked : {a b : ℕ} (y : ℕ) → Reach (Tie (figure .contexts) (figure .«context_count») to) a b → At S F q a y → Linked S F q y a b
   reach-linked y stay h = here
   reach-linked {a} y (move {y = c} t r) h = step (record {
     row = contextIn (contextAt figure (t .row));
@@ -78,7 +78,7 @@ module _ (S : Net) (figure : form.Normal) (f : Fit figure) (atoms to : List ℕ)
         not-none = λ e. let u : y ≤ S .links = h .sheet-link .1 in omega arith;
       }) in
       let r = w .labelled .sound (x - 1) (x′ - 1) (let l = f .class-count in omega arith) (let l = f .class-count in omega arith) e in
-      reach-linked y (subst (λ (z : ℕ). Reach (Tie figure to) z x′) i (subst (Reach (Tie figure to) (suc (x - 1))) j r)) h
+      reach-linked y (subst (λ (z : ℕ). Reach (Tie (figure .contexts) (figure .«context_count») to) z x′) i (subst (Reach (Tie (figure .contexts) (figure .«context_count») to) (suc (x - 1))) j r)) h
 
   pub two-apart : (y : ℕ) → y ≢ 0 → Apart figure to none y → TwoApart S F q y
   two-apart y n w = record {

@@ -62,7 +62,7 @@ module _ (to labels : List ℕ) (none : ℕ) where
             ((λ q. w .0 (sym e ∙ q)), w .1 ∙ ap (λ (k : ℕ). getD labels (k - 1) 0) (sym e))
 
     -- the link has another label than the owner of where it goes
-    pub owners-apart : (figure : form.Normal) → Labelled figure to labels → x < figure .«class_count» → 1 ≤ getD to x 0 → getD to x 0 ≢ none
+    pub owners-apart : (figure : form.Normal) → Labelled (figure .contexts) (figure .«context_count») to labels → x < figure .«class_count» → 1 ≤ getD to x 0 → getD to x 0 ≢ none
         → getD owner (getD to x 0 - 1) 0 ≢ 0 → getD labels (getD owner (getD to x 0 - 1) 0 - 1) 0 ≢ getD labels x 0 → Apart figure to none (getD to x 0)
     owners-apart figure l h low not-none n e =
         let w = f .0 (getD to x 0 - 1) n in
@@ -86,7 +86,7 @@ module _ (to labels : List ℕ) (none : ℕ) where
         }
 
   -- all links have the label of the owner of where they go
-  pub owners-one : (figure : form.Normal) (owner : List ℕ) → Labelled figure to labels → Owners (figure .«class_count») owner → Apart figure to none 0
+  pub owners-one : (figure : form.Normal) (owner : List ℕ) → Labelled (figure .contexts) (figure .«context_count») to labels → Owners (figure .«class_count») owner → Apart figure to none 0
   owners-one figure owner l f = record {
     labels = labels;
     labelled = l;

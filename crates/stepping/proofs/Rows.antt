@@ -6,9 +6,8 @@ use lib.ListN.{getD}
 use Rattle.rows.specs.Format.{mostLinks}
 use Rattle.rows.specs.Limits.{sheetLinks}
 use Rattle.sheet.specs.declared.normal.Normal as form
-use Rattle.placing.specs.Net.{Range}
 use Rattle.network.specs.NetIn.{atomAt, contextAt, Used, Fit}
-use Rattle.stepping.specs.Flags.{Within}
+use Rattle.stepping.specs.Flags.{Within, Ported}
 
 module _ (n : form.Normal) (f : Fit n) where
   used-row : (count : ℕ) (links : List ℕ) → Used (n .«class_count») count links → (count ≤ mostLinks) × Within sheetLinks count links
@@ -21,7 +20,9 @@ module _ (n : form.Normal) (f : Fit n) where
   context-row i h = used-row (contextAt n i .count) (contextAt n i .links) (f .contexts i h)
 
   -- and where they go
-  pub port-row : (to : List ℕ) (none : ℕ) → Within none (n .«class_count») to → (i : ℕ) → i < n .«context_count»
-      → (k : ℕ) → k < contextAt n i .count → Range sheetLinks (getD (contextAt n i .links) k 0) × Range none (getD to (getD (contextAt n i .links) k 0 - 1) 0)
-  port-row to none w i h k l = let r = f .contexts i h .numbered k l in
-      (context-row i h .1 k l, w (getD (contextAt n i .links) k 0 - 1) (omega (arith, r .0, r .1)))
+  pub ported : (to : List ℕ) (none : ℕ) → Within none (n .«class_count») to → (i : ℕ) → i < n .«context_count» → Ported to none (contextAt n i .count) (contextAt n i .links)
+  ported to none w i h = (
+    context-row i h .0,
+    λ k l. let r = f .contexts i h .numbered k l in
+        (context-row i h .1 k l, w (getD (contextAt n i .links) k 0 - 1) (omega (arith, r .0, r .1))),
+  )

@@ -18,7 +18,7 @@ use Rattle.stepping.proofs.Reading.{link-at}
 use Rattle.stepping.proofs.Linking.{linked-label}
 
 module _ (figure : form.Normal) (f : Fit figure) (to flags all labels : List ℕ) (y : ℕ) (real : (x : ℕ) → x < figure .«class_count» → 1 ≤ getD to x 0)
-    (g : Gathered to flags y (figure .«class_count») all) (l : Labelled figure all labels) (d : Differ labels to y (figure .«class_count»)) where
+    (g : Gathered to flags y (figure .«class_count») all) (l : Labelled (figure .contexts) (figure .«context_count») all labels) (d : Differ labels to y (figure .«class_count»)) where
   module _ (S : Net) (atoms un : List ℕ) (few : y ≤ S .links) (flag : (x : ℕ) → suc x ∈ un → getD flags x 0 ≡ 1) where
     there : Range (S .links) y
     there = (omega (arith, d .one-at, real (d .one) (d .one-in)), few)

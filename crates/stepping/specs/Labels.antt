@@ -6,26 +6,27 @@ use mathlib.Core.List.{List}
 use lib.ListN.{getD}
 use Rattle.rows.specs.Held.{relabelled}
 use Rattle.rows.specs.Limits.{sheetLinks}
+use Rattle.rows.specs.declared.Context.{Context}
 use Rattle.sheet.specs.declared.normal.Normal as form
 use Rattle.placing.specs.Placing.{numberAt}
-use Rattle.network.specs.NetIn.{contextAt}
 use Rattle.completing.specs.Reach.{Reach}
+use Rattle.stepping.specs.Flags.{rowAt}
 
--- two links of one context that go to one sheet link
-pub record Tie (figure : form.Normal) (to : List ℕ) (x z : ℕ) : Type 0 where
+-- two links of one context, of which there are `rows`, that go to one sheet link
+pub record Tie (contexts : List Context) (rows : ℕ) (to : List ℕ) (x z : ℕ) : Type 0 where
   pub row : ℕ
   pub first : ℕ
   pub second : ℕ
-  pub row-in : row < figure .«context_count»
-  pub first-in : first < contextAt figure row .count
-  pub second-in : second < contextAt figure row .count
-  pub one : getD (contextAt figure row .links) first 0 ≡ x
-  pub two : getD (contextAt figure row .links) second 0 ≡ z
+  pub row-in : row < rows
+  pub first-in : first < rowAt contexts row .count
+  pub second-in : second < rowAt contexts row .count
+  pub one : getD (rowAt contexts row .links) first 0 ≡ x
+  pub two : getD (rowAt contexts row .links) second 0 ≡ z
   pub together : numberAt to x ≡ numberAt to z
 
 -- links with one label are tied
-abbrev pub Sound : form.Normal → List ℕ → List ℕ → Type 0
-Sound figure to labels = (x z : ℕ) → x < sheetLinks → z < sheetLinks → getD labels x 0 ≡ getD labels z 0 → Reach (Tie figure to) (suc x) (suc z)
+abbrev pub Sound : List Context → ℕ → List ℕ → List ℕ → Type 0
+Sound contexts rows to labels = (x z : ℕ) → x < sheetLinks → z < sheetLinks → getD labels x 0 ≡ getD labels z 0 → Reach (Tie contexts rows to) (suc x) (suc z)
 
 -- one label for another
 abbrev pub Relabelled : List ℕ → List ℕ → ℕ → ℕ → Type 0
@@ -34,17 +35,17 @@ Relabelled labels next from to = (x : ℕ) → x < sheetLinks → getD next x 0 
 -- From labels to next: what has one label keeps one label, and the new ones are tied if these ports are those of a context.
 pub record Grew (to ports : List ℕ) (count : ℕ) (labels next : List ℕ) : Type 0 where
   pub kept : (x z : ℕ) → x < sheetLinks → z < sheetLinks → getD labels x 0 ≡ getD labels z 0 → getD next x 0 ≡ getD next z 0
-  pub sound : (figure : form.Normal) (row : ℕ) → row < figure .«context_count» → contextAt figure row .count ≡ count → contextAt figure row .links ≡ ports
-      → Sound figure to labels → Sound figure to next
+  pub sound : (contexts : List Context) (rows row : ℕ) → row < rows → rowAt contexts row .count ≡ count → rowAt contexts row .links ≡ ports
+      → Sound contexts rows to labels → Sound contexts rows to next
 
 -- the port has the label of each that goes to the same sheet link
 abbrev pub Tied : List ℕ → List ℕ → ℕ → List ℕ → ℕ → Type 0
 Tied to ports count labels k =
     (i : ℕ) → i < count → numberAt to (getD ports i 0) ≡ numberAt to (getD ports k 0) → numberAt labels (getD ports i 0) ≡ numberAt labels (getD ports k 0)
 
-pub record Labelled (figure : form.Normal) (to labels : List ℕ) : Type 0 where
-  pub sound : Sound figure to labels
-  pub complete : (c k : ℕ) → c < figure .«context_count» → k < contextAt figure c .count → Tied to (contextAt figure c .links) (contextAt figure c .count) labels k
+pub record Labelled (contexts : List Context) (rows : ℕ) (to labels : List ℕ) : Type 0 where
+  pub sound : Sound contexts rows to labels
+  pub complete : (c k : ℕ) → c < rows → k < rowAt contexts c .count → Tied to (rowAt contexts c .links) (rowAt contexts c .count) labels k
 
 -- x and z, from 0, are figure links that go to y, and y is not none
 pub record Meet (figure : form.Normal) (to : List ℕ) (none x z y : ℕ) : Type 0 where
@@ -57,7 +58,7 @@ pub record Meet (figure : form.Normal) (to : List ℕ) (none x z y : ℕ) : Type
 -- By labels: 0 where links that meet have one label, else where two meet that have not.
 pub record Apart (figure : form.Normal) (to : List ℕ) (none y : ℕ) : Type 0 where
   pub labels : List ℕ
-  pub labelled : Labelled figure to labels
+  pub labelled : Labelled (figure .contexts) (figure .«context_count») to labels
   pub all-one : y ≡ 0 → (x z w : ℕ) → Meet figure to none x z w → getD labels x 0 ≡ getD labels z 0
   pub two-apart : y ≢ 0 → (x : ℕ) × (z : ℕ) × Meet figure to none x z y × (getD labels x 0 ≢ getD labels z 0)
 
@@ -68,6 +69,15 @@ pub record GatheredAt (to flags : List ℕ) (y x v : ℕ) : Type 0 where
 
 abbrev pub Gathered : List ℕ → List ℕ → ℕ → ℕ → List ℕ → Type 0
 Gathered to flags y n r = (x : ℕ) → x < n → GatheredAt to flags y x (getD r x 0)
+
+-- two of the first n links go to y
+pub record Two (to : List ℕ) (y n : ℕ) : Type 0 where
+  pub one : ℕ
+  pub two : ℕ
+  pub before : one < two
+  pub two-in : two < n
+  pub one-at : getD to one 0 ≡ y
+  pub two-at : getD to two 0 ≡ y
 
 -- two of the first n links go to y and have different labels
 pub record Differ (labels to : List ℕ) (y n : ℕ) : Type 0 where

@@ -1,21 +1,20 @@
 // What is looked up while a component is grown.
 use crate::PORTS;
+use rows::Context;
 use rows::Sheet;
 use sheet::normal::Normal;
 ghost use mathlib.Core.Path.{_≡_};
 ghost use mathlib.Core.Logic.{_↔_, _⊎_};
-ghost use Prim.Native.Nat.{ℕ, _+_, _*_, _-_, _<_, _≤_};
+ghost use Prim.Native.Nat.{ℕ, _+_, _*_, _<_, _≤_};
 ghost use lib.ListN.{length, getD};
-ghost use Rattle.rows.specs.Format.{mostLinks};
-ghost use Rattle.rows.specs.Limits.{sheetLinks};
-ghost use Rattle.placing.specs.Net.{Range};
+ghost use Rattle.rows.specs.Limits.{sheetLinks, figureContexts};
 ghost use Rattle.network.specs.NetIn.{Fit};
-ghost use Rattle.stepping.specs.Flags.{Within, atPort, portOf, portOfNumber, goesTo};
+ghost use Rattle.stepping.specs.Flags.{Within, Ported, atPort, rowAt, portOf, portOfNumber, goesTo};
 
 // For each sheet link 1 where a figure link goes.
-pub fn used_links(count: usize, to: [u16; Sheet::LINKS], none: u16) -> [u8; Sheet::LINKS]
-    requires { ⌜ (count ≤ sheetLinks) × (none ≤ sheetLinks + 1) × Within none count to ⌝ }
-    ensures { λ r. ⌜ ((y : ℕ) → (getD r y 0 ≡ 1) ↔ ((x : ℕ) × (x < count) × goesTo to none x y)) ⌝ }
+pub fn used_links(count: usize, to: &[u16; Sheet::LINKS], none: u16) -> [u8; Sheet::LINKS]
+    requires { ⌜ (count ≤ sheetLinks) × (none ≤ sheetLinks + 1) × Within none count (now to) ⌝ }
+    ensures { λ r. ⌜ ((y : ℕ) → (getD r y 0 ≡ 1) ↔ ((x : ℕ) × (x < count) × goesTo (now (to .entry)) none x y)) ⌝ }
 {
     let mut flags = [0u8; Sheet::LINKS];
     let mut x = 0;
@@ -35,11 +34,11 @@ fn port_row(
     c: usize,
     ports: [u16; Sheet::MOST_LINKS],
     count: usize,
-    to: [u16; Sheet::LINKS],
+    to: &[u16; Sheet::LINKS],
     none: u16,
 )
-    requires { ⌜ (c < 9) × (count ≤ mostLinks) × (none ≤ sheetLinks + 1) × ((k : ℕ) → k < count → Range sheetLinks (getD ports k 0) × Range none (getD to (getD ports k 0 - 1) 0)) × (length (now table) ≡ 9 * sheetLinks) ⌝ }
-    ensures { λ r. ⌜ (length (now (table .exit)) ≡ 9 * sheetLinks) × ((p : ℕ) → (getD (now (table .exit)) p 0 ≡ 1) ↔ ((getD (now (table .entry)) p 0 ≡ 1) ⊎ ((k : ℕ) × (k < count) × atPort to none ports c k p))) ⌝ }
+    requires { ⌜ (c < 9) × (none ≤ sheetLinks + 1) × Ported (now to) none count ports × (length (now table) ≡ 9 * sheetLinks) ⌝ }
+    ensures { λ r. ⌜ (length (now (table .exit)) ≡ 9 * sheetLinks) × ((p : ℕ) → (getD (now (table .exit)) p 0 ≡ 1) ↔ ((getD (now (table .entry)) p 0 ≡ 1) ⊎ ((k : ℕ) × (k < count) × atPort (now (to .entry)) none ports c k p))) ⌝ }
 {
     let mut k = 0;
     while k < count {
@@ -52,14 +51,21 @@ fn port_row(
 }
 
 // The same for all rows with the number of context c.
-fn port_rows(table: &mut [u8; PORTS], c: usize, figure: Normal, to: [u16; Sheet::LINKS], none: u16)
-    requires { ⌜ (c < figure .«context_count») × (none ≤ sheetLinks + 1) × Fit figure × Within none (figure .«class_count») to × (length (now table) ≡ 9 * sheetLinks) ⌝ }
-    ensures { λ r. ⌜ (length (now (table .exit)) ≡ 9 * sheetLinks) × ((p : ℕ) → (getD (now (table .exit)) p 0 ≡ 1) ↔ ((getD (now (table .entry)) p 0 ≡ 1) ⊎ ((d : ℕ) × (d < figure .«context_count») × portOf figure to none c d p))) ⌝ }
+fn port_rows(
+    table: &mut [u8; PORTS],
+    c: usize,
+    contexts: [Context; Sheet::CONTEXT_ROOM],
+    count: usize,
+    to: &[u16; Sheet::LINKS],
+    none: u16,
+)
+    requires { ⌜ (c < count) × (count ≤ figureContexts) × (none ≤ sheetLinks + 1) × ((d : ℕ) → d < count → Ported (now to) none (rowAt contexts d .count) (rowAt contexts d .links)) × (length (now table) ≡ 9 * sheetLinks) ⌝ }
+    ensures { λ r. ⌜ (length (now (table .exit)) ≡ 9 * sheetLinks) × ((p : ℕ) → (getD (now (table .exit)) p 0 ≡ 1) ↔ ((getD (now (table .entry)) p 0 ≡ 1) ⊎ ((d : ℕ) × (d < count) × portOf contexts (now (to .entry)) none c d p))) ⌝ }
 {
-    let first = figure.contexts[c];
+    let first = contexts[c];
     let mut d = 0;
-    while d < figure.context_count {
-        let row = figure.contexts[d];
+    while d < count {
+        let row = contexts[d];
         if row.number == first.number {
             let ports = row.links;
             port_row(&mut *table, c, ports, row.count as usize, to, none);
@@ -70,14 +76,15 @@ fn port_rows(table: &mut [u8; PORTS], c: usize, figure: Normal, to: [u16; Sheet:
 
 // For the context of row c and link y, both from 0: 1 at c * LINKS + y where a row with its number has a
 // port that goes to y.
-pub fn port_table(figure: Normal, to: [u16; Sheet::LINKS], none: u16) -> [u8; PORTS]
-    requires { ⌜ (none ≤ sheetLinks + 1) × Fit figure × Within none (figure .«class_count») to ⌝ }
-    ensures { λ r. ⌜ ((p : ℕ) → (getD r p 0 ≡ 1) ↔ ((c : ℕ) × (c < figure .«context_count») × portOfNumber figure to none c p)) ⌝ }
+pub fn port_table(figure: Normal, to: &[u16; Sheet::LINKS], none: u16) -> [u8; PORTS]
+    requires { ⌜ (none ≤ sheetLinks + 1) × Fit figure × Within none (figure .«class_count») (now to) ⌝ }
+    ensures { λ r. ⌜ ((p : ℕ) → (getD r p 0 ≡ 1) ↔ ((c : ℕ) × (c < figure .«context_count») × portOfNumber figure (now (to .entry)) none c p)) ⌝ }
 {
+    let contexts = figure.contexts;
     let mut table = [0u8; PORTS];
     let mut c = 0;
     while c < figure.context_count {
-        port_rows(&mut table, c, figure, to, none);
+        port_rows(&mut table, c, contexts, figure.context_count, to, none);
         c += 1;
     }
     table

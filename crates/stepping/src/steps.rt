@@ -1,27 +1,27 @@
 // Figure links that go to one sheet link: are they linked by steps, each between two links of one context?
+use rows::Context;
 use rows::Sheet;
 use sheet::normal::Normal;
 ghost use mathlib.Core.Path.{_≡_};
 ghost use Prim.Native.Nat.{ℕ, _+_, _<_, _≤_};
 ghost use lib.ListN.{length, getD};
 ghost use Rattle.rows.specs.Format.{mostLinks};
-ghost use Rattle.rows.specs.Limits.{sheetLinks};
-ghost use Rattle.sheet.specs.declared.normal.Normal as form;
+ghost use Rattle.rows.specs.Limits.{sheetLinks, figureContexts};
 ghost use Rattle.placing.specs.Net.{Range};
 ghost use Rattle.network.specs.NetIn.{Fit};
+ghost use Rattle.stepping.specs.Flags.{rowAt, Within};
 ghost use Rattle.stepping.specs.Labels.{Relabelled, Grew, Tied, Labelled, Apart};
 
 // Each link its own label.
-pub(crate) fn own_labels() -> [u16; Sheet::LINKS]
-    ensures { λ r. ⌜ ((x : ℕ) → x < sheetLinks → getD r x 0 ≡ x + 1) ⌝ }
+fn own_labels(labels: &mut [u16; Sheet::LINKS])
+    requires { ⌜ length (now labels) ≡ sheetLinks ⌝ }
+    ensures { λ r. ⌜ (length (now (labels .exit)) ≡ sheetLinks) × ((x : ℕ) → x < sheetLinks → getD (now (labels .exit)) x 0 ≡ x + 1) ⌝ }
 {
-    let mut labels = [0u16; Sheet::LINKS];
     let mut x = 0;
     while x < Sheet::LINKS {
         labels[x] = (x + 1) as u16;
         x += 1;
     }
-    labels
 }
 
 // One label for another.
@@ -81,27 +81,34 @@ fn with_context(
     }
 }
 
-pub(crate) fn step_labels(figure: Normal, to: &[u16; Sheet::LINKS]) -> [u16; Sheet::LINKS]
-    requires { ⌜ Fit figure ⌝ }
-    ensures { λ r. ⌜ Labelled figure (now (to .entry)) r ⌝ }
+// Labels of all links, by the ports of the contexts.
+pub(crate) fn step_labels(
+    labels: &mut [u16; Sheet::LINKS],
+    to: &[u16; Sheet::LINKS],
+    contexts: [Context; Sheet::CONTEXT_ROOM],
+    count: usize,
+)
+    requires { ⌜ (count ≤ figureContexts) × ((i : ℕ) → i < count → (rowAt contexts i .count ≤ mostLinks) × Within sheetLinks (rowAt contexts i .count) (rowAt contexts i .links)) × (length (now labels) ≡ sheetLinks) ⌝ }
+    ensures { λ r. ⌜ (length (now (labels .exit)) ≡ sheetLinks) × Labelled contexts count (now (to .entry)) (now (labels .exit)) ⌝ }
 {
-    let mut labels = own_labels();
+    own_labels(&mut *labels);
     let mut c = 0;
-    while c < figure.context_count {
-        let row = figure.contexts[c];
+    while c < count {
+        let row = contexts[c];
         let ports = row.links;
-        with_context(&mut labels, to, ports, row.count as usize);
+        with_context(&mut *labels, to, ports, row.count as usize);
         c += 1;
     }
-    labels
 }
 
 // A sheet link at which two figure links have different labels, 0 where there is none.
-pub fn apart(figure: Normal, to: [u16; Sheet::LINKS], none: u16) -> u16
-    requires { ⌜ Fit figure × (none ≤ sheetLinks + 1) × ((x : ℕ) → x < figure .«class_count» → Range none (getD to x 0)) ⌝ }
-    ensures { λ r. ⌜ Apart figure to none r ⌝ }
+pub fn apart(figure: Normal, to: &[u16; Sheet::LINKS], none: u16) -> u16
+    requires { ⌜ Fit figure × (none ≤ sheetLinks + 1) × ((x : ℕ) → x < figure .«class_count» → Range none (getD (now to) x 0)) ⌝ }
+    ensures { λ r. ⌜ Apart figure (now (to .entry)) none r ⌝ }
 {
-    let labels = step_labels(figure, &to);
+    let contexts = figure.contexts;
+    let mut labels = [0u16; Sheet::LINKS];
+    step_labels(&mut labels, to, contexts, figure.context_count);
     let mut owner = [0u16; Sheet::LINKS];
     let mut x = 0;
     while x < figure.class_count {

@@ -6,33 +6,31 @@ use mathlib.Core.Logic.{⊎-elim}
 use native.Mathlib.Omega.{arith}
 use lib.ListN.{length, getD}
 use Rattle.rows.specs.Limits.{sheetLinks}
-use Rattle.stepping.specs.Flags.{portOf, atPort}
+use Rattle.stepping.specs.Flags.{rowAt, portOf, atPort}
 use Rattle.stepping.proofs.Tables.{Marked, marked-start, marked-more, marked-skip, flag-as}
-use Rattle.network.specs.NetIn.{contextAt}
-use Rattle.stepping.proofs.Rows.{context-row, port-row}
 use Rattle.stepping.proofs.lookup.port_rows.Statement.{statement}
 use Rattle.stepping.proofs.lookup.port_rows.Tie as tie
 
 abbrev Inv-loop : tie.InvT-loop
-Inv-loop table₀ c to none figure first d₀ table d = (d ≤ figure .«context_count») × (length table ≡ 9 * sheetLinks) × Marked (λ p. getD table₀ p 0 ≡ 1) (portOf figure to none c) d table
+Inv-loop table₀ c count to none contexts first d₀ table d = (d ≤ count) × (length table ≡ 9 * sheetLinks) × Marked (λ p. getD table₀ p 0 ≡ 1) (portOf contexts to none c) d table
 
 abbrev μ-loop : tie.MeasureT-loop
-μ-loop table₀ c to none figure first d₀ table d = figure .«context_count» - d
+μ-loop table₀ c count to none contexts first d₀ table d = count - d
 
 mul-first : tie.Need-mul-first Inv-loop μ-loop
 mul-first c = search needs
 
-element-copy-out-first : tie.Need-element-copy-out-first Inv-loop μ-loop
-element-copy-out-first c = search needs
+array-copy-out-first : tie.Need-array-copy-out-first Inv-loop μ-loop
+array-copy-out-first c = search needs
 
 loop-holds : tie.Need-loop-holds Inv-loop μ-loop
-loop-holds c = let a = c .before .args in (omega arith, c .before .pre .4, marked-start (λ p. getD (a .table .now) p 0 ≡ 1) (portOf (a .t3) (a .to) (a .none) (a .c)) (a .table .now) (λ p. ((λ q. q), (λ q. q))))
+loop-holds c = let a = c .before .args in (omega arith, c .before .pre .4, marked-start (λ p. getD (a .table .now) p 0 ≡ 1) (portOf (a .t3) (a .to .now) (a .none) (a .c)) (a .table .now) (λ p. ((λ q. q), (λ q. q))))
 
 mul-row : tie.Need-mul-row Inv-loop μ-loop
 mul-row c = search needs
 
-element-copy-out-row : tie.Need-element-copy-out-row Inv-loop μ-loop
-element-copy-out-row c = search needs
+array-copy-out-row : tie.Need-array-copy-out-row Inv-loop μ-loop
+array-copy-out-row c = search needs
 
 cast-port-row : tie.Need-cast-port-row Inv-loop μ-loop
 cast-port-row c = search needs
@@ -40,7 +38,7 @@ cast-port-row c = search needs
 port-row-requires : tie.Need-port-row-requires Inv-loop μ-loop
 port-row-requires c κs = let s = c .before .before .before .before .before .before .before .before .before .before in
     let l = c .before .before .before .before .before .before .before .before .loop in
-    (omega (arith, s .pre .0, s .pre .2 .context-count), context-row (s .args .t3) (s .pre .2) (l .d) (omega arith) .0, s .pre .1, port-row (s .args .t3) (s .pre .2) (s .args .to) (s .args .none) (s .pre .3) (l .d) (omega arith), l .inv .1)
+    (omega (arith, s .pre .0, s .pre .1), s .pre .2, s .pre .3 (l .d) (omega arith), l .inv .1)
 
 add-d : tie.Need-add-d Inv-loop μ-loop
 add-d c = search needs
@@ -52,21 +50,21 @@ loop-again : tie.Need-loop-again Inv-loop μ-loop
 loop-again c = let l = c .before .before .before .before .before .loop in
     let s = c .before .before .before .before .before .before .before in
     let a = s .args in
-    let w : (length (c .if1 .table) ≡ 9 * sheetLinks) × Marked (λ p. getD (a .table .now) p 0 ≡ 1) (portOf (a .t3) (a .to) (a .none) (a .c)) (l .d + 1) (c .if1 .table) = ⊎-elim
-    (λ w. subst (λ m. (length m ≡ 9 * sheetLinks) × Marked (λ p. getD (a .table .now) p 0 ≡ 1) (portOf (a .t3) (a .to) (a .none) (a .c)) (l .d + 1) m) (sym (w .5)) (
+    let w : (length (c .if1 .table) ≡ 9 * sheetLinks) × Marked (λ p. getD (a .table .now) p 0 ≡ 1) (portOf (a .t3) (a .to .now) (a .none) (a .c)) (l .d + 1) (c .if1 .table) = ⊎-elim
+    (λ w. subst (λ m. (length m ≡ 9 * sheetLinks) × Marked (λ p. getD (a .table .now) p 0 ≡ 1) (portOf (a .t3) (a .to .now) (a .none) (a .c)) (l .d + 1) m) (sym (w .5)) (
       w .4 .ensures .0,
-      marked-more (λ p. getD (a .table .now) p 0 ≡ 1) (portOf (a .t3) (a .to) (a .none) (a .c)) (l .d) (l .table) (w .4 .last .0) (l .inv .2)
-          (flag-as (portOf (a .t3) (a .to) (a .none) (a .c) (l .d)) (λ p. (k : ℕ) × (k < contextAt (a .t3) (l .d) .count) × atPort (a .to) (a .none) (contextAt (a .t3) (l .d) .links) (a .c) k p) (l .table) (w .4 .last .0) (w .4 .ensures .1) (λ p. ((λ t. (w .0 .taken, t)), (λ t. t .1)))),
+      marked-more (λ p. getD (a .table .now) p 0 ≡ 1) (portOf (a .t3) (a .to .now) (a .none) (a .c)) (l .d) (l .table) (w .4 .last .0) (l .inv .2)
+          (flag-as (portOf (a .t3) (a .to .now) (a .none) (a .c) (l .d)) (λ p. (k : ℕ) × (k < rowAt (a .t3) (l .d) .count) × atPort (a .to .now) (a .none) (rowAt (a .t3) (l .d) .links) (a .c) k p) (l .table) (w .4 .last .0) (w .4 .ensures .1) (λ p. ((λ t. (w .0 .taken, t)), (λ t. t .1)))),
     ))
-    (λ w. subst (λ m. (length m ≡ 9 * sheetLinks) × Marked (λ p. getD (a .table .now) p 0 ≡ 1) (portOf (a .t3) (a .to) (a .none) (a .c)) (l .d + 1) m) (sym (w .1)) (l .inv .1, marked-skip (λ p. getD (a .table .now) p 0 ≡ 1) (portOf (a .t3) (a .to) (a .none) (a .c)) (l .d) (l .table) (l .inv .2) (λ p t. w .0 .left (t .0))))
+    (λ w. subst (λ m. (length m ≡ 9 * sheetLinks) × Marked (λ p. getD (a .table .now) p 0 ≡ 1) (portOf (a .t3) (a .to .now) (a .none) (a .c)) (l .d + 1) m) (sym (w .1)) (l .inv .1, marked-skip (λ p. getD (a .table .now) p 0 ≡ 1) (portOf (a .t3) (a .to .now) (a .none) (a .c)) (l .d) (l .table) (l .inv .2) (λ p t. w .0 .left (t .0))))
     (c .if1 .came) in
     (omega arith, w .0, w .1)
 
 returns : tie.Need-returns Inv-loop μ-loop
 returns c = let l = c .before .loop in
     let a = c .before .before .before .args in
-    let e : l .d ≡ a .t3 .«context_count» = omega arith in
-    (l .inv .1, subst (λ n. Marked (λ p. getD (a .table .now) p 0 ≡ 1) (portOf (a .t3) (a .to) (a .none) (a .c)) n (l .table)) e (l .inv .2))
+    let e : l .d ≡ a .count = omega arith in
+    (l .inv .1, subst (λ n. Marked (λ p. getD (a .table .now) p 0 ≡ 1) (portOf (a .t3) (a .to .now) (a .none) (a .c)) n (l .table)) e (l .inv .2))
 
 pub port-rows-spec : {M : Type 1} → statement M
 port-rows-spec =
@@ -75,10 +73,10 @@ port-rows-spec =
     Inv-loop
     μ-loop
     mul-first
-    element-copy-out-first
+    array-copy-out-first
     loop-holds
     mul-row
-    element-copy-out-row
+    array-copy-out-row
     cast-port-row
     port-row-requires
     add-d

@@ -16,7 +16,7 @@ abbrev μ-loop : tie.MeasureT-loop
 μ-loop labels₀ x₀ labels x = sheetLinks - x
 
 loop-holds : tie.Need-loop-holds Inv-loop μ-loop
-loop-holds c = search needs
+loop-holds c = (omega arith, c .pre, λ i h. absurd (omega arith))
 
 add-labels : tie.Need-add-labels Inv-loop μ-loop
 add-labels c = search needs
@@ -27,8 +27,8 @@ cast-labels c = search needs
 mul-labels : tie.Need-mul-labels Inv-loop μ-loop
 mul-labels c = search needs
 
-array-write-labels : tie.Need-array-write-labels Inv-loop μ-loop
-array-write-labels c = search needs
+element-write-labels : tie.Need-element-write-labels Inv-loop μ-loop
+element-write-labels c = search needs
 
 add-x : tie.Need-add-x Inv-loop μ-loop
 add-x c = search needs
@@ -40,7 +40,7 @@ loop-again : tie.Need-loop-again Inv-loop μ-loop
 loop-again c = let l = c .before .loop in (search needs, search needs, below-set (λ i v. v ≡ i + 1) (l .labels) (l .x) (l .x + 1) (omega arith) (l .inv .2) refl)
 
 returns : tie.Need-returns Inv-loop μ-loop
-returns c = λ x h. c .before .loop .inv .2 x (omega arith)
+returns c = let l = c .before .loop in (l .inv .1, λ x h. l .inv .2 x (omega arith))
 
 pub own-labels-spec : {M : Type 1} → statement M
 own-labels-spec =
@@ -52,7 +52,7 @@ own-labels-spec =
     add-labels
     cast-labels
     mul-labels
-    array-write-labels
+    element-write-labels
     add-x
     loop-less
     loop-again

@@ -14,10 +14,10 @@ abbrev First : List ℕ → ℕ → ℕ → ℕ → Type 0
 First to y x first = first ≢ 0 → (first ≤ x) × (getD to (first - 1) 0 ≡ y)
 
 abbrev Inv-loop : tie.InvT-loop
-Inv-loop y count labels to first₀ x₀ first x = (x ≤ count) × First to y x first
+Inv-loop labels to y count first₀ x₀ first x = (x ≤ count) × First to y x first
 
 abbrev μ-loop : tie.MeasureT-loop
-μ-loop y count labels to first₀ x₀ first x = count - x
+μ-loop labels to y count first₀ x₀ first x = count - x
 
 loop-holds : tie.Need-loop-holds Inv-loop μ-loop
 loop-holds c = (omega arith, λ n. absurd (n refl))
@@ -25,8 +25,8 @@ loop-holds c = (omega arith, λ n. absurd (n refl))
 mul-if1 : tie.Need-mul-if1 Inv-loop μ-loop
 mul-if1 c = search needs
 
-array-read-if1 : tie.Need-array-read-if1 Inv-loop μ-loop
-array-read-if1 c = search needs
+element-copy-out-if1 : tie.Need-element-copy-out-if1 Inv-loop μ-loop
+element-copy-out-if1 c = search needs
 
 add-first : tie.Need-add-first Inv-loop μ-loop
 add-first c = search needs
@@ -35,20 +35,20 @@ sub-if3 : tie.Need-sub-if3 Inv-loop μ-loop
 sub-if3 c = search needs
 
 mul-if3 : tie.Need-mul-if3 Inv-loop μ-loop
-mul-if3 c = let w = c .before .before .before .loop .inv .1 (c .if2 .left) in omega (arith, w .0)
+mul-if3 c = let w = c .before .before .before .before .loop .inv .1 (c .if2 .left) in omega (arith, w .0)
 
-array-read-if3 : tie.Need-array-read-if3 Inv-loop μ-loop
-array-read-if3 c = let w = c .before .before .before .loop .inv .1 (c .if2 .left) in omega (arith, w .0)
+element-copy-out-if3 : tie.Need-element-copy-out-if3 Inv-loop μ-loop
+element-copy-out-if3 c = let w = c .before .before .before .before .loop .inv .1 (c .if2 .left) in omega (arith, w .0)
 
 mul-if3-2 : tie.Need-mul-if3-2 Inv-loop μ-loop
 mul-if3-2 c = search needs
 
-array-read-if3-2 : tie.Need-array-read-if3-2 Inv-loop μ-loop
-array-read-if3-2 c = search needs
+element-copy-out-if3-2 : tie.Need-element-copy-out-if3-2 Inv-loop μ-loop
+element-copy-out-if3-2 c = search needs
 
 returns : tie.Need-returns Inv-loop μ-loop
-returns c = let e = c .before in
-    let l = e .before .before .before .loop in
+returns c = let e = c .before .before .before in
+    let l = e .before .before .before .before .loop in
     let w = l .inv .1 (e .if2 .left) in
     λ u. record { one = l .first - 1; two = l .x; one-in = omega (arith, w .0, e .if2 .left); two-in = omega arith; one-at = w .1; two-at = e .before .if1 .taken; other-label = c .if3 .taken }
 
@@ -59,13 +59,13 @@ loop-less : tie.Need-loop-less Inv-loop μ-loop
 loop-less c = search needs
 
 loop-again : tie.Need-loop-again Inv-loop μ-loop
-loop-again c = let l = c .before .before .loop in
-    let a = c .before .before .before .args in
-    let later : First (a .t2) (a .y) (l .x + 1) (l .first) = λ n. let w = l .inv .1 n in (omega (arith, w .0), w .1) in (
+loop-again c = let l = c .before .before .before .loop in
+    let a = c .before .before .before .before .args in
+    let later : First (a .to .now) (a .y) (l .x + 1) (l .first) = λ n. let w = l .inv .1 n in (omega (arith, w .0), w .1) in (
       omega arith,
       ⊎-elim
-          (λ w. subst (First (a .t2) (a .y) (l .x + 1)) (sym (w .2)) (λ n. (omega arith, ap (λ (i : ℕ). getD (a .t2) i 0) (let e : l .x + 1 - 1 ≡ l .x = omega arith in e) ∙ w .0 .taken)))
-          (⊎-elim (λ w. subst (First (a .t2) (a .y) (l .x + 1)) (sym (w .3)) later) (λ w. subst (First (a .t2) (a .y) (l .x + 1)) (sym (w .1)) later))
+          (λ w. subst (First (a .to .now) (a .y) (l .x + 1)) (sym (w .2)) (λ n. (omega arith, ap (λ (i : ℕ). getD (a .to .now) i 0) (let e : l .x + 1 - 1 ≡ l .x = omega arith in e) ∙ w .0 .taken)))
+          (⊎-elim (λ w. subst (First (a .to .now) (a .y) (l .x + 1)) (sym (w .5)) later) (λ w. subst (First (a .to .now) (a .y) (l .x + 1)) (sym (w .1)) later))
           (c .if1 .came),
     )
 
@@ -80,13 +80,13 @@ differ-spec =
     μ-loop
     loop-holds
     mul-if1
-    array-read-if1
+    element-copy-out-if1
     add-first
     sub-if3
     mul-if3
-    array-read-if3
+    element-copy-out-if3
     mul-if3-2
-    array-read-if3-2
+    element-copy-out-if3-2
     returns
     add-x
     loop-less
