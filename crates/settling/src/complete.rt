@@ -6,6 +6,7 @@ use deciding::kinds::kinds;
 use deciding::opening::open_links;
 use deciding::taken::taken_by;
 use faults::fault::find;
+use narrowing::LAID;
 use rows::Sheet;
 use sheet::normal::Normal;
 use stepping::chains::chains;
@@ -15,6 +16,7 @@ ghost use lib.ListN.{take};
 ghost use Rattle.network.specs.NetIn.{netIn};
 ghost use Rattle.network.specs.Ready.{Ready, AtomsIn, LinksIn};
 ghost use Rattle.network.specs.Begun.{leastAfter};
+ghost use Rattle.narrowing.specs.Laid.{LaidOut};
 ghost use Rattle.settling.specs.Completed.{completedIn};
 ghost use Rattle.settling.specs.Completes.{LeastIn};
 
@@ -39,20 +41,21 @@ fn nothing() -> Completed
 fn least(
     sheet: Normal,
     figure: Normal,
+    laid: &[u16; LAID],
     taken: [u8; Sheet::ATOMS],
     to: [u16; Sheet::LINKS],
     flags: [u8; Sheet::LINKS],
 ) -> Completed
-    requires { ⌜ Ready sheet figure × LinksIn sheet figure to ⌝ }
+    requires { ⌜ Ready sheet figure × LinksIn sheet figure to × LaidOut sheet (now laid) (sheet .«atom_count») ⌝ }
     ensures { λ r. ⌜ LeastIn sheet figure taken to flags r ⌝ }
 {
     let table = chains(sheet);
     let kind = kinds(figure);
-    if !completable(sheet, figure, &table, taken, kind, to, flags, 0) {
+    if !completable(sheet, figure, laid, &table, taken, kind, to, flags, 0) {
         return nothing();
     }
-    let links_to = settled(sheet, figure, &table, taken, kind, to, flags);
-    let last = find(sheet, figure, &table, taken, links_to);
+    let links_to = settled(sheet, figure, laid, &table, taken, kind, to, flags);
+    let last = find(sheet, figure, laid, &table, taken, links_to);
     let given = last.given;
     Completed {
         ok: true,
@@ -61,9 +64,14 @@ fn least(
     }
 }
 
-// Links and contexts of the least good placing with these atoms.
-pub fn complete(sheet: Normal, figure: Normal, atoms_to: [u16; Sheet::ATOMS]) -> Completed
-    requires { ⌜ Ready sheet figure × AtomsIn sheet (figure .«atom_count») «atoms_to» ⌝ }
+// Links and contexts of the least good placing with these atoms. `laid` are the sheet's atoms.
+pub fn complete(
+    sheet: Normal,
+    figure: Normal,
+    laid: &[u16; LAID],
+    atoms_to: [u16; Sheet::ATOMS],
+) -> Completed
+    requires { ⌜ Ready sheet figure × AtomsIn sheet (figure .«atom_count») «atoms_to» × LaidOut sheet (now laid) (sheet .«atom_count») ⌝ }
     ensures { λ r. ⌜ completedIn sheet figure r ≡ leastAfter (netIn sheet) (netIn figure) (take (figure .«atom_count») «atoms_to») ⌝ }
 {
     let taken = taken_by(sheet, figure, atoms_to);
@@ -80,5 +88,5 @@ pub fn complete(sheet: Normal, figure: Normal, atoms_to: [u16; Sheet::ATOMS]) ->
     let flags = taken.flags;
     let to = opened.to;
     let open = opened.flags;
-    least(sheet, figure, flags, to, open)
+    least(sheet, figure, laid, flags, to, open)
 }
