@@ -11,8 +11,11 @@ use rows::Sheet;
 use sheet::normal::Normal;
 use stepping::chains::chains;
 ghost use mathlib.Core.Path.{_≡_};
-ghost use mathlib.Core.Bool.{false};
-ghost use lib.ListN.{take};
+ghost use mathlib.Core.Bool.{true, false};
+ghost use mathlib.Core.Logic.{_↔_, _≢_};
+ghost use Prim.Native.Nat.{ℕ, _<_, _≤_};
+ghost use lib.ListN.{take, getD};
+ghost use Rattle.rows.specs.Limits.{sheetLinks};
 ghost use Rattle.network.specs.NetIn.{netIn};
 ghost use Rattle.network.specs.Ready.{Ready, AtomsIn, LinksIn};
 ghost use Rattle.network.specs.Begun.{leastAfter};
@@ -37,7 +40,22 @@ fn nothing() -> Completed
     }
 }
 
-// The least completion where the links with a flag are open.
+// None of the first `count` links has a flag.
+fn none_open(flags: &[u8; Sheet::LINKS], count: usize) -> bool
+    requires { ⌜ count ≤ sheetLinks ⌝ }
+    ensures { λ r. ⌜ ((r ≡ true) ↔ ((x : ℕ) → x < count → getD (now (flags .entry)) x 0 ≢ 1)) ⌝ }
+{
+    let mut x = 0;
+    while x < count {
+        if flags[x] == 1 {
+            return false;
+        }
+        x += 1;
+    }
+    true
+}
+
+// The least completion where the links with a flag are open. Where none is, one look for a fault decides.
 fn least(
     sheet: Normal,
     figure: Normal,
@@ -50,6 +68,18 @@ fn least(
     ensures { λ r. ⌜ LeastIn sheet figure taken to flags r ⌝ }
 {
     let table = chains(sheet);
+    if none_open(&flags, figure.class_count) {
+        let only = find(sheet, figure, laid, &table, taken, to);
+        if only.found {
+            return nothing();
+        }
+        let given = only.given;
+        return Completed {
+            ok: true,
+            links_to: to,
+            given,
+        };
+    }
     let kind = kinds(figure);
     if !completable(sheet, figure, laid, &table, taken, kind, to, flags, 0) {
         return nothing();
