@@ -8,22 +8,24 @@ use native.Mathlib.Omega.{arith}
 use lib.ListN.{length, take, getD, set, replicate}
 use lib.Seq.{getD-take, getD-set-same, length-take-le}
 use Rattle.rows.specs.Limits.{sheetLinks}
+use Rattle.rows.specs.declared.Atom.{Atom}
 use Rattle.sheet.specs.declared.normal.Normal as form
-use Rattle.placing.specs.Net.{Net, Range}
+use Rattle.placing.specs.Net.{NetCell, Net, Range}
 use Rattle.placing.specs.Placing.{Placing, numberAt}
 use Rattle.network.specs.NetIn.{netIn}
 use Rattle.network.specs.Ready.{Ready, LinksIn, TakenIn, stateIn}
-use Rattle.network.proofs.NetIn.{atoms-length}
+use Rattle.network.proofs.NetIn.{atoms-length, contexts-length}
+use Rattle.narrowing.specs.Laid.{LaidOut}
 use Rattle.completing.specs.Completion.{Partial}
 use Rattle.completing.specs.Fault as faults
 use Rattle.faults.specs.declared.fault.Fault.{Fault}
 use Rattle.stepping.specs.Flags.{Within, goesTo, portOfNumber}
-use Rattle.stepping.specs.Chains.{ChainsIn}
+use Rattle.stepping.specs.Chains.{ChainsIn, RowIn}
 use Rattle.stepping.specs.Labels.{Apart}
 use Rattle.faults.specs.Grows.{Tables}
-use Rattle.faults.specs.Gives.{GivesAt, TakenFlags}
+use Rattle.faults.specs.Gives.{GivesAt, TakenFlags, HeldIn}
 use Rattle.faults.specs.Finds.{Finds}
-use Rattle.stepping.proofs.Reading.{used-read, port-read}
+use Rattle.stepping.proofs.Reading.{context-cell, used-read, port-read}
 use Rattle.stepping.proofs.Chaining.{row-in}
 use Rattle.stepping.proofs.Linking.{all-linked, two-apart}
 
@@ -42,6 +44,14 @@ module _ (sheet figure : form.Normal) (ready : Ready sheet figure) (to : List �
 
   pub none-room : none ≤ sheetLinks + 1
   none-room = let h = ready .sheet-fit .class-count in omega arith
+
+  pub held-in : (laid : List ℕ) → LaidOut sheet laid (sheet .«atom_count») → HeldIn S F laid (sheet .«atom_count») (sheet .«class_count») (figure .contexts) (figure .«context_count»)
+  held-in laid o = record {
+    link-count = refl;
+    atom-rows = λ j h. subst (λ (a : Atom). RowIn S j (a .links) (a .count)) (sym (o .atoms j h)) (row-in sheet (ready .sheet-fit) j h);
+    choice-count = contexts-length figure (ready .figure-fit);
+    choice-number = λ c h. ap (λ (r : NetCell). r .0) (context-cell figure (ready .figure-fit) c h);
+  }
 
   pub apart-room : (y : ℕ) → y ≢ 0 → Apart figure to none y → y - 1 < sheetLinks
   apart-room y n w =
@@ -84,7 +94,7 @@ module _ (sheet figure : form.Normal) (ready : Ready sheet figure) (to : List �
       port-flag = λ c y i h. port-read figure (ready .figure-fit) S atoms to none c y i (omega arith) none-room to-within ports v;
     }
 
-    pub taken-flags : (taken : List ℕ) → TakenIn sheet figure q taken → TakenFlags sheet F q taken
+    pub taken-flags : (taken : List ℕ) → TakenIn sheet figure q taken → TakenFlags S F q (sheet .«atom_count») taken
     taken-flags taken t j h = let w = t .flags (suc j) (omega arith, omega arith) in
         let e : suc j - 1 ≡ j = omega arith in
         ((λ i. w .0 (ap (λ (n : ℕ). getD taken n 0) e ∙ i)), (λ k. ap (λ (n : ℕ). getD taken n 0) (sym e) ∙ w .1 k))

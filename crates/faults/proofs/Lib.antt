@@ -1,5 +1,6 @@
 -- A component.
 pub mod Ones
+pub mod AtomRows
 pub mod Growing
 pub mod Whole
 pub mod Parting

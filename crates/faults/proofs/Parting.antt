@@ -46,15 +46,16 @@ ends-next links k flags next low room w S F q root j part members seen m on h =
     )
 
 -- Each context is cut.
-pub part-cuts : (S F : Net) (q : Placing) (chains used ports : List ℕ) (atoms contexts root : ℕ) (members flags : List ℕ) → Tables S F q chains used ports atoms contexts → Rows F contexts
-    → HoldsSome S F q root members flags → ((c : ℕ) → c < contexts → Cut flags used ports (S .links) c) → CutLinks S F q flags
-part-cuts S F q chains used ports atoms contexts root members flags t rows h cut = (
+pub part-cuts : (S F : Net) (q : Placing) (chains used ports : List ℕ) (atoms contexts root links : ℕ) (members flags : List ℕ) → S .links ≡ links → Tables S F q chains used ports atoms contexts → Rows F contexts
+    → HoldsSome S F q root members flags → ((c : ℕ) → c < contexts → Cut flags used ports links c) → CutLinks S F q flags
+part-cuts S F q chains used ports atoms contexts root links members flags e t rows h cut = (
   h .0,
   h .1,
   part-cut-off S F q root (h .0) (h .1) (h .2 .connected) (λ row m s.
       let c = rows row m in
       let k = cut (c .0) (c .1) in
-      let port = s (suc (k .0)) (h .2 .flagged-seen (k .0) (k .2)) (t .used-flag (k .0) (k .1) .0 (k .3)) in
-      k .4 (t .port-flag (c .0) (k .0) (c .1) (k .1) .1 (subst (λ (n : ℕ). PortAt S F q n (suc (k .0))) (sym (c .2)) port))),
+      let l : k .0 < S .links = omega (arith, k .1) in
+      let port = s (suc (k .0)) (h .2 .flagged-seen (k .0) (k .2)) (t .used-flag (k .0) l .0 (k .3)) in
+      k .4 (t .port-flag (c .0) (k .0) (c .1) l .1 (subst (λ (n : ℕ). PortAt S F q n (suc (k .0))) (sym (c .2)) port))),
   h .2 .looked,
 )

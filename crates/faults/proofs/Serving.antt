@@ -2,7 +2,7 @@
 use Prim.Native.Nat.{ℕ, suc, _+_, _-_, _≤_, _<_}
 use mathlib.Core.Path.{_≡_, refl, sym, _∙_, ap, subst}
 use mathlib.Core.Logic.{_⊎_, inl, inr, ⊎-elim, _≢_}
-use mathlib.Core.List.{List}
+use mathlib.Core.List.{List, []}
 use mathlib.Core.Bool.{true, false}
 use native.Mathlib.Decide.{ℕ-discrete}
 use native.Mathlib.Omega.{arith}
@@ -10,23 +10,27 @@ use lib.ListN.{length, getD, set, length-set, replicate}
 use lib.Seq.{getD-set-same, getD-set-other}
 use Rattle.hyperlmntal.specs.Link.{_∈_}
 use Rattle.rows.specs.Limits.{sheetAtoms}
-use Rattle.sheet.specs.declared.normal.Normal as form
+use Rattle.rows.specs.declared.Context.{Context}
 use Rattle.placing.specs.Net.{NetCell, Net, Range}
 use Rattle.placing.specs.Placing.{Placing, numberAt, cellAt, Taken}
-use Rattle.network.specs.NetIn.{netIn, contextIn, contextAt, Fit}
-use Rattle.network.proofs.NetIn.{atoms-length, context-of}
+use Rattle.placing.proofs.Lists.{member-at, getD-of}
 use Rattle.completing.specs.Fault.{Other, LeastContext}
 use Rattle.completing.specs.Growing.{Serves}
 use Rattle.completing.proofs.Growing.{part-other, part-cut-off, grown-least}
+use Rattle.stepping.specs.Contexts.{numberOf}
 use Rattle.faults.specs.Grows.{Growth, Sized, atomsOf, WholeAt}
 use Rattle.faults.specs.Parts.{CutLinks, Rows}
-use Rattle.faults.specs.Gives.{Given, Gave, GivenAt, OneMoreAt, GivesAt, TakenFlags}
+use Rattle.faults.specs.Gives.{Given, Gave, GivenAt, OneMoreAt, GivesAt, TakenFlags, HeldIn}
 use Rattle.stepping.proofs.Tables.{below-next, store-flag, zeros, zeros-not}
-use Rattle.stepping.proofs.Reading.{context-cell, context-in}
+use Rattle.sheet.proofs.normal.Merging.{getD-in}
 use Rattle.faults.proofs.Growing.{listed-in, listed-of}
 
-pub rows-in : (figure : form.Normal) → Fit figure → Rows (netIn figure) (figure .«context_count»)
-rows-in figure f row m = let c = context-of figure f row m in (c .0, c .1, ap (λ (r : NetCell). r .0) (context-cell figure f (c .0) (c .1) ∙ c .2))
+pub rows-in : (F : Net) (count : ℕ) → length (F .contexts) ≡ count → Rows F count
+rows-in F count e row m =
+    let t = member-at (F .contexts) row m in
+    let h : t .0 < length (F .contexts) = t .1 in
+    let i : suc (t .0) - 1 ≡ t .0 = omega arith in
+    (t .0, omega arith, ap (λ (r : NetCell). r .0) (ap (λ (n : ℕ). getD (F .contexts) n (0, [])) i ∙ getD-of (F .contexts) (t .0) (0, []) row (t .2)))
 
 -- One atom more has the context.
 pub gave-start : (given : Given) (g : Growth) (number : ℕ) → length (given .contexts) ≡ sheetAtoms → length (given .done) ≡ sheetAtoms → Gave given g number 0 given
@@ -72,55 +76,48 @@ done-more g given r number j v (inr m) =
     let e : getD (g .order) (t .0) 0 ≡ j = (let i : suc (getD (g .order) (t .0) 0) ≡ suc j = t .2 in omega arith) in
     subst (λ (i : ℕ). getD (r .done) i 0 ≡ 1) e (v .all-done (t .0) (t .1))
 
-module _ (S : Net) (figure : form.Normal) (f : Fit figure) (q : Placing) (root : ℕ) (g : Growth) (flags left : List ℕ) (w : WholeAt S (netIn figure) q (suc root) (figure .«context_count») g flags left) where
-  abbrev F : Net
-  F = netIn figure
-
+module _ (S F : Net) (laid : List ℕ) (atoms links : ℕ) (choices : List Context) (rows : ℕ) (held : HeldIn S F laid atoms links choices rows)
+    (q : Placing) (root : ℕ) (g : Growth) (flags left : List ℕ) (w : WholeAt S F q (suc root) rows g flags left) where
   abbrev seen : List ℕ
   seen = w .grows .seen
 
-  cell-number : (c : ℕ) → c < figure .«context_count» → (cellAt (F .contexts) (suc c)) .0 ≡ contextAt figure c .number
-  cell-number c h = ap (λ (r : NetCell). r .0) (context-cell figure f c h)
-
   -- a context that serves is left
-  is-left : (row : NetCell) → row ∈ F .contexts → Serves S F q seen (row .0) → (c : ℕ) × (c < figure .«context_count») × (contextAt figure c .number ≡ row .0) × (getD left c 0 ≡ 1)
+  is-left : (row : NetCell) → row ∈ F .contexts → Serves S F q seen (row .0) → (c : ℕ) × (c < rows) × (numberOf choices c ≡ row .0) × (getD left c 0 ≡ 1)
   is-left row m s =
-      let c = context-of figure f row m in
-      let e : contextAt figure (c .0) .number ≡ row .0 = ap (λ (r : NetCell). r .0) (c .2) in
-      (c .0, c .1, e, w .grows .serves (c .0) (c .1) .1 (subst (Serves S F q seen) (sym (cell-number (c .0) (c .1) ∙ e)) s))
+      let c = rows-in F rows (held .choice-count) row m in
+      (c .0, c .1, sym (held .choice-number (c .0) (c .1)) ∙ c .2, w .grows .serves (c .0) (c .1) .1 (subst (Serves S F q seen) (sym (c .2)) s))
 
   -- none is left
-  pub none-left : ((c : ℕ) → c < figure .«context_count» → getD left c 0 ≢ 1) → CutLinks S F q flags
+  pub none-left : ((c : ℕ) → c < rows → getD left c 0 ≢ 1) → CutLinks S F q flags
   none-left n = (atomsOf g, seen, part-cut-off S F q (suc root) (atomsOf g) seen (w .grows .holds .connected) (λ row m s. let c = is-left row m s in n (c .0) (c .1) (c .3)), w .grows .holds .looked)
 
   -- the best of those left
-  module _ (best : ℕ) (h : best < figure .«context_count») (b : getD left best 0 ≡ 1)
-      (low : (c : ℕ) → c < figure .«context_count» → getD left c 0 ≡ 1 → contextAt figure best .number ≤ contextAt figure c .number) where
-    best-least : (j : ℕ) → j ∈ atomsOf g → LeastContext S F q j (contextAt figure best .number)
-    best-least j m = grown-least S F q (suc root) (atomsOf g) seen (w .grows .holds .connected) (w .grown) (contextAt figure best .number)
-        (contextIn (contextAt figure best), context-in figure f best h, refl)
-        (subst (Serves S F q seen) (cell-number best h) (w .grows .serves best h .0 b))
+  module _ (best : ℕ) (h : best < rows) (b : getD left best 0 ≡ 1) (low : (c : ℕ) → c < rows → getD left c 0 ≡ 1 → numberOf choices best ≤ numberOf choices c) where
+    best-least : (j : ℕ) → j ∈ atomsOf g → LeastContext S F q j (numberOf choices best)
+    best-least j m = grown-least S F q (suc root) (atomsOf g) seen (w .grows .holds .connected) (w .grown) (numberOf choices best)
+        (cellAt (F .contexts) (suc best), getD-in (F .contexts) (suc best - 1) (0, []) (omega (arith, held .choice-count)), held .choice-number best h)
+        (subst (Serves S F q seen) (held .choice-number best h) (w .grows .serves best h .0 b))
         (λ d n s. let c = is-left (n .0) (n .1) (subst (Serves S F q seen) (sym (n .2)) s) in
-        let e : contextAt figure (c .0) .number ≡ d = c .2 ∙ n .2 in
+        let e : numberOf choices (c .0) ≡ d = c .2 ∙ n .2 in
         let k = low (c .0) (c .1) (c .3) in omega arith) j m
 
-    given-more : (atoms : ℕ) → Sized atoms g → (given r : Given) → Gave given g (contextAt figure best .number) (g .count) r → GivenAt S F q given → GivenAt S F q r
-    given-more atoms s given r v a = record {
+    given-more : Sized atoms g → (given r : Given) → Gave given g (numberOf choices best) (g .count) r → GivenAt S F q given → GivenAt S F q r
+    given-more s given r v a = record {
       least = λ j e. ⊎-elim (λ t. hit j t) (λ t. let o = a .least j (sym (t .1) ∙ e) in (o .0, subst (LeastContext S F q (suc j)) (sym (t .0)) (o .1))) (v .each j);
       not-yet = λ j n. ⊎-elim (λ t. absurd (n (subst (λ (i : ℕ). getD (r .done) i 0 ≡ 1) (t .2) (v .all-done (t .0) (t .1))))) (λ t. t .0 ∙ a .not-yet j (λ e. n (t .1 ∙ e))) (v .each j);
     }
       where
-        hit : (j : ℕ) → (i : ℕ) × (i < g .count) × (getD (g .order) i 0 ≡ j) × (getD (r .contexts) j 0 ≡ contextAt figure best .number) → Other S F q (suc j) × LeastContext S F q (suc j) (getD (r .contexts) j 0)
+        hit : (j : ℕ) → (i : ℕ) × (i < g .count) × (getD (g .order) i 0 ≡ j) × (getD (r .contexts) j 0 ≡ numberOf choices best) → Other S F q (suc j) × LeastContext S F q (suc j) (getD (r .contexts) j 0)
         hit j t =
             let m : suc j ∈ atomsOf g = subst (λ (i : ℕ). suc i ∈ atomsOf g) (t .2) (listed-in g (t .0) (let o = s .order-room in let k = s .most in omega arith) (t .1)) in
             (part-other S F q (suc root) (atomsOf g) seen (w .grows .holds .connected) (suc j) m, subst (LeastContext S F q (suc j)) (sym (t .3)) (best-least (suc j) m))
 
-    pub one-given : (atoms : ℕ) → Sized atoms g → (before after : Given) (links : List ℕ) → Gave before g (contextAt figure best .number) (g .count) after
+    pub one-given : Sized atoms g → (before after : Given) (links : List ℕ) → Gave before g (numberOf choices best) (g .count) after
         → OneMoreAt S F q root before after (record { fault = false; links = links })
-    one-given atoms s before after links v = record {
+    one-given s before after links v = record {
       none-found = λ e. (
-        given-more atoms s before after v,
-        λ j d. done-more g before after (contextAt figure best .number) j v (⊎-elim (λ k. inl k) (λ k. inr (subst (λ (i : ℕ). suc i ∈ atomsOf g) (sym k) (w .grows .holds .connected .root-member))) d),
+        given-more s before after v,
+        λ j d. done-more g before after (numberOf choices best) j v (⊎-elim (λ k. inl k) (λ k. inr (subst (λ (i : ℕ). suc i ∈ atomsOf g) (sym k) (w .grows .holds .connected .root-member))) d),
       );
       some-found = λ e. absurd (let z : _≡_ {A = ℕ} 0 1 = cc in omega arith);
     }
@@ -132,30 +129,27 @@ one-cut S F q root before after links c = record { none-found = λ e. absurd (le
 pub given-start : (S F : Net) (q : Placing) → GivenAt S F q (record { contexts = replicate 64 0; done = replicate 64 0 })
 given-start S F q = record { least = λ j e. absurd (zeros-not 64 j e); not-yet = λ j n. zeros 64 j }
 
-module _ (sheet figure : form.Normal) (f : Fit sheet) (q : Placing) (taken : List ℕ) (t : TakenFlags sheet (netIn figure) q taken) where
-  abbrev atoms : ℕ
-  atoms = sheet .«atom_count»
+module _ (S F : Net) (q : Placing) (atoms : ℕ) (size : length (S .atoms) ≡ atoms) (taken : List ℕ) (t : TakenFlags S F q atoms taken) where
+  pub other-at : (j : ℕ) → j < atoms → getD taken j 0 ≢ 1 → Other S F q (suc j)
+  other-at j h n = ((omega arith, omega arith), λ k. n (t j h .1 k))
 
-  pub other-at : (j : ℕ) → j < atoms → getD taken j 0 ≢ 1 → Other (netIn sheet) (netIn figure) q (suc j)
-  other-at j h n = ((omega arith, (let e = atoms-length sheet f in omega arith)), λ k. n (t j h .1 k))
-
-  pub all-given : (given : Given) (links : List ℕ) → length (given .contexts) ≡ sheetAtoms → ((j : ℕ) → j < atoms → (getD taken j 0 ≡ 1) ⊎ (getD (given .done) j 0 ≡ 1)) → GivenAt (netIn sheet) (netIn figure) q given
-      → GivesAt (netIn sheet) (netIn figure) q (record { found = false; links = links; given = given .contexts })
+  pub all-given : (given : Given) (links : List ℕ) → length (given .contexts) ≡ sheetAtoms → ((j : ℕ) → j < atoms → (getD taken j 0 ≡ 1) ⊎ (getD (given .done) j 0 ≡ 1)) → GivenAt S F q given
+      → GivesAt S F q (record { found = false; links = links; given = given .contexts })
   all-given given links room d a = record {
     room = room;
     none-found = λ e. (
-      (λ j o. let r = place j (o .0) in ⊎-elim (λ k. absurd (o .1 (subst (Taken (netIn sheet) (netIn figure) q) (r .1) (t (j - 1) (r .0) .0 k))))
-          (λ k. subst (λ (i : ℕ). LeastContext (netIn sheet) (netIn figure) q i (numberAt (given .contexts) j)) (r .1) (a .least (j - 1) k .1)) (d (j - 1) (r .0))),
+      (λ j o. let r = place j (o .0) in ⊎-elim (λ k. absurd (o .1 (subst (Taken S F q) (r .1) (t (j - 1) (r .0) .0 k))))
+          (λ k. subst (λ (i : ℕ). LeastContext S F q i (numberAt (given .contexts) j)) (r .1) (a .least (j - 1) k .1)) (d (j - 1) (r .0))),
       (λ j o k. let r = place j o in go j r k (ℕ-discrete (getD (given .done) (j - 1) 0) 1)),
     );
     some-found = λ e. absurd (let z : _≡_ {A = ℕ} 0 1 = cc in omega arith);
   }
     where
-      place : (j : ℕ) → Range (length (netIn sheet .atoms)) j → (j - 1 < atoms) × (suc (j - 1) ≡ j)
-      place j r = let low : 1 ≤ j = r .0 in let high : j ≤ length (netIn sheet .atoms) = r .1 in let e = atoms-length sheet f in (omega arith, omega arith)
+      place : (j : ℕ) → Range (length (S .atoms)) j → (j - 1 < atoms) × (suc (j - 1) ≡ j)
+      place j r = let low : 1 ≤ j = r .0 in let high : j ≤ length (S .atoms) = r .1 in (omega arith, omega arith)
 
-      go : (j : ℕ) → (j - 1 < atoms) × (suc (j - 1) ≡ j) → Taken (netIn sheet) (netIn figure) q j → Dec (getD (given .done) (j - 1) 0 ≡ 1) → numberAt (given .contexts) j ≡ 0
-      go j r k (yes e) = absurd (a .least (j - 1) e .0 .1 (subst (Taken (netIn sheet) (netIn figure) q) (sym (r .1)) k))
+      go : (j : ℕ) → (j - 1 < atoms) × (suc (j - 1) ≡ j) → Taken S F q j → Dec (getD (given .done) (j - 1) 0 ≡ 1) → numberAt (given .contexts) j ≡ 0
+      go j r k (yes e) = absurd (a .least (j - 1) e .0 .1 (subst (Taken S F q) (sym (r .1)) k))
       go j r k (no n) = a .not-yet (j - 1) n
 
 pub cut-gives : (S F : Net) (q : Placing) (links given : List ℕ) → length given ≡ sheetAtoms → CutLinks S F q links → GivesAt S F q (record { found = true; links = links; given = given })

@@ -8,16 +8,15 @@ use lib.ListN.{length, getD, set, replicate, length-set}
 use lib.Seq.{getD-set-same, take-suc-set}
 use Rattle.hyperlmntal.specs.Link.{_∈_}
 use Rattle.rows.specs.Limits.{sheetAtoms}
-use Rattle.sheet.specs.declared.normal.Normal as form
-use Rattle.placing.specs.Net.{Net, Normal}
+use Rattle.placing.specs.Net.{Net}
 use Rattle.placing.specs.Placing.{Placing, cellAt}
-use Rattle.network.specs.NetIn.{netIn, atomAt, Fit}
+use Rattle.narrowing.specs.Laid.{laidAtom}
 use Rattle.completing.specs.Fault.{Other}
 use Rattle.completing.proofs.Growing.{part-start, serves-start}
-use Rattle.faults.specs.Grows.{ones, Growth, growth, Sized, atomsOf, Tables, Holds, Grows, WithLinks, Onward, WholeAt}
+use Rattle.faults.specs.Grows.{ones, Growth, growth, Sized, atomsOf, Tables, Holds, Grows, WithLinks, Onward, RowsIn, WholeAt}
 use Rattle.stepping.proofs.Tables.{store-flag, zeros-not, below-next}
 use Rattle.faults.proofs.Ones.{ones-set}
-use Rattle.stepping.proofs.Reading.{atom-on, atom-place}
+use Rattle.faults.proofs.AtomRows.{row-on, row-numbered, row-place}
 use Rattle.faults.proofs.Growing.{listed-in, listed-of}
 
 -- The start: one atom, no link.
@@ -61,41 +60,42 @@ module _ (atoms root : ℕ) (h : root < atoms) (few : atoms ≤ sheetAtoms) wher
     }
 
 -- all links of the first atoms were looked at
-abbrev pub LinksSeen : form.Normal → Growth → List ℕ → ℕ → Type 0
-LinksSeen sheet g flags head = (h k : ℕ) → h < head → k < atomAt sheet (getD (g .order) h 0) .count → getD flags (getD (atomAt sheet (getD (g .order) h 0) .links) k 0 - 1) 0 ≡ 1
+abbrev pub LinksSeen : List ℕ → Growth → List ℕ → ℕ → Type 0
+LinksSeen laid g flags head = (h k : ℕ) → h < head → k < laidAtom laid (getD (g .order) h 0) .count → getD flags (getD (laidAtom laid (getD (g .order) h 0) .links) k 0 - 1) 0 ≡ 1
 
 -- The atoms of a sheet, one after the other.
-module _ (sheet : form.Normal) (f : Fit sheet) (chains used ports : List ℕ) (contexts : ℕ) where
-  abbrev atomCount : ℕ
-  atomCount = sheet .«atom_count»
-
-  module _ (g : Growth) (flags left : List ℕ) (r : Growth) (flagsNow leftNow : List ℕ) (head : ℕ) (l : head < g .count) (s : Sized atomCount g) (a : Onward atomCount g flags r flagsNow leftNow)
-      (w : WithLinks chains used ports (atomAt sheet (getD (g .order) head 0) .links) (atomAt sheet (getD (g .order) head 0) .count) atomCount contexts g flags left r flagsNow leftNow) where
-    pub seen-next : LinksSeen sheet g flags head → LinksSeen sheet r flagsNow (head + 1)
-    seen-next o h k i n = below-next (λ h. (k : ℕ) → k < atomAt sheet (getD (r .order) h 0) .count → Seen (getD (r .order) h 0) k) head
-        (λ h i. subst All (sym (a .longer .order-kept h (omega arith))) (λ k n. a .flags-kept (getD (atomAt sheet (getD (g .order) h 0) .links) k 0 - 1) (o h k i n)))
+module _ (laid : List ℕ) (atoms : ℕ) (chains used ports : List ℕ) (contexts : ℕ) where
+  module _ (g : Growth) (flags left : List ℕ) (r : Growth) (flagsNow leftNow : List ℕ) (head : ℕ) (l : head < g .count) (s : Sized atoms g) (a : Onward atoms g flags r flagsNow leftNow)
+      (w : WithLinks chains used ports (laidAtom laid (getD (g .order) head 0) .links) (laidAtom laid (getD (g .order) head 0) .count) atoms contexts g flags left r flagsNow leftNow) where
+    pub seen-next : LinksSeen laid g flags head → LinksSeen laid r flagsNow (head + 1)
+    seen-next o h k i n = below-next (λ h. (k : ℕ) → k < laidAtom laid (getD (r .order) h 0) .count → Seen (getD (r .order) h 0) k) head
+        (λ h i. subst All (sym (a .longer .order-kept h (omega arith))) (λ k n. a .flags-kept (getD (laidAtom laid (getD (g .order) h 0) .links) k 0 - 1) (o h k i n)))
         (subst All (sym (a .longer .order-kept head l)) (w .looked)) h i k n
       where
         Seen : ℕ → ℕ → Type 0
-        Seen j k = getD flagsNow (getD (atomAt sheet j .links) k 0 - 1) 0 ≡ 1
+        Seen j k = getD flagsNow (getD (laidAtom laid j .links) k 0 - 1) 0 ≡ 1
 
         All : ℕ → Type 0
-        All j = (k : ℕ) → k < atomAt sheet j .count → Seen j k
+        All j = (k : ℕ) → k < laidAtom laid j .count → Seen j k
 
-    pub grows-next : (F : Net) (q : Placing) (root : ℕ) → Tables (netIn sheet) F q chains used ports atomCount contexts → Grows (netIn sheet) F q root contexts g flags left → Grows (netIn sheet) F q root contexts r flagsNow leftNow
-    grows-next F q root t = w .grows (netIn sheet) F q root (suc (getD (g .order) head 0)) t (listed-in g head (let o = s .order-room in let m = s .most in omega arith) l)
-        (λ k n. (f .atoms (getD (g .order) head 0) (s .listed head l) .numbered k n, atom-on sheet f (getD (g .order) head 0) k (s .listed head l) n))
+    pub grows-next : (S F : Net) (q : Placing) (root : ℕ) → RowsIn S laid atoms → Tables S F q chains used ports atoms contexts → Grows S F q root contexts g flags left → Grows S F q root contexts r flagsNow leftNow
+    grows-next S F q root rows t =
+        let j = getD (g .order) head 0 in
+        let row = rows j (s .listed head l) in
+        w .grows S F q root (suc j) t (listed-in g head (let o = s .order-room in let m = s .most in omega arith) l)
+        (λ k n. (row-numbered S j (laidAtom laid j .links) (laidAtom laid j .count) row (t .around .sheet-normal) k n, row-on S j (laidAtom laid j .links) (laidAtom laid j .count) row k n))
 
-  pub whole-at : (g : Growth) (flags left : List ℕ) (F : Net) (q : Placing) (root : ℕ) → Sized atomCount g → LinksSeen sheet g flags (g .count) → Grows (netIn sheet) F q root contexts g flags left
-      → WholeAt (netIn sheet) F q root contexts g flags left
-  whole-at g flags left F q root s o w = record { grows = w; grown = record { all-links = λ j y m n. links j y m n; all-atoms = w .all-atoms } }
+  pub whole-at : (g : Growth) (flags left : List ℕ) (S F : Net) (q : Placing) (root : ℕ) → RowsIn S laid atoms → Tables S F q chains used ports atoms contexts → Sized atoms g → LinksSeen laid g flags (g .count)
+      → Grows S F q root contexts g flags left → WholeAt S F q root contexts g flags left
+  whole-at g flags left S F q root rows t s o w = record { grows = w; grown = record { all-links = λ j y m n. links j y m n; all-atoms = w .all-atoms } }
     where
-      links : (j y : ℕ) → j ∈ atomsOf g → y ∈ (cellAt (netIn sheet .atoms) j) .1 → y ∈ w .seen
+      links : (j y : ℕ) → j ∈ atomsOf g → y ∈ (cellAt (S .atoms) j) .1 → y ∈ w .seen
       links j y m n =
           let h = listed-of g j m in
-          let k = atom-place sheet f (getD (g .order) (h .0) 0) y (s .listed (h .0) (h .1)) (subst (λ (i : ℕ). y ∈ (cellAt (netIn sheet .atoms) i) .1) (sym (h .2)) n) in
-          let r = f .atoms (getD (g .order) (h .0) 0) (s .listed (h .0) (h .1)) .numbered (k .0) (k .1) in
-          let e : getD (atomAt sheet (getD (g .order) (h .0) 0) .links) (k .0) 0 ≡ y = k .2 in
-          let low : 1 ≤ getD (atomAt sheet (getD (g .order) (h .0) 0) .links) (k .0) 0 = r .0 in
+          let i = getD (g .order) (h .0) 0 in
+          let row = rows i (s .listed (h .0) (h .1)) in
+          let k = row-place S i (laidAtom laid i .links) (laidAtom laid i .count) row y (subst (λ (z : ℕ). y ∈ (cellAt (S .atoms) z) .1) (sym (h .2)) n) in
+          let e : getD (laidAtom laid i .links) (k .0) 0 ≡ y = k .2 in
+          let low : 1 ≤ getD (laidAtom laid i .links) (k .0) 0 = row-numbered S i (laidAtom laid i .links) (laidAtom laid i .count) row (t .around .sheet-normal) (k .0) (k .1) .0 in
           let up : y ≡ suc (y - 1) = omega arith in
-          Memᴰ·cast up (w .holds .flagged-seen (y - 1) (subst (λ (i : ℕ). getD flags (i - 1) 0 ≡ 1) e (o (h .0) (k .0) (h .1) (k .1))))
+          Memᴰ·cast up (w .holds .flagged-seen (y - 1) (subst (λ (z : ℕ). getD flags (z - 1) 0 ≡ 1) e (o (h .0) (k .0) (h .1) (k .1))))

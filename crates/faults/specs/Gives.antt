@@ -7,13 +7,13 @@ use mathlib.Core.Bool.{true, false}
 use lib.ListN.{length, getD}
 use Rattle.hyperlmntal.specs.Link.{_∈_}
 use Rattle.rows.specs.Limits.{sheetAtoms}
-use Rattle.sheet.specs.declared.normal.Normal as form
+use Rattle.rows.specs.declared.Context.{Context}
 use Rattle.placing.specs.Net.{Net, Range}
-use Rattle.placing.specs.Placing.{Placing, numberAt, Taken}
-use Rattle.network.specs.NetIn.{netIn}
+use Rattle.placing.specs.Placing.{Placing, numberAt, cellAt, Taken}
 use Rattle.network.specs.Ready.{Flag}
 use Rattle.completing.specs.Fault.{Other, CutOff, LeastContext}
-use Rattle.faults.specs.Grows.{Growth, Tables}
+use Rattle.stepping.specs.Contexts.{numberOf}
+use Rattle.faults.specs.Grows.{Growth, Tables, RowsIn}
 use Rattle.faults.specs.Parts.{CutLinks}
 use Rattle.faults.specs.declared.fault.Found.{Found}
 use Rattle.faults.specs.declared.fault.Fault.{Fault}
@@ -52,16 +52,23 @@ pub record GivesAt (S F : Net) (q : Placing) (r : Fault) : Type 0 where
   pub some-found : r .found ≡ true → (set : List ℕ) × (seen : List ℕ) × CutOff S F q set seen × ((y : ℕ) → y ∈ seen → Flag (r .links) y)
 
 -- 1 for each sheet atom, from 0, that figure atoms go to
-abbrev pub TakenFlags : form.Normal → Net → Placing → List ℕ → Type 0
-TakenFlags sheet F q taken = (j : ℕ) → j < sheet .«atom_count» → (getD taken j 0 ≡ 1) ↔ Taken (netIn sheet) F q (suc j)
+abbrev pub TakenFlags : Net → Net → Placing → ℕ → List ℕ → Type 0
+TakenFlags S F q atoms taken = (j : ℕ) → j < atoms → (getD taken j 0 ≡ 1) ↔ Taken S F q (suc j)
 
-abbrev pub Gives : form.Normal → form.Normal → List ℕ → List ℕ → List ℕ → List ℕ → Fault → Type 0
-Gives sheet figure chains used ports taken r =
-    (q : Placing) → Tables (netIn sheet) (netIn figure) q chains used ports (sheet .«atom_count») (figure .«context_count») → TakenFlags sheet (netIn figure) q taken
-    → GivesAt (netIn sheet) (netIn figure) q r
+-- The sheet's links and atoms and the figure's contexts are those that the arrays hold.
+pub record HeldIn (S F : Net) (laid : List ℕ) (atoms links : ℕ) (choices : List Context) (rows : ℕ) : Type 0 where
+  pub link-count : S .links ≡ links
+  pub atom-rows : RowsIn S laid atoms
+  pub choice-count : length (F .contexts) ≡ rows
+  pub choice-number : (c : ℕ) → c < rows → (cellAt (F .contexts) (suc c)) .0 ≡ numberOf choices c
 
-pub record OneMore (sheet figure : form.Normal) (chains used ports : List ℕ) (root : ℕ) (before after : Given) (r : Found) : Type 0 where
+abbrev pub Gives : List ℕ → ℕ → ℕ → List Context → ℕ → List ℕ → List ℕ → List ℕ → List ℕ → Fault → Type 0
+Gives laid atoms links choices rows chains used ports taken r =
+    (S F : Net) (q : Placing) → HeldIn S F laid atoms links choices rows → Tables S F q chains used ports atoms rows → TakenFlags S F q atoms taken
+    → GivesAt S F q r
+
+pub record OneMore (laid : List ℕ) (atoms links : ℕ) (choices : List Context) (rows : ℕ) (chains used ports : List ℕ) (root : ℕ) (before after : Given) (r : Found) : Type 0 where
   pub contexts-room : length (after .contexts) ≡ sheetAtoms
   pub done-room : length (after .done) ≡ sheetAtoms
-  pub at : (q : Placing) → Tables (netIn sheet) (netIn figure) q chains used ports (sheet .«atom_count») (figure .«context_count»)
-      → Other (netIn sheet) (netIn figure) q (suc root) → OneMoreAt (netIn sheet) (netIn figure) q root before after r
+  pub at : (S F : Net) (q : Placing) → HeldIn S F laid atoms links choices rows → Tables S F q chains used ports atoms rows
+      → Other S F q (suc root) → OneMoreAt S F q root before after r

@@ -9,13 +9,12 @@ use Rattle.hyperlmntal.specs.Link.{_∈_}
 use Rattle.rows.specs.Pick.{pick}
 use Rattle.rows.specs.Format.{mostLinks}
 use Rattle.rows.specs.Limits.{sheetAtoms, sheetLinks, figureContexts}
-use Rattle.sheet.specs.declared.normal.Normal as form
 use Rattle.placing.specs.Net.{Net, Range, Normal}
 use Rattle.placing.specs.Placing.{Placing, numberAt, cellAt, Across, PortAt}
-use Rattle.network.specs.NetIn.{netIn}
+use Rattle.narrowing.specs.Laid.{laidAtom}
 use Rattle.completing.specs.Fault.{Used, Other}
 use Rattle.completing.specs.Growing.{Part, Serves, Grown}
-use Rattle.stepping.specs.Chains.{nodeOf, NodeOn, Chained}
+use Rattle.stepping.specs.Chains.{nodeOf, NodeOn, Chained, RowIn}
 
 -- how many entries are 1
 unfoldable pub ones : List ℕ → ℕ
@@ -117,7 +116,11 @@ pub record WholeAt (S F : Net) (q : Placing) (root contexts : ℕ) (g : Growth) 
   pub grows : Grows S F q root contexts g flags left
   pub grown : Grown S F q (atomsOf g) (grows .seen)
 
-abbrev pub Whole : form.Normal → List ℕ → List ℕ → List ℕ → ℕ → ℕ → Growth → List ℕ → List ℕ → Type 0
-Whole sheet chains used ports root contexts g flags left =
-    (F : Net) (q : Placing) → Tables (netIn sheet) F q chains used ports (sheet .«atom_count») contexts → Other (netIn sheet) F q (suc root)
-    → WholeAt (netIn sheet) F q (suc root) contexts g flags left
+-- the rows laid out are the atoms of the net
+abbrev pub RowsIn : Net → List ℕ → ℕ → Type 0
+RowsIn S laid atoms = (j : ℕ) → j < atoms → RowIn S j (laidAtom laid j .links) (laidAtom laid j .count)
+
+abbrev pub Whole : List ℕ → ℕ → List ℕ → List ℕ → List ℕ → ℕ → ℕ → Growth → List ℕ → List ℕ → Type 0
+Whole laid atoms chains used ports root contexts g flags left =
+    (S F : Net) (q : Placing) → RowsIn S laid atoms → Tables S F q chains used ports atoms contexts → Other S F q (suc root)
+    → WholeAt S F q (suc root) contexts g flags left

@@ -6,13 +6,11 @@ use mathlib.Core.List.{List}
 use lib.ListN.{getD}
 use Rattle.hyperlmntal.specs.Link.{_∈_}
 use Rattle.rows.specs.Limits.{sheetLinks}
-use Rattle.sheet.specs.declared.normal.Normal as form
 use Rattle.placing.specs.Net.{NetCell, Net}
 use Rattle.placing.specs.Placing.{Placing, cellAt}
-use Rattle.network.specs.NetIn.{netIn}
 use Rattle.network.specs.Ready.{Flag}
 use Rattle.completing.specs.Fault.{Used, Other, CutOff}
-use Rattle.faults.specs.Grows.{Around, Tables, Holds}
+use Rattle.faults.specs.Grows.{Around, Tables, Holds, RowsIn}
 
 -- some atoms and links are a connected part, and the 1s are theirs
 abbrev pub HoldsSome : Net → Net → Placing → ℕ → List ℕ → List ℕ → Type 0
@@ -37,10 +35,10 @@ WithEnds links count flags flagsNow =
     (S F : Net) (q : Placing) (root j : ℕ) (part members seen : List ℕ) → j ∈ part → ((k : ℕ) → k < count → getD links k 0 ∈ (cellAt (S .atoms) j) .1)
     → Holds S F q root part members flags seen → (now : List ℕ) × Holds S F q root part members flagsNow now
 
-abbrev pub HoldsPart : form.Normal → List ℕ → ℕ → List ℕ → List ℕ → Type 0
-HoldsPart sheet used root members flags =
-    (F : Net) (q : Placing) → Around (netIn sheet) F q (sheet .«atom_count») → UsedFlags (netIn sheet) F q used → Other (netIn sheet) F q (suc root)
-    → HoldsSome (netIn sheet) F q (suc root) members flags
+abbrev pub HoldsPart : List ℕ → ℕ → ℕ → List ℕ → ℕ → List ℕ → List ℕ → Type 0
+HoldsPart laid atoms links used root members flags =
+    (S F : Net) (q : Placing) → S .links ≡ links → RowsIn S laid atoms → Around S F q atoms → UsedFlags S F q used → Other S F q (suc root)
+    → HoldsSome S F q (suc root) members flags
 
 -- the context of row c has no port at some link looked at where a figure link goes
 abbrev pub Cut : List ℕ → List ℕ → List ℕ → ℕ → ℕ → Type 0
@@ -55,7 +53,7 @@ abbrev pub Rows : Net → ℕ → Type 0
 Rows F contexts = (row : NetCell) → row ∈ F .contexts → (c : ℕ) × (c < contexts) × ((cellAt (F .contexts) (suc c)) .0 ≡ row .0)
 
 -- where all links of the component are those of a cut, so are these
-abbrev pub Cuts : form.Normal → List ℕ → List ℕ → List ℕ → ℕ → ℕ → List ℕ → List ℕ → Type 0
-Cuts sheet chains used ports root contexts all links =
-    (F : Net) (q : Placing) → Tables (netIn sheet) F q chains used ports (sheet .«atom_count») contexts → Other (netIn sheet) F q (suc root) → Rows F contexts
-    → CutLinks (netIn sheet) F q all → CutLinks (netIn sheet) F q links
+abbrev pub Cuts : List ℕ → ℕ → ℕ → List ℕ → List ℕ → List ℕ → ℕ → ℕ → List ℕ → List ℕ → Type 0
+Cuts laid atoms links chains used ports root contexts all cut =
+    (S F : Net) (q : Placing) → S .links ≡ links → RowsIn S laid atoms → Tables S F q chains used ports atoms contexts → Other S F q (suc root) → Rows F contexts
+    → CutLinks S F q all → CutLinks S F q cut

@@ -1,6 +1,8 @@
 // What stands in the way of completing: sheet links to one of which an open figure link must go.
 use crate::growth::grown;
 use crate::part::part;
+use narrowing::LAID;
+use rows::Context;
 use rows::Sheet;
 use sheet::normal::Normal;
 use stepping::CHAINS;
@@ -13,9 +15,10 @@ ghost use mathlib.Core.Path.{_≡_};
 ghost use mathlib.Core.List.{List};
 ghost use Prim.Native.Nat.{ℕ, _+_, _<_, _≤_};
 ghost use lib.ListN.{length, getD};
-ghost use Rattle.rows.specs.Limits.{sheetAtoms};
-ghost use Rattle.network.specs.NetIn.{netIn, Fit};
+ghost use Rattle.rows.specs.Limits.{sheetAtoms, sheetLinks, figureContexts};
+ghost use Rattle.network.specs.NetIn.{netIn};
 ghost use Rattle.network.specs.Ready.{Ready, LinksIn, TakenIn, stateIn};
+ghost use Rattle.narrowing.specs.Laid.{Rowed, LaidOut};
 ghost use Rattle.completing.specs.Completion.{Partial};
 ghost use Rattle.stepping.specs.Chains.{nodeOf, Falls, ChainsIn};
 ghost use Rattle.faults.specs.Gives.{given, Gave, OneMore, Gives};
@@ -60,17 +63,19 @@ fn give(
 fn one_more(
     contexts: &mut [u16; Sheet::ATOMS],
     done: &mut [u8; Sheet::ATOMS],
-    sheet: Normal,
-    figure: Normal,
+    laid: &[u16; LAID],
+    atoms: usize,
+    links: usize,
+    choices: [Context; Sheet::CONTEXT_ROOM],
+    rows: usize,
     chains: &[u16; CHAINS],
     used: &[u8; Sheet::LINKS],
     ports: &[u8; PORTS],
     root: usize,
 ) -> Found
-    requires { ⌜ Fit sheet × Fit figure × (root < sheet .«atom_count») × (length (now contexts) ≡ sheetAtoms) × (length (now done) ≡ sheetAtoms) × Falls (nodeOf (sheet .«atom_count») 0) (now chains) ⌝ }
-    ensures { λ r. ⌜ OneMore sheet figure (now (chains .entry)) (now (used .entry)) (now (ports .entry)) root (given (now (contexts .entry)) (now (done .entry))) (given (now (contexts .exit)) (now (done .exit))) r ⌝ }
+    requires { ⌜ Rowed (now laid) atoms × (links ≤ sheetLinks) × (rows ≤ figureContexts) × (length choices ≡ figureContexts + 1) × (root < atoms) × (length (now contexts) ≡ sheetAtoms) × (length (now done) ≡ sheetAtoms) × Falls (nodeOf atoms 0) (now chains) ⌝ }
+    ensures { λ r. ⌜ OneMore (now (laid .entry)) atoms links choices rows (now (chains .entry)) (now (used .entry)) (now (ports .entry)) root (given (now (contexts .entry)) (now (done .entry))) (given (now (contexts .exit)) (now (done .exit))) r ⌝ }
 {
-    let rows = figure.context_count;
     let mut order = [0u8; Sheet::ATOMS];
     let mut members = [0u8; Sheet::ATOMS];
     let mut way = [0u16; Sheet::ATOMS];
@@ -82,48 +87,68 @@ fn one_more(
         &mut way,
         &mut seen,
         &mut left,
-        sheet,
+        laid,
+        atoms,
         chains,
         used,
         ports,
         root,
         rows,
     );
-    let c = least(figure, left);
+    let c = least(choices, rows, left);
     if c == rows {
-        let links = part(sheet, &order, count, &way, seen, used, ports, root, rows);
+        let links = part(
+            laid,
+            atoms,
+            links,
+            &order,
+            count,
+            &way,
+            seen,
+            used,
+            ports,
+            root,
+            rows,
+        );
         return Found { fault: true, links };
     }
-    give(contexts, done, &order, count, figure.contexts[c].number);
+    give(contexts, done, &order, count, choices[c].number);
     Found {
         fault: false,
         links: seen,
     }
 }
 
-// Component by component: the least context, or the links of one that has none.
+// Component by component: the least of the contexts `choices`, of which there are `rows`, or the links of one
+// that has none.
 fn served(
-    sheet: Normal,
-    figure: Normal,
+    laid: &[u16; LAID],
+    atoms: usize,
+    links: usize,
+    choices: [Context; Sheet::CONTEXT_ROOM],
+    rows: usize,
     chains: &[u16; CHAINS],
     used: &[u8; Sheet::LINKS],
     ports: &[u8; PORTS],
     taken: [u8; Sheet::ATOMS],
 ) -> Fault
-    requires { ⌜ Fit sheet × Fit figure × Falls (nodeOf (sheet .«atom_count») 0) (now chains) ⌝ }
-    ensures { λ r. ⌜ Gives sheet figure (now (chains .entry)) (now (used .entry)) (now (ports .entry)) taken r ⌝ }
+    requires { ⌜ Rowed (now laid) atoms × (links ≤ sheetLinks) × (rows ≤ figureContexts) × (length choices ≡ figureContexts + 1) × Falls (nodeOf atoms 0) (now chains) ⌝ }
+    ensures { λ r. ⌜ Gives (now (laid .entry)) atoms links choices rows (now (chains .entry)) (now (used .entry)) (now (ports .entry)) taken r ⌝ }
 {
     let mut contexts = [0u16; Sheet::ATOMS];
     let mut done = [0u8; Sheet::ATOMS];
     let mut j = 0;
-    while j < sheet.atom_count {
+    while j < atoms {
         if taken[j] != 1 {
             if done[j] != 1 {
                 let one = one_more(
                     &mut contexts,
                     &mut done,
-                    sheet,
-                    figure,
+                    laid,
+                    atoms,
+                    links,
+                    choices,
+                    rows,
                     chains,
                     used,
                     ports,
@@ -148,14 +173,16 @@ fn served(
     }
 }
 
+// A fault, or the least contexts where there is none. `laid` are the sheet's atoms.
 pub fn find(
     sheet: Normal,
     figure: Normal,
+    laid: &[u16; LAID],
     chains: &[u16; CHAINS],
     taken: [u8; Sheet::ATOMS],
     to: [u16; Sheet::LINKS],
 ) -> Fault
-    requires { ⌜ Ready sheet figure × ChainsIn sheet (now chains) × LinksIn sheet figure to ⌝ }
+    requires { ⌜ Ready sheet figure × ChainsIn sheet (now chains) × LinksIn sheet figure to × LaidOut sheet (now laid) (sheet .«atom_count») ⌝ }
     ensures { λ r. ⌜ ((atoms un : List ℕ) → TakenIn sheet figure (stateIn figure atoms to) taken → Partial (netIn sheet) (netIn figure) (stateIn figure atoms to) un → Finds sheet figure (stateIn figure atoms to) r) ⌝ }
 {
     let none = (sheet.class_count + 1) as u16;
@@ -171,5 +198,9 @@ pub fn find(
     }
     let used = used_links(figure.class_count, &to, none);
     let ports = port_table(figure, &to, none);
-    served(sheet, figure, chains, &used, &ports, taken)
+    let choices = figure.contexts;
+    let atoms = sheet.atom_count;
+    let links = sheet.class_count;
+    let n = figure.context_count;
+    served(laid, atoms, links, choices, n, chains, &used, &ports, taken)
 }

@@ -3,8 +3,9 @@
 // 1 for each of them; `seen`, 1 for each link looked at; `left`, 1 for each context with a port at all of
 // those where a figure link goes; `way`, a guide that nothing is promised of: over which link and from which
 // atom each was reached.
+use narrowing::LAID;
+use narrowing::laid::laid_atom;
 use rows::Sheet;
-use sheet::normal::Normal;
 use stepping::CHAINS;
 use stepping::PORTS;
 use stepping::contexts::left_at;
@@ -13,7 +14,7 @@ ghost use Prim.Native.Nat.{_+_, _-_, _<_, _≤_};
 ghost use lib.ListN.{length, getD, replicate};
 ghost use Rattle.rows.specs.Format.{mostLinks};
 ghost use Rattle.rows.specs.Limits.{sheetAtoms, sheetLinks, figureContexts};
-ghost use Rattle.network.specs.NetIn.{Fit};
+ghost use Rattle.narrowing.specs.Laid.{Rowed};
 ghost use Rattle.stepping.specs.Flags.{Within};
 ghost use Rattle.stepping.specs.Chains.{nodeOf, Falls};
 ghost use Rattle.faults.specs.Grows.{growth, Sized, Longer, WithAtoms, WithLink, WithLinks, Onward, Whole};
@@ -128,15 +129,16 @@ pub(crate) fn grown(
     way: &mut [u16; Sheet::ATOMS],
     seen: &mut [u8; Sheet::LINKS],
     left: &mut [u8; Sheet::CONTEXT_ROOM],
-    sheet: Normal,
+    laid: &[u16; LAID],
+    atoms: usize,
     chains: &[u16; CHAINS],
     used: &[u8; Sheet::LINKS],
     ports: &[u8; PORTS],
     root: usize,
     contexts: usize,
 ) -> usize
-    requires { ⌜ Fit sheet × (root < sheet .«atom_count») × (contexts ≤ figureContexts) × (length (now order) ≡ sheetAtoms) × (now members ≡ replicate 64 0) × (now seen ≡ replicate 96 0) × (now left ≡ replicate 9 1) × Falls (nodeOf (sheet .«atom_count») 0) (now chains) ⌝ }
-    ensures { λ r. ⌜ Sized (sheet .«atom_count») (growth (now (order .exit)) r (now (members .exit))) × Whole sheet (now (chains .entry)) (now (used .entry)) (now (ports .entry)) root contexts (growth (now (order .exit)) r (now (members .exit))) (now (seen .exit)) (now (left .exit)) ⌝ }
+    requires { ⌜ Rowed (now laid) atoms × (root < atoms) × (contexts ≤ figureContexts) × (length (now order) ≡ sheetAtoms) × (now members ≡ replicate 64 0) × (now seen ≡ replicate 96 0) × (now left ≡ replicate 9 1) × Falls (nodeOf atoms 0) (now chains) ⌝ }
+    ensures { λ r. ⌜ Sized atoms (growth (now (order .exit)) r (now (members .exit))) × Whole (now (laid .entry)) atoms (now (chains .entry)) (now (used .entry)) (now (ports .entry)) root contexts (growth (now (order .exit)) r (now (members .exit))) (now (seen .exit)) (now (left .exit)) ⌝ }
 {
     order[0] = root as u8;
     members[root] = 1;
@@ -144,7 +146,7 @@ pub(crate) fn grown(
     let mut head = 0;
     while head < count {
         let j = order[head] as usize;
-        let a = sheet.atoms[j];
+        let a = laid_atom(laid, j);
         let links = a.links;
         count = with_links(
             order,
@@ -158,7 +160,7 @@ pub(crate) fn grown(
             ports,
             links,
             a.count as usize,
-            sheet.atom_count,
+            atoms,
             contexts,
             j,
         );

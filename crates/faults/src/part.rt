@@ -2,8 +2,9 @@
 // together leave no context. The ways are guessed; what is made of them is checked.
 use crate::ways::mark_all;
 use crate::ways::wide;
+use narrowing::LAID;
+use narrowing::laid::laid_atom;
 use rows::Sheet;
-use sheet::normal::Normal;
 use stepping::PORTS;
 ghost use mathlib.Core.Path.{_≡_};
 ghost use mathlib.Core.Bool.{true};
@@ -12,7 +13,7 @@ ghost use Prim.Native.Nat.{ℕ, _<_, _≤_};
 ghost use lib.ListN.{length, getD, replicate};
 ghost use Rattle.rows.specs.Format.{mostLinks};
 ghost use Rattle.rows.specs.Limits.{sheetAtoms, sheetLinks, figureContexts};
-ghost use Rattle.network.specs.NetIn.{Fit};
+ghost use Rattle.narrowing.specs.Laid.{Rowed};
 ghost use Rattle.stepping.specs.Flags.{Within};
 ghost use Rattle.faults.specs.Parts.{WithStep, WithEnds, HoldsPart, Cut, Cuts};
 
@@ -94,7 +95,9 @@ fn with_ends(
 fn grow_part(
     members: &mut [u8; Sheet::ATOMS],
     seen: &mut [u8; Sheet::LINKS],
-    sheet: Normal,
+    laid: &[u16; LAID],
+    atoms: usize,
+    links: usize,
     order: &[u8; Sheet::ATOMS],
     count: usize,
     way: &[u16; Sheet::ATOMS],
@@ -103,8 +106,8 @@ fn grow_part(
     used: &[u8; Sheet::LINKS],
     root: usize,
 )
-    requires { ⌜ Fit sheet × (count ≤ sheetAtoms) × ((h : ℕ) → h < count → getD (now order) h 0 < sheet .«atom_count») × (root < sheet .«atom_count») × (now members ≡ replicate 64 0) × (now seen ≡ replicate 96 0) ⌝ }
-    ensures { λ r. ⌜ HoldsPart sheet (now (used .entry)) root (now (members .exit)) (now (seen .exit)) ⌝ }
+    requires { ⌜ Rowed (now laid) atoms × (links ≤ sheetLinks) × (count ≤ sheetAtoms) × ((h : ℕ) → h < count → getD (now order) h 0 < atoms) × (root < atoms) × (now members ≡ replicate 64 0) × (now seen ≡ replicate 96 0) ⌝ }
+    ensures { λ r. ⌜ HoldsPart (now (laid .entry)) atoms links (now (used .entry)) root (now (members .exit)) (now (seen .exit)) ⌝ }
 {
     members[root] = 1;
     let mut head = 0;
@@ -113,13 +116,12 @@ fn grow_part(
         if marked[j] == 1 {
             let y = wide(way[j]) / Sheet::ATOMS;
             let a = wide(way[j]) % Sheet::ATOMS;
-            let t = sheet.atoms[a];
+            let t = laid_atom(laid, a);
             let from = t.links;
             let width = t.count as usize;
-            let s = sheet.atoms[j];
+            let s = laid_atom(laid, j);
             let here = s.links;
             let n = s.count as usize;
-            let atoms = sheet.atom_count;
             with_step(
                 members,
                 seen,
@@ -132,7 +134,7 @@ fn grow_part(
                 here,
                 n,
                 atoms,
-                sheet.class_count,
+                links,
             );
             if members[j] == 1 {
                 with_ends(seen, ends, here, n);
@@ -191,7 +193,9 @@ fn cut(
 
 // The links of a small part, or of the whole component, which are `all`.
 pub(crate) fn part(
-    sheet: Normal,
+    laid: &[u16; LAID],
+    atoms: usize,
+    links: usize,
     order: &[u8; Sheet::ATOMS],
     count: usize,
     way: &[u16; Sheet::ATOMS],
@@ -201,15 +205,15 @@ pub(crate) fn part(
     root: usize,
     contexts: usize,
 ) -> [u8; Sheet::LINKS]
-    requires { ⌜ Fit sheet × (count ≤ sheetAtoms) × ((h : ℕ) → h < count → getD (now order) h 0 < sheet .«atom_count») × (root < sheet .«atom_count») × (contexts ≤ figureContexts) ⌝ }
-    ensures { λ r. ⌜ ((chains : List ℕ) → Cuts sheet chains (now (used .entry)) (now (ports .entry)) root contexts all r) ⌝ }
+    requires { ⌜ Rowed (now laid) atoms × (links ≤ sheetLinks) × (count ≤ sheetAtoms) × ((h : ℕ) → h < count → getD (now order) h 0 < atoms) × (root < atoms) × (contexts ≤ figureContexts) ⌝ }
+    ensures { λ r. ⌜ ((chains : List ℕ) → Cuts (now (laid .entry)) atoms links chains (now (used .entry)) (now (ports .entry)) root contexts all r) ⌝ }
 {
     let mut marked = [0u8; Sheet::ATOMS];
     let mut ends = [0u8; Sheet::LINKS];
     mark_all(
         &mut marked,
         &mut ends,
-        sheet,
+        laid,
         order,
         count,
         way,
@@ -223,7 +227,9 @@ pub(crate) fn part(
     grow_part(
         &mut members,
         &mut seen,
-        sheet,
+        laid,
+        atoms,
+        links,
         order,
         count,
         way,
@@ -232,7 +238,7 @@ pub(crate) fn part(
         used,
         root,
     );
-    if cut(&seen, used, ports, contexts, sheet.class_count) {
+    if cut(&seen, used, ports, contexts, links) {
         return seen;
     }
     all

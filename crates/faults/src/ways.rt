@@ -1,7 +1,8 @@
 // Ways from the first atom of a component to links that together leave no context. They are a guess: the
 // contracts promise nothing of them.
+use narrowing::LAID;
+use narrowing::laid::laid_atom;
 use rows::Sheet;
-use sheet::normal::Normal;
 use stepping::PORTS;
 use stepping::contexts::left_at;
 ghost use mathlib.Core.Path.{_≡_};
@@ -9,7 +10,7 @@ ghost use Prim.Native.Nat.{ℕ, _+_, _<_, _≤_};
 ghost use lib.ListN.{length, getD};
 ghost use Rattle.rows.specs.Format.{mostLinks};
 ghost use Rattle.rows.specs.Limits.{sheetAtoms, sheetLinks, figureContexts};
-ghost use Rattle.network.specs.NetIn.{Fit};
+ghost use Rattle.narrowing.specs.Laid.{Rowed};
 ghost use Rattle.stepping.specs.Flags.{Within};
 
 // Some context that is left has no port at y.
@@ -82,7 +83,7 @@ fn mark_atom(
 pub(crate) fn mark_all(
     marked: &mut [u8; Sheet::ATOMS],
     ends: &mut [u8; Sheet::LINKS],
-    sheet: Normal,
+    laid: &[u16; LAID],
     order: &[u8; Sheet::ATOMS],
     count: usize,
     way: &[u16; Sheet::ATOMS],
@@ -91,14 +92,14 @@ pub(crate) fn mark_all(
     root: usize,
     contexts: usize,
 )
-    requires { ⌜ Fit sheet × (count ≤ sheetAtoms) × ((h : ℕ) → h < count → getD (now order) h 0 < sheet .«atom_count») × (root < sheetAtoms) × (contexts ≤ figureContexts) ⌝ }
+    requires { ⌜ ((atoms : ℕ) × Rowed (now laid) atoms × ((h : ℕ) → h < count → getD (now order) h 0 < atoms)) × (count ≤ sheetAtoms) × (root < sheetAtoms) × (contexts ≤ figureContexts) ⌝ }
 {
     marked[root] = 1;
     let mut left = [1u8; Sheet::CONTEXT_ROOM];
     let mut head = 0;
     while head < count {
         let j = order[head] as usize;
-        let a = sheet.atoms[j];
+        let a = laid_atom(laid, j);
         let links = a.links;
         let width = a.count as usize;
         mark_atom(

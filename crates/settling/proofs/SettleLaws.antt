@@ -49,6 +49,14 @@ module _ (sheet figure : form.Normal) (ready : Ready sheet figure) (taken to₀ 
     settling = λ atoms w c. settling-start S F (ready .sheet-normal) (ready .figure-normal) (stateIn figure atoms to₀) (unsettled figure flags₀) (w .partial) c;
   }
 
+  -- no link is open
+  pub settled-already : LinksIn sheet figure to₀ → ((x : ℕ) → x < figure .«class_count» → getD flags₀ x 0 ≢ 1) → Settles sheet figure taken to₀ flags₀ to₀
+  settled-already l n = record {
+    links-in = l;
+    settling = λ atoms w c. subst (Settling S F (stateIn figure atoms to₀) (unsettled figure flags₀) (stateIn figure atoms to₀)) (flagged-none (figure .«class_count») flags₀ n)
+        (settling-start S F (ready .sheet-normal) (ready .figure-normal) (stateIn figure atoms to₀) (unsettled figure flags₀) (w .partial) c);
+  }
+
   pub settled-end : (to flags : List ℕ) (x : ℕ) → figure .«class_count» ≤ x → SettledTo sheet figure taken to₀ flags₀ to flags x → Settles sheet figure taken to₀ flags₀ to
   settled-end to flags x h s = record {
     links-in = s .links-in;

@@ -28,9 +28,10 @@ abbrev pub FindsAll : form.Normal → form.Normal → List ℕ → List ℕ → 
 FindsAll sheet figure taken to r = (atoms un : List ℕ) → TakenIn sheet figure (stateIn figure atoms to) taken → Partial (netIn sheet) (netIn figure) (stateIn figure atoms to) un → Finds sheet figure (stateIn figure atoms to) r
 
 -- the arrays with one link settled
-pub tables-put : (sheet figure : form.Normal) (chains kinds to : List ℕ) → Tables sheet figure chains kinds to → (x y : ℕ) → x < figure .«class_count» → y < sheet .«class_count» → Tables sheet figure chains kinds (set to x (y + 1))
-tables-put sheet figure chains kinds to t x y h k = record {
+pub tables-put : (sheet figure : form.Normal) (laid chains kinds to : List ℕ) → Tables sheet figure laid chains kinds to → (x y : ℕ) → x < figure .«class_count» → y < sheet .«class_count» → Tables sheet figure laid chains kinds (set to x (y + 1))
+tables-put sheet figure laid chains kinds to t x y h k = record {
   ready = t .ready;
+  laid-out = t .laid-out;
   chains-in = t .chains-in;
   kinds-in = t .kinds-in;
   links-in = links-set sheet figure to (t .links-in) x (y + 1) h (t .ready .figure-fit .class-count) (omega arith, omega arith);

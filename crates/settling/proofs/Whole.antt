@@ -1,18 +1,21 @@
 -- The least completion, and what completing gives.
-use Prim.Native.Nat.{ℕ, _+_}
+use Prim.Native.Nat.{ℕ, _+_, _<_}
 use mathlib.Core.Path.{_≡_, refl, sym, _∙_, ap, subst}
+use mathlib.Core.Logic.{_≢_}
 use mathlib.Core.List.{List, [], _++_}
 use mathlib.Core.Bool.{Bool, true, false}
 use mathlib.Core.Option.{Option, none, some}
-use lib.ListN.{length, take, replicate, length-replicate}
+use native.Mathlib.Omega.{arith}
+use lib.ListN.{length, take, getD, replicate, length-replicate}
 use lib.Seq.{drop-at}
 use Rattle.rows.specs.Pick.{pick}
+use Rattle.rows.specs.Limits.{sheetLinks}
 use Rattle.sheet.specs.declared.normal.Normal as form
 use Rattle.placing.specs.Net.{Net}
 use Rattle.placing.specs.First.{Answer}
 use Rattle.placing.proofs.FirstLaws.{both-ways, answer-only, first-answer}
 use Rattle.network.specs.NetIn.{netIn}
-use Rattle.network.specs.Ready.{Ready, AtomsIn, stateIn}
+use Rattle.network.specs.Ready.{Ready, AtomsIn, LinksIn, stateIn}
 use Rattle.network.specs.Begun.{testAfter, boundsAfter, leastAfter}
 use Rattle.completing.specs.Fault as fault
 use Rattle.completing.specs.Leaf.{NoneWith, LeastCompletion, restBounds}
@@ -24,9 +27,10 @@ use Rattle.faults.specs.declared.fault.Fault.{Fault}
 use Rattle.settling.specs.declared.complete.Completed.{Completed}
 use Rattle.deciding.specs.Flags.{Different, Opens}
 use Rattle.deciding.specs.Agrees.{Agrees}
-use Rattle.settling.specs.Completes.{unsettled, Working, Completes, Settles, LeastIn}
+use Rattle.settling.specs.Completes.{unsettled, Working, Completes, Hinders, Settles, LeastIn}
 use Rattle.settling.proofs.States.{taken-in-same}
-use Rattle.settling.proofs.Trying.{FindsAll}
+use Rattle.settling.proofs.Trying.{FindsAll, find-hinders, found-none, found-refused}
+use Rattle.settling.proofs.SettleLaws.{settled-already}
 use Rattle.settling.proofs.Starting.{size, open-links, state-of, working}
 
 module _ (sheet figure : form.Normal) (ready : Ready sheet figure) (taken to flags : List ℕ) (r : Bool) (w : Completes sheet figure taken to flags r) where
@@ -48,6 +52,19 @@ module _ (sheet figure : form.Normal) (ready : Ready sheet figure) (taken to fla
           let t = s .settling atoms u (w .can atoms u e) in
           let v = finds atoms [] (taken-in-same sheet figure to atoms links taken (u .taken-in)) (t .partial) .none-found h in
           settling-done (netIn sheet) (netIn figure) (ready .sheet-normal) (ready .figure-normal) (stateIn figure atoms to) (unsettled figure flags) (stateIn figure atoms links) t (take (sheet .«atom_count») (f .given)) (v .1)
+
+-- No link is open: the finder decides.
+module _ (sheet figure : form.Normal) (ready : Ready sheet figure) (taken to flags : List ℕ) (room : length flags ≡ sheetLinks) (closed : (x : ℕ) → x < figure .«class_count» → getD flags x 0 ≢ 1)
+    (f : Fault) (finds : FindsAll sheet figure taken to f) where
+  hinders : Hinders sheet figure taken to flags f
+  hinders = find-hinders sheet figure ready taken to flags room f finds
+
+  pub closed-none : f .found ≡ true → (n : Completed) → n .ok ≡ false → LeastIn sheet figure taken to flags n
+  closed-none e n k = least-none sheet figure ready taken to flags false
+      (found-refused sheet figure ready taken to flags room f hinders e (figure .«class_count») (omega arith) (λ atoms u x h g. absurd (closed x h g))) refl n k
+
+  pub closed-some : f .found ≡ false → LinksIn sheet figure to → LeastIn sheet figure taken to flags (record { ok = true; «links_to» = to; given = f .given })
+  closed-some e l = least-some sheet figure ready taken to flags true (found-none sheet figure ready taken to flags room f hinders e) refl to (settled-already sheet figure ready taken to flags l closed) f finds
 
 module _ (sheet figure : form.Normal) (ready : Ready sheet figure) (atoms : List ℕ) (a : AtomsIn sheet (figure .«atom_count») atoms) where
   abbrev S : Net

@@ -8,6 +8,7 @@ use Rattle.sheet.specs.declared.normal.Normal as form
 use Rattle.placing.specs.Net.{Range}
 use Rattle.network.specs.NetIn.{netIn}
 use Rattle.network.specs.Ready.{Ready, LinksIn, stateIn, TakenIn}
+use Rattle.narrowing.specs.Laid.{LaidOut}
 use Rattle.stepping.specs.Chains.{ChainsIn}
 use Rattle.completing.specs.Completion.{Partial, Completable}
 use Rattle.completing.specs.Fault.{completed}
@@ -18,8 +19,9 @@ use Rattle.deciding.specs.Kinds.{KindsIn}
 use Rattle.settling.specs.declared.complete.Completed.{Completed}
 
 -- the arrays that every function of the search over open links reads
-pub record Tables (sheet figure : form.Normal) (chains kinds to : List ℕ) : Type 0 where
+pub record Tables (sheet figure : form.Normal) (laid chains kinds to : List ℕ) : Type 0 where
   pub ready : Ready sheet figure
+  pub laid-out : LaidOut sheet laid (sheet .«atom_count»)
   pub chains-in : ChainsIn sheet chains
   pub kinds-in : KindsIn figure kinds
   pub links-in : LinksIn sheet figure to

@@ -1,5 +1,6 @@
 // Whether the unsettled links, those with a flag, can be placed so that nothing stands in the way.
 use crate::obstacle::obstacle;
+use narrowing::LAID;
 use rows::Sheet;
 use sheet::normal::Normal;
 use stepping::CHAINS;
@@ -33,6 +34,7 @@ fn first_of_kind(flags: [u8; Sheet::LINKS], kinds: [u16; Sheet::LINKS], x: usize
 pub(crate) fn completable(
     sheet: Normal,
     figure: Normal,
+    laid: &[u16; LAID],
     chains: &[u16; CHAINS],
     taken: [u8; Sheet::ATOMS],
     kinds: [u16; Sheet::LINKS],
@@ -40,10 +42,10 @@ pub(crate) fn completable(
     flags: [u8; Sheet::LINKS],
     y: u16,
 ) -> bool
-    requires { ⌜ Tables sheet figure (now chains) kinds to × (y ≤ sheet .«class_count») ⌝ }
+    requires { ⌜ Tables sheet figure (now laid) (now chains) kinds to × (y ≤ sheet .«class_count») ⌝ }
     ensures { λ r. ⌜ Completes sheet figure taken to flags r ⌝ }
 {
-    let fault = obstacle(sheet, figure, chains, taken, to, flags, y);
+    let fault = obstacle(sheet, figure, laid, chains, taken, to, flags, y);
     if !fault.found {
         return true;
     }
@@ -51,7 +53,18 @@ pub(crate) fn completable(
     let mut x = 0;
     while x < figure.class_count {
         if first_of_kind(flags, kinds, x) {
-            if mendable(sheet, figure, chains, taken, kinds, to, flags, links, x) {
+            if mendable(
+                sheet,
+                figure,
+                laid,
+                chains,
+                taken,
+                kinds,
+                to,
+                flags,
+                links,
+                x,
+            ) {
                 return true;
             }
         }
@@ -64,6 +77,7 @@ pub(crate) fn completable(
 fn mendable(
     sheet: Normal,
     figure: Normal,
+    laid: &[u16; LAID],
     chains: &[u16; CHAINS],
     taken: [u8; Sheet::ATOMS],
     kinds: [u16; Sheet::LINKS],
@@ -72,7 +86,7 @@ fn mendable(
     links: [u8; Sheet::LINKS],
     x: usize,
 ) -> bool
-    requires { ⌜ Tables sheet figure (now chains) kinds to × (x < figure .«class_count») × (getD flags x 0 ≡ 1) ⌝ }
+    requires { ⌜ Tables sheet figure (now laid) (now chains) kinds to × (x < figure .«class_count») × (getD flags x 0 ≡ 1) ⌝ }
     ensures { λ r. ⌜ CompletesAt sheet figure taken to flags links x r ⌝ }
 {
     let mut rest = flags;
@@ -83,7 +97,7 @@ fn mendable(
             let at = (y + 1) as u16;
             let mut next = to;
             next[x] = at;
-            if completable(sheet, figure, chains, taken, kinds, next, rest, at) {
+            if completable(sheet, figure, laid, chains, taken, kinds, next, rest, at) {
                 return true;
             }
         }

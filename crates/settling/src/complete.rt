@@ -6,15 +6,20 @@ use deciding::kinds::kinds;
 use deciding::opening::open_links;
 use deciding::taken::taken_by;
 use faults::fault::find;
+use narrowing::LAID;
 use rows::Sheet;
 use sheet::normal::Normal;
 use stepping::chains::chains;
 ghost use mathlib.Core.Path.{_≡_};
-ghost use mathlib.Core.Bool.{false};
-ghost use lib.ListN.{take};
+ghost use mathlib.Core.Bool.{true, false};
+ghost use mathlib.Core.Logic.{_↔_, _≢_};
+ghost use Prim.Native.Nat.{ℕ, _<_, _≤_};
+ghost use lib.ListN.{take, getD};
+ghost use Rattle.rows.specs.Limits.{sheetLinks};
 ghost use Rattle.network.specs.NetIn.{netIn};
 ghost use Rattle.network.specs.Ready.{Ready, AtomsIn, LinksIn};
 ghost use Rattle.network.specs.Begun.{leastAfter};
+ghost use Rattle.narrowing.specs.Laid.{LaidOut};
 ghost use Rattle.settling.specs.Completed.{completedIn};
 ghost use Rattle.settling.specs.Completes.{LeastIn};
 
@@ -35,24 +40,52 @@ fn nothing() -> Completed
     }
 }
 
-// The least completion where the links with a flag are open.
+// None of the first `count` links has a flag.
+fn none_open(flags: &[u8; Sheet::LINKS], count: usize) -> bool
+    requires { ⌜ count ≤ sheetLinks ⌝ }
+    ensures { λ r. ⌜ ((r ≡ true) ↔ ((x : ℕ) → x < count → getD (now (flags .entry)) x 0 ≢ 1)) ⌝ }
+{
+    let mut x = 0;
+    while x < count {
+        if flags[x] == 1 {
+            return false;
+        }
+        x += 1;
+    }
+    true
+}
+
+// The least completion where the links with a flag are open. Where none is, one look for a fault decides.
 fn least(
     sheet: Normal,
     figure: Normal,
+    laid: &[u16; LAID],
     taken: [u8; Sheet::ATOMS],
     to: [u16; Sheet::LINKS],
     flags: [u8; Sheet::LINKS],
 ) -> Completed
-    requires { ⌜ Ready sheet figure × LinksIn sheet figure to ⌝ }
+    requires { ⌜ Ready sheet figure × LinksIn sheet figure to × LaidOut sheet (now laid) (sheet .«atom_count») ⌝ }
     ensures { λ r. ⌜ LeastIn sheet figure taken to flags r ⌝ }
 {
     let table = chains(sheet);
+    if none_open(&flags, figure.class_count) {
+        let only = find(sheet, figure, laid, &table, taken, to);
+        if only.found {
+            return nothing();
+        }
+        let given = only.given;
+        return Completed {
+            ok: true,
+            links_to: to,
+            given,
+        };
+    }
     let kind = kinds(figure);
-    if !completable(sheet, figure, &table, taken, kind, to, flags, 0) {
+    if !completable(sheet, figure, laid, &table, taken, kind, to, flags, 0) {
         return nothing();
     }
-    let links_to = settled(sheet, figure, &table, taken, kind, to, flags);
-    let last = find(sheet, figure, &table, taken, links_to);
+    let links_to = settled(sheet, figure, laid, &table, taken, kind, to, flags);
+    let last = find(sheet, figure, laid, &table, taken, links_to);
     let given = last.given;
     Completed {
         ok: true,
@@ -61,9 +94,14 @@ fn least(
     }
 }
 
-// Links and contexts of the least good placing with these atoms.
-pub fn complete(sheet: Normal, figure: Normal, atoms_to: [u16; Sheet::ATOMS]) -> Completed
-    requires { ⌜ Ready sheet figure × AtomsIn sheet (figure .«atom_count») «atoms_to» ⌝ }
+// Links and contexts of the least good placing with these atoms. `laid` are the sheet's atoms.
+pub fn complete(
+    sheet: Normal,
+    figure: Normal,
+    laid: &[u16; LAID],
+    atoms_to: [u16; Sheet::ATOMS],
+) -> Completed
+    requires { ⌜ Ready sheet figure × AtomsIn sheet (figure .«atom_count») «atoms_to» × LaidOut sheet (now laid) (sheet .«atom_count») ⌝ }
     ensures { λ r. ⌜ completedIn sheet figure r ≡ leastAfter (netIn sheet) (netIn figure) (take (figure .«atom_count») «atoms_to») ⌝ }
 {
     let taken = taken_by(sheet, figure, atoms_to);
@@ -80,5 +118,5 @@ pub fn complete(sheet: Normal, figure: Normal, atoms_to: [u16; Sheet::ATOMS]) ->
     let flags = taken.flags;
     let to = opened.to;
     let open = opened.flags;
-    least(sheet, figure, flags, to, open)
+    least(sheet, figure, laid, flags, to, open)
 }

@@ -1,5 +1,6 @@
 // The open links settled one by one, each at the first sheet link with which the rest can be completed.
 use crate::completable::completable;
+use narrowing::LAID;
 use rows::Sheet;
 use sheet::normal::Normal;
 use stepping::CHAINS;
@@ -12,6 +13,7 @@ ghost use Rattle.settling.specs.Completes.{Tables, FirstFor, Settles};
 fn first_link(
     sheet: Normal,
     figure: Normal,
+    laid: &[u16; LAID],
     chains: &[u16; CHAINS],
     taken: [u8; Sheet::ATOMS],
     kinds: [u16; Sheet::LINKS],
@@ -19,7 +21,7 @@ fn first_link(
     flags: [u8; Sheet::LINKS],
     x: usize,
 ) -> u16
-    requires { ⌜ Tables sheet figure (now chains) kinds to × (x < figure .«class_count») × (getD flags x 0 ≡ 1) ⌝ }
+    requires { ⌜ Tables sheet figure (now laid) (now chains) kinds to × (x < figure .«class_count») × (getD flags x 0 ≡ 1) ⌝ }
     ensures { λ r. ⌜ FirstFor sheet figure taken to flags x r ⌝ }
 {
     let mut rest = flags;
@@ -29,7 +31,7 @@ fn first_link(
         let at = (y + 1) as u16;
         let mut next = to;
         next[x] = at;
-        if completable(sheet, figure, chains, taken, kinds, next, rest, at) {
+        if completable(sheet, figure, laid, chains, taken, kinds, next, rest, at) {
             return at;
         }
         y += 1;
@@ -40,13 +42,14 @@ fn first_link(
 pub(crate) fn settled(
     sheet: Normal,
     figure: Normal,
+    laid: &[u16; LAID],
     chains: &[u16; CHAINS],
     taken: [u8; Sheet::ATOMS],
     kinds: [u16; Sheet::LINKS],
     to: [u16; Sheet::LINKS],
     flags: [u8; Sheet::LINKS],
 ) -> [u16; Sheet::LINKS]
-    requires { ⌜ Tables sheet figure (now chains) kinds to ⌝ }
+    requires { ⌜ Tables sheet figure (now laid) (now chains) kinds to ⌝ }
     ensures { λ r. ⌜ Settles sheet figure taken to flags r ⌝ }
 {
     let mut next = to;
@@ -54,7 +57,7 @@ pub(crate) fn settled(
     let mut x = 0;
     while x < figure.class_count {
         if rest[x] == 1 {
-            let y = first_link(sheet, figure, chains, taken, kinds, next, rest, x);
+            let y = first_link(sheet, figure, laid, chains, taken, kinds, next, rest, x);
             next[x] = y;
             rest[x] = 0;
         }

@@ -43,12 +43,6 @@ module _ (sheet : form.Normal) (f : Fit sheet) where
   pub atom-links : (j : ℕ) → j < sheet .«atom_count» → (cellAt (netIn sheet .atoms) (suc j)) .1 ≡ take (atomAt sheet j .count) (atomAt sheet j .links)
   atom-links j h = ap (λ (c : NetCell). c .1) (ap (cellAt (netIn sheet .atoms)) (sym (up j)) ∙ atom-index sheet f j h)
 
-  pub atom-on : (j k : ℕ) → j < sheet .«atom_count» → k < atomAt sheet j .count → getD (atomAt sheet j .links) k 0 ∈ (cellAt (netIn sheet .atoms) (suc j)) .1
-  atom-on j k h l = subst (λ (m : List ℕ). getD (atomAt sheet j .links) k 0 ∈ m) (sym (atom-links j h)) (used-in (sheet .«class_count») (atomAt sheet j .count) (atomAt sheet j .links) (f .atoms j h) k l)
-
-  pub atom-place : (j y : ℕ) → j < sheet .«atom_count» → y ∈ (cellAt (netIn sheet .atoms) (suc j)) .1 → (k : ℕ) × (k < atomAt sheet j .count) × (getD (atomAt sheet j .links) k 0 ≡ y)
-  atom-place j y h m = used-place (sheet .«class_count») (atomAt sheet j .count) (atomAt sheet j .links) (f .atoms j h) y (subst (λ (l : List ℕ). y ∈ l) (atom-links j h) m)
-
 module _ (figure : form.Normal) (f : Fit figure) where
   pub context-cell : (c : ℕ) → c < figure .«context_count» → cellAt (netIn figure .contexts) (suc c) ≡ contextIn (contextAt figure c)
   context-cell c h = ap (cellAt (netIn figure .contexts)) (let e : suc c ≡ c + 1 = omega arith in e) ∙ context-index figure f c h

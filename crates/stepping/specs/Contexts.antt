@@ -2,13 +2,16 @@
 use Prim.Native.Nat.{ℕ, _≤_, _<_}
 use mathlib.Core.Path.{_≡_}
 use mathlib.Core.Logic.{_⊎_, _≢_}
-use mathlib.Core.List.{List}
+use mathlib.Core.List.{List, []}
 use lib.ListN.{getD}
-use Rattle.sheet.specs.declared.normal.Normal as form
-use Rattle.network.specs.NetIn.{contextAt}
+use Rattle.rows.specs.declared.Context.{Context}
 
--- Among the first n contexts: the best is left and has the least number of those left, or none is left.
-abbrev pub Least : form.Normal → List ℕ → ℕ → ℕ → Type 0
-Least figure left n best =
-    ((best < n) × (getD left best 0 ≡ 1) × ((c : ℕ) → c < n → getD left c 0 ≡ 1 → contextAt figure best .number ≤ contextAt figure c .number))
-    ⊎ ((best ≡ figure .«context_count») × ((c : ℕ) → c < n → getD left c 0 ≢ 1))
+-- the number of the context in row c
+abbrev pub numberOf : List Context → ℕ → ℕ
+numberOf contexts c = getD contexts c (record { number = 0; count = 0; links = []; row = 0 }) .number
+
+-- Among the first n of `count` contexts: the best is left and has the least number of those left, or none is left.
+abbrev pub Least : List Context → ℕ → List ℕ → ℕ → ℕ → Type 0
+Least contexts count left n best =
+    ((best < n) × (getD left best 0 ≡ 1) × ((c : ℕ) → c < n → getD left c 0 ≡ 1 → numberOf contexts best ≤ numberOf contexts c))
+    ⊎ ((best ≡ count) × ((c : ℕ) → c < n → getD left c 0 ≢ 1))

@@ -1,13 +1,12 @@
 // Which contexts may hold a component: those with a port at each of its links where figure links go.
 use crate::PORTS;
+use rows::Context;
 use rows::Sheet;
-use sheet::normal::Normal;
 ghost use mathlib.Core.Path.{_≡_};
 ghost use mathlib.Core.Logic.{_↔_};
 ghost use Prim.Native.Nat.{ℕ, _+_, _*_, _<_, _≤_};
 ghost use lib.ListN.{length, getD};
 ghost use Rattle.rows.specs.Limits.{sheetLinks, figureContexts};
-ghost use Rattle.network.specs.NetIn.{Fit};
 ghost use Rattle.stepping.specs.Contexts.{Least};
 
 // Those that have no port at y leave.
@@ -24,18 +23,23 @@ pub fn left_at(left: &mut [u8; Sheet::CONTEXT_ROOM], ports: &[u8; PORTS], y: usi
     }
 }
 
-// Of the contexts that are left, the row of one with the least number; past the last where none is left.
-pub fn least(figure: Normal, left: [u8; Sheet::CONTEXT_ROOM]) -> usize
-    requires { ⌜ Fit figure ⌝ }
-    ensures { λ r. ⌜ (r ≤ figure .«context_count») × Least figure left (figure .«context_count») r ⌝ }
+// Of the first `count` contexts, those that are left: the row of one with the least number; `count` where none
+// is left.
+pub fn least(
+    contexts: [Context; Sheet::CONTEXT_ROOM],
+    count: usize,
+    left: [u8; Sheet::CONTEXT_ROOM],
+) -> usize
+    requires { ⌜ (count ≤ figureContexts) × (length contexts ≡ figureContexts + 1) ⌝ }
+    ensures { λ r. ⌜ (r ≤ count) × Least contexts count left count r ⌝ }
 {
-    let mut best = figure.context_count;
+    let mut best = count;
     let mut c = 0;
-    while c < figure.context_count {
+    while c < count {
         if left[c] == 1 {
-            if best == figure.context_count {
+            if best == count {
                 best = c;
-            } else if figure.contexts[c].number < figure.contexts[best].number {
+            } else if contexts[c].number < contexts[best].number {
                 best = c;
             }
         }

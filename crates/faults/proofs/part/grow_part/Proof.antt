@@ -7,30 +7,28 @@ use mathlib.Core.List.{List, [], _∷_}
 use native.Mathlib.Omega.{arith}
 use lib.ListN.{length, getD, set, length-set, replicate}
 use Rattle.rows.specs.Limits.{sheetAtoms, sheetLinks}
-use Rattle.network.specs.NetIn.{netIn}
-use Rattle.stepping.proofs.Rows.{atom-row}
-use Rattle.stepping.proofs.Reading.{atom-on}
 use Rattle.faults.specs.Parts.{HoldsPart}
+use Rattle.faults.proofs.AtomRows.{read-links, read-on}
 use Rattle.faults.proofs.Whole.{holds-start}
 use Rattle.faults.proofs.part.grow_part.Statement.{statement}
 use Rattle.faults.proofs.part.grow_part.Tie as tie
 
 abbrev Inv-loop : tie.InvT-loop
-Inv-loop members₀ seen₀ order count way marked ends used root sheet head₀ members seen head = (head ≤ count) × (length members ≡ sheetAtoms) × (length seen ≡ sheetLinks) × HoldsPart sheet used root members seen
+Inv-loop members₀ seen₀ laid atoms links order count way marked ends used root head₀ members seen head = (head ≤ count) × (length members ≡ sheetAtoms) × (length seen ≡ sheetLinks) × HoldsPart laid atoms links used root members seen
 
 abbrev μ-loop : tie.MeasureT-loop
-μ-loop members₀ seen₀ order count way marked ends used root sheet head₀ members seen head = count - head
+μ-loop members₀ seen₀ laid atoms links order count way marked ends used root head₀ members seen head = count - head
 
 element-write-members : tie.Need-element-write-members Inv-loop μ-loop
-element-write-members c = omega (arith, c .pre .0 .atom-count, c .pre .3)
+element-write-members c = omega (arith, c .pre .0 .few, c .pre .4)
 
 loop-holds : tie.Need-loop-holds Inv-loop μ-loop
 loop-holds c = let a = c .args in
-    let P : List ℕ → List ℕ → Type 0 = λ m v. (length (set m (a .root) 1) ≡ sheetAtoms) × (length v ≡ sheetLinks) × HoldsPart (a .t3) (a .used .now) (a .root) (set m (a .root) 1) v in
-    let w : P (a .members .now) (a .seen .now) = subst (λ m. P m (a .seen .now)) (sym (c .pre .4)) (subst (P (replicate 64 0)) (sym (c .pre .5)) (
+    let P : List ℕ → List ℕ → Type 0 = λ m v. (length (set m (a .root) 1) ≡ sheetAtoms) × (length v ≡ sheetLinks) × HoldsPart (a .laid .now) (a .atoms) (a .links) (a .used .now) (a .root) (set m (a .root) 1) v in
+    let w : P (a .members .now) (a .seen .now) = subst (λ m. P m (a .seen .now)) (sym (c .pre .5)) (subst (P (replicate 64 0)) (sym (c .pre .6)) (
       simp length-set,
       refl,
-      λ F q around flags o. (suc (a .root) ∷ [], [], holds-start (a .t3 .«atom_count») (a .root) (c .pre .3) (c .pre .0 .atom-count) (netIn (a .t3)) F q o),
+      λ S F q e rows around flags o. (suc (a .root) ∷ [], [], holds-start (a .atoms) (a .root) (c .pre .4) (c .pre .0 .few) S F q o),
     )) in
     (omega arith, w .0, w .1, w .2)
 
@@ -38,55 +36,55 @@ element-copy-out-j : tie.Need-element-copy-out-j Inv-loop μ-loop
 element-copy-out-j c = search needs
 
 cast-j : tie.Need-cast-j Inv-loop μ-loop
-cast-j c = let s = c .before .before .before in let r = s .pre .2 (c .before .before .loop .head) (c .before .loop-test .taken) in omega (arith, s .pre .0 .atom-count)
+cast-j c = let s = c .before .before .before in let r = s .pre .3 (c .before .before .loop .head) (c .before .loop-test .taken) in omega (arith, s .pre .0 .few)
 
 element-copy-out-if1 : tie.Need-element-copy-out-if1 Inv-loop μ-loop
-element-copy-out-if1 c = let s = c .before .before .before in let r = s .pre .2 (c .before .before .loop .head) (c .before .loop-test .taken) in omega (arith, s .pre .0 .atom-count)
+element-copy-out-if1 c = let s = c .before .before .before in let r = s .pre .3 (c .before .before .loop .head) (c .before .loop-test .taken) in omega (arith, s .pre .0 .few)
 
 mul-wide : tie.Need-mul-wide Inv-loop μ-loop
-mul-wide c = let s = c .before .before .before .before .before in let r = s .pre .2 (c .before .before .before .before .loop .head) (c .before .before .before .loop-test .taken) in omega (arith, s .pre .0 .atom-count)
+mul-wide c = let s = c .before .before .before .before .before in let r = s .pre .3 (c .before .before .before .before .loop .head) (c .before .before .before .loop-test .taken) in omega (arith, s .pre .0 .few)
 
 element-copy-out-wide : tie.Need-element-copy-out-wide Inv-loop μ-loop
-element-copy-out-wide c = let s = c .before .before .before .before .before in let r = s .pre .2 (c .before .before .before .before .loop .head) (c .before .before .before .loop-test .taken) in omega (arith, s .pre .0 .atom-count)
+element-copy-out-wide c = let s = c .before .before .before .before .before in let r = s .pre .3 (c .before .before .before .before .loop .head) (c .before .before .before .loop-test .taken) in omega (arith, s .pre .0 .few)
 
 wide-requires : tie.Need-wide-requires Inv-loop μ-loop
 wide-requires c κs = search needs
 
 mul-wide-2 : tie.Need-mul-wide-2 Inv-loop μ-loop
-mul-wide-2 c = let s = c .before .before .before .before .before .before .before in let r = s .pre .2 (c .before .before .before .before .before .before .loop .head) (c .before .before .before .before .before .loop-test .taken) in omega (arith, s .pre .0 .atom-count)
+mul-wide-2 c = let s = c .before .before .before .before .before .before .before in let r = s .pre .3 (c .before .before .before .before .before .before .loop .head) (c .before .before .before .before .before .loop-test .taken) in omega (arith, s .pre .0 .few)
 
 element-copy-out-wide-2 : tie.Need-element-copy-out-wide-2 Inv-loop μ-loop
-element-copy-out-wide-2 c = let s = c .before .before .before .before .before .before .before in let r = s .pre .2 (c .before .before .before .before .before .before .loop .head) (c .before .before .before .before .before .loop-test .taken) in omega (arith, s .pre .0 .atom-count)
+element-copy-out-wide-2 c = let s = c .before .before .before .before .before .before .before in let r = s .pre .3 (c .before .before .before .before .before .before .loop .head) (c .before .before .before .before .before .loop-test .taken) in omega (arith, s .pre .0 .few)
 
 wide-requires-2 : tie.Need-wide-requires-2 Inv-loop μ-loop
 wide-requires-2 c κs = search needs
 
-mul-t : tie.Need-mul-t Inv-loop μ-loop
-mul-t c = search needs
-
-element-copy-out-t : tie.Need-element-copy-out-t Inv-loop μ-loop
-element-copy-out-t c = search needs
+laid-atom-requires : tie.Need-laid-atom-requires Inv-loop μ-loop
+laid-atom-requires c κs = search needs
 
 cast-width : tie.Need-cast-width Inv-loop μ-loop
 cast-width c = search needs
 
-mul-s : tie.Need-mul-s Inv-loop μ-loop
-mul-s c = let s = c .before .before .before .before .before .before .before .before .before .before .before .before in let r = s .pre .2 (c .before .before .before .before .before .before .before .before .before .before .before .loop .head) (c .before .before .before .before .before .before .before .before .before .before .loop-test .taken) in omega (arith, s .pre .0 .atom-count)
-
-element-copy-out-s : tie.Need-element-copy-out-s Inv-loop μ-loop
-element-copy-out-s c = let s = c .before .before .before .before .before .before .before .before .before .before .before .before in let r = s .pre .2 (c .before .before .before .before .before .before .before .before .before .before .before .loop .head) (c .before .before .before .before .before .before .before .before .before .before .loop-test .taken) in omega (arith, s .pre .0 .atom-count)
+laid-atom-requires-2 : tie.Need-laid-atom-requires-2 Inv-loop μ-loop
+laid-atom-requires-2 c κs = let s = c .before .before .before .before .before .before .before .before .before .before .before .before in let r = s .pre .3 (c .before .before .before .before .before .before .before .before .before .before .before .loop .head) (c .before .before .before .before .before .before .before .before .before .before .loop-test .taken) in omega (arith, s .pre .0 .few)
 
 cast-n : tie.Need-cast-n Inv-loop μ-loop
 cast-n c = search needs
 
 with-step-requires : tie.Need-with-step-requires Inv-loop μ-loop
-with-step-requires c κs = let s = c .before .before .before .before .before .before .before .before .before .before .before .before .before .before .before .before .before in let r = s .pre .2 (c .before .before .before .before .before .before .before .before .before .before .before .before .before .before .before .before .loop .head) (c .before .before .before .before .before .before .before .before .before .before .before .before .before .before .before .loop-test .taken) in (r, s .pre .0 .atom-count, s .pre .0 .class-count, c .before .before .before .before .before .before .before .before .before .before .before .before .before .before .before .before .loop .inv .1, c .before .before .before .before .before .before .before .before .before .before .before .before .before .before .before .before .loop .inv .2)
+with-step-requires c κs = let s = c .before .before .before .before .before .before .before .before .before .before .before .before .before .before .before .before .before in
+    let l = c .before .before .before .before .before .before .before .before .before .before .before .before .before .before .before .before .loop in
+    (s .pre .3 (l .head) (c .before .before .before .before .before .before .before .before .before .before .before .before .before .before .before .loop-test .taken), s .pre .0 .few, s .pre .1, l .inv .1, l .inv .2)
 
 element-copy-out-if2 : tie.Need-element-copy-out-if2 Inv-loop μ-loop
-element-copy-out-if2 c = let s = c .before .before .before .before .before .before .before .before .before .before .before .before .before .before .before .before .before .before in let r = s .pre .2 (c .before .before .before .before .before .before .before .before .before .before .before .before .before .before .before .before .before .loop .head) (c .before .before .before .before .before .before .before .before .before .before .before .before .before .before .before .before .loop-test .taken) in omega (arith, s .pre .0 .atom-count)
+element-copy-out-if2 c = let s = c .before .before .before .before .before .before .before .before .before .before .before .before .before .before .before .before .before .before in let r = s .pre .3 (c .before .before .before .before .before .before .before .before .before .before .before .before .before .before .before .before .before .loop .head) (c .before .before .before .before .before .before .before .before .before .before .before .before .before .before .before .before .loop-test .taken) in omega (arith, s .pre .0 .few)
 
 with-ends-requires : tie.Need-with-ends-requires Inv-loop μ-loop
-with-ends-requires c κs = let s = c .before .before .before .before .before .before .before .before .before .before .before .before .before .before .before .before .before .before .before .before .before in let r = s .pre .2 (c .before .before .before .before .before .before .before .before .before .before .before .before .before .before .before .before .before .before .before .before .loop .head) (c .before .before .before .before .before .before .before .before .before .before .before .before .before .before .before .before .before .before .before .loop-test .taken) in let w = atom-row (s .args .t3) (s .pre .0) (getD (s .args .order .now) (c .before .before .before .before .before .before .before .before .before .before .before .before .before .before .before .before .before .before .before .before .loop .head) 0) r in (w .0, w .1, c .before .before .before .with-step .ensures .1)
+with-ends-requires c κs = let s = c .before .before .before .before .before .before .before .before .before .before .before .before .before .before .before .before .before .before .before .before .before in
+    let l = c .before .before .before .before .before .before .before .before .before .before .before .before .before .before .before .before .before .before .before .before .loop in
+    let t = c .before .before .before .before .before .before .before .before .laid-atom2 in
+    let w = read-links (s .args .laid .now) (s .args .atoms) (getD (s .args .order .now) (l .head) 0) (s .pre .3 (l .head) (c .before .before .before .before .before .before .before .before .before .before .before .before .before .before .before .before .before .before .before .loop-test .taken)) (t .result) (t .ensures) (s .pre .0) in
+    (w .0, w .1, c .before .before .before .with-step .ensures .1)
 
 add-head : tie.Need-add-head Inv-loop μ-loop
 add-head c = search needs
@@ -99,22 +97,23 @@ loop-again c = let s = c .before .before .before .before .before in
     let l = c .before .before .before .before .loop in
     let a = s .args in
     let j = getD (a .order .now) (l .head) 0 in
-    let h = s .pre .2 (l .head) (c .before .before .before .loop-test .taken) in
-    let P : List ℕ → List ℕ → Type 0 = λ m v. (length m ≡ sheetAtoms) × (length v ≡ sheetLinks) × HoldsPart (a .t3) (a .used .now) (a .root) m v in
+    let h = s .pre .3 (l .head) (c .before .before .before .loop-test .taken) in
+    let P : List ℕ → List ℕ → Type 0 = λ m v. (length m ≡ sheetAtoms) × (length v ≡ sheetLinks) × HoldsPart (a .laid .now) (a .atoms) (a .links) (a .used .now) (a .root) m v in
     let w : P (c .if1 .members) (c .if1 .seen) = ⊎-elim
     (λ w. subst (λ m. P m (c .if1 .seen)) (sym (w .18)) (subst (P (w .13 .last .0)) (sym (w .19)) (
       w .13 .ensures .0,
       w .17 .ensures .0,
-      λ F q around flags o.
-          let p = w .13 .ensures .2 (netIn (a .t3)) F q (suc (a .root)) refl around flags (λ b k i. atom-on (a .t3) (s .pre .0) (w .4 .result % 64) k b i) (λ k i. atom-on (a .t3) (s .pre .0) j k h i) (l .inv .3 F q around flags o) in
-          let v = w .17 .ensures .1 (netIn (a .t3)) F q (suc (a .root)) (suc j) (p .0) (w .13 .last .0) (p .1) (p .2 .flagged j (w .15 .taken)) (λ k i. atom-on (a .t3) (s .pre .0) j k h i) (p .2) in
+      λ S F q e rows around flags o.
+          let on = read-on (a .laid .now) (a .atoms) j h (w .8 .result) (w .8 .ensures) S rows in
+          let p = w .13 .ensures .2 S F q (suc (a .root)) e around flags (λ b. read-on (a .laid .now) (a .atoms) (w .4 .result % 64) b (w .5 .result) (w .5 .ensures) S rows) on (l .inv .3 S F q e rows around flags o) in
+          let v = w .17 .ensures .1 S F q (suc (a .root)) (suc j) (p .0) (w .13 .last .0) (p .1) (p .2 .flagged j (w .15 .taken)) on (p .2) in
           (p .0, v .0, v .1),
     )))
     (⊎-elim
     (λ w. subst (λ m. P m (c .if1 .seen)) (sym (w .16)) (subst (P (w .13 .last .0)) (sym (w .17)) (
       w .13 .ensures .0,
       w .13 .ensures .1,
-      λ F q around flags o. w .13 .ensures .2 (netIn (a .t3)) F q (suc (a .root)) refl around flags (λ b k i. atom-on (a .t3) (s .pre .0) (w .4 .result % 64) k b i) (λ k i. atom-on (a .t3) (s .pre .0) j k h i) (l .inv .3 F q around flags o),
+      λ S F q e rows around flags o. w .13 .ensures .2 S F q (suc (a .root)) e around flags (λ b. read-on (a .laid .now) (a .atoms) (w .4 .result % 64) b (w .5 .result) (w .5 .ensures) S rows) (read-on (a .laid .now) (a .atoms) j h (w .8 .result) (w .8 .ensures) S rows) (l .inv .3 S F q e rows around flags o),
     )))
     (λ w. subst (λ m. P m (c .if1 .seen)) (sym (w .1)) (subst (P (l .members)) (sym (w .2)) (l .inv .1, l .inv .2, l .inv .3))))
     (c .if1 .came) in
@@ -140,11 +139,9 @@ grow-part-spec =
     mul-wide-2
     element-copy-out-wide-2
     wide-requires-2
-    mul-t
-    element-copy-out-t
+    laid-atom-requires
     cast-width
-    mul-s
-    element-copy-out-s
+    laid-atom-requires-2
     cast-n
     with-step-requires
     element-copy-out-if2

@@ -5,15 +5,15 @@ use mathlib.Core.Path.{_≡_}
 use native.Mathlib.Omega.{arith}
 use lib.ListN.{length, getD}
 use Rattle.rows.specs.Limits.{figureContexts}
-use Rattle.stepping.proofs.Rows.{atom-row}
+use Rattle.faults.proofs.AtomRows.{read-links}
 use Rattle.faults.proofs.ways.mark_all.Statement.{statement}
 use Rattle.faults.proofs.ways.mark_all.Tie as tie
 
 abbrev Inv-loop : tie.InvT-loop
-Inv-loop marked₀ ends₀ order count way used ports root contexts sheet left₀ head₀ marked ends left head = (head ≤ count) × (length left ≡ figureContexts + 1)
+Inv-loop marked₀ ends₀ laid order count way used ports root contexts left₀ head₀ marked ends left head = (head ≤ count) × (length left ≡ figureContexts + 1)
 
 abbrev μ-loop : tie.MeasureT-loop
-μ-loop marked₀ ends₀ order count way used ports root contexts sheet left₀ head₀ marked ends left head = count - head
+μ-loop marked₀ ends₀ laid order count way used ports root contexts left₀ head₀ marked ends left head = count - head
 
 element-write-marked : tie.Need-element-write-marked Inv-loop μ-loop
 element-write-marked c = search needs
@@ -25,19 +25,22 @@ element-copy-out-j : tie.Need-element-copy-out-j Inv-loop μ-loop
 element-copy-out-j c = search needs
 
 cast-j : tie.Need-cast-j Inv-loop μ-loop
-cast-j c = let s = c .before .before .before in let r = s .pre .2 (c .before .before .loop .head) (c .before .loop-test .taken) in omega (arith, s .pre .0 .atom-count)
+cast-j c = let p = c .before .before .before .pre .0 in let r = p .2 (c .before .before .loop .head) (c .before .loop-test .taken) in omega (arith, p .1 .few)
 
-mul-a : tie.Need-mul-a Inv-loop μ-loop
-mul-a c = let s = c .before .before .before in let r = s .pre .2 (c .before .before .loop .head) (c .before .loop-test .taken) in omega (arith, s .pre .0 .atom-count)
-
-element-copy-out-a : tie.Need-element-copy-out-a Inv-loop μ-loop
-element-copy-out-a c = let s = c .before .before .before in let r = s .pre .2 (c .before .before .loop .head) (c .before .loop-test .taken) in omega (arith, s .pre .0 .atom-count)
+laid-atom-requires : tie.Need-laid-atom-requires Inv-loop μ-loop
+laid-atom-requires c κs = let p = c .before .before .before .pre .0 in let r = p .2 (c .before .before .loop .head) (c .before .loop-test .taken) in omega (arith, p .1 .few)
 
 cast-width : tie.Need-cast-width Inv-loop μ-loop
 cast-width c = search needs
 
 mark-atom-requires : tie.Need-mark-atom-requires Inv-loop μ-loop
-mark-atom-requires c κs = let s = c .before .before .before .before .before .before .before .before .before in let r = s .pre .2 (c .before .before .before .before .before .before .before .before .loop .head) (c .before .before .before .before .before .before .before .loop-test .taken) in let w = atom-row (s .args .t3) (s .pre .0) (getD (s .args .order .now) (c .before .before .before .before .before .before .before .before .loop .head) 0) r in (w .0, w .1, s .pre .4, omega (arith, s .pre .0 .atom-count), c .before .before .before .before .before .before .before .before .loop .inv .1)
+mark-atom-requires c κs = let s = c .before .before .before .before .before .before .before .before .before in
+    let l = c .before .before .before .before .before .before .before .before .loop in
+    let p = s .pre .0 in
+    let r = p .2 (l .head) (c .before .before .before .before .before .before .before .loop-test .taken) in
+    let t = c .before .before .before .before .before .laid-atom in
+    let w = read-links (s .args .laid .now) (p .0) (getD (s .args .order .now) (l .head) 0) r (t .result) (t .ensures) (p .1) in
+    (w .0, w .1, s .pre .3, omega (arith, p .1 .few), l .inv .1)
 
 add-head : tie.Need-add-head Inv-loop μ-loop
 add-head c = search needs
@@ -61,8 +64,7 @@ mark-all-spec =
     loop-holds
     element-copy-out-j
     cast-j
-    mul-a
-    element-copy-out-a
+    laid-atom-requires
     cast-width
     mark-atom-requires
     add-head

@@ -25,35 +25,35 @@ use Rattle.settling.proofs.obstacle.obstacle.Reads as obstacle-reads
 use Rattle.settling.proofs.completable.+completable+mendable.{statement}
 use Rattle.settling.proofs.completable.+completable+mendable.Tie.{close}
 
-abbrev μ-completable : Measures 1 completable-kinds.ps ℕ
-μ-completable κs a = suc (length (unsettled (a .1 .0) (a .1 .1 .1 .1 .1 .1 .0)) + length (unsettled (a .1 .0) (a .1 .1 .1 .1 .1 .1 .0)))
+abbrev μ-completable : Measures 2 completable-kinds.ps ℕ
+μ-completable κs a = suc (length (unsettled (a .1 .0) (a .1 .1 .1 .1 .1 .1 .1 .0)) + length (unsettled (a .1 .0) (a .1 .1 .1 .1 .1 .1 .1 .0)))
 
-abbrev μ-mendable : Measures 1 mendable-kinds.ps ℕ
-μ-mendable κs a = length (unsettled (a .1 .0) (a .1 .1 .1 .1 .1 .1 .0)) + length (unsettled (a .1 .0) (a .1 .1 .1 .1 .1 .1 .0))
+abbrev μ-mendable : Measures 2 mendable-kinds.ps ℕ
+μ-mendable κs a = length (unsettled (a .1 .0) (a .1 .1 .1 .1 .1 .1 .1 .0)) + length (unsettled (a .1 .0) (a .1 .1 .1 .1 .1 .1 .1 .0))
 
-abbrev completable-at : ℕ → In 1 completable-kinds.ps
-completable-at t = and 1 completable-kinds.ps (is 1 completable-kinds.ps μ-completable t) completable.Pre
+abbrev completable-at : ℕ → In 2 completable-kinds.ps
+completable-at t = and 2 completable-kinds.ps (is 2 completable-kinds.ps μ-completable t) completable.Pre
 
-abbrev completable-below : ℕ → In 1 completable-kinds.ps
-completable-below t = and 1 completable-kinds.ps (falls 1 completable-kinds.ps _<_ μ-completable t) completable.Pre
+abbrev completable-below : ℕ → In 2 completable-kinds.ps
+completable-below t = and 2 completable-kinds.ps (falls 2 completable-kinds.ps _<_ μ-completable t) completable.Pre
 
-abbrev mendable-at : ℕ → In 1 mendable-kinds.ps
-mendable-at t = and 1 mendable-kinds.ps (is 1 mendable-kinds.ps μ-mendable t) mendable.Pre
+abbrev mendable-at : ℕ → In 2 mendable-kinds.ps
+mendable-at t = and 2 mendable-kinds.ps (is 2 mendable-kinds.ps μ-mendable t) mendable.Pre
 
-abbrev mendable-below : ℕ → In 1 mendable-kinds.ps
-mendable-below t = and 1 mendable-kinds.ps (falls 1 mendable-kinds.ps _<_ μ-mendable t) mendable.Pre
+abbrev mendable-below : ℕ → In 2 mendable-kinds.ps
+mendable-below t = and 2 mendable-kinds.ps (falls 2 mendable-kinds.ps _<_ μ-mendable t) mendable.Pre
 
 abbrev completable-Inv-loop : completable-lts.InvT-loop
-completable-Inv-loop sheet figure chains taken kinds to flags y links x₀ x = (x ≤ figure .«class_count») × TriedTo sheet figure taken to flags links x
+completable-Inv-loop sheet figure laid chains taken kinds to flags y links x₀ x = (x ≤ figure .«class_count») × TriedTo sheet figure taken to flags links x
 
 abbrev completable-μ-loop : completable-lts.MeasureT-loop
-completable-μ-loop sheet figure chains taken kinds to flags y links x₀ x = figure .«class_count» - x
+completable-μ-loop sheet figure laid chains taken kinds to flags y links x₀ x = figure .«class_count» - x
 
 abbrev mendable-Inv-loop : mendable-lts.InvT-loop
-mendable-Inv-loop sheet figure chains taken kinds to x links rest y₀ y = (y ≤ sheet .«class_count») × TriedAt sheet figure taken to x links rest y
+mendable-Inv-loop sheet figure laid chains taken kinds to x links rest y₀ y = (y ≤ sheet .«class_count») × TriedAt sheet figure taken to x links rest y
 
 abbrev mendable-μ-loop : mendable-lts.MeasureT-loop
-mendable-μ-loop sheet figure chains taken kinds to x links rest y₀ y = sheet .«class_count» - y
+mendable-μ-loop sheet figure laid chains taken kinds to x links rest y₀ y = sheet .«class_count» - y
 
 abbrev completable-claims : ℕ → completable-lts.Claims
 completable-claims t = (obstacle-reads.Asked, obstacle-reads.Learnt, first-of-kind-reads.Asked, first-of-kind-reads.Learnt, mendable-below t, mendable.Post)
@@ -63,11 +63,11 @@ mendable-claims t = (completable-below t, completable.Post)
 
 module _ (t : ℕ) where
   completable-obstacle-requires : completable-lts.Need-obstacle-requires (completable-claims t) (completable-at t) completable.Post completable-Inv-loop completable-μ-loop
-  completable-obstacle-requires c κs = (c .pre .1 .0 .ready, c .pre .1 .0 .chains-in, c .pre .1 .0 .links-in, c .pre .1 .1)
+  completable-obstacle-requires c κs = (c .pre .1 .0 .ready, c .pre .1 .0 .chains-in, c .pre .1 .0 .links-in, c .pre .1 .1, c .pre .1 .0 .laid-out)
 
   completable-returns : completable-lts.Need-returns (completable-claims t) (completable-at t) completable.Post completable-Inv-loop completable-μ-loop
   completable-returns c = let b = c .before .before .before in
-      found-none (b .args .sheet) (b .args .figure) (b .pre .1 .0 .ready) (b .args .taken) (b .args .to) (b .args .flags) (search (needs, b .good .1 .1 .1 .1 .1 .1 .0)) (c .before .before .obstacle .result) (c .before .before .obstacle .ensures) (not-true _ (c .if1 .taken))
+      found-none (b .args .sheet) (b .args .figure) (b .pre .1 .0 .ready) (b .args .taken) (b .args .to) (b .args .flags) (search (needs, b .good .1 .1 .1 .1 .1 .1 .1 .0)) (c .before .before .obstacle .result) (c .before .before .obstacle .ensures) (not-true _ (c .if1 .taken))
 
   completable-loop-holds : completable-lts.Need-loop-holds (completable-claims t) (completable-at t) completable.Post completable-Inv-loop completable-μ-loop
   completable-loop-holds c = (omega arith, λ atoms u z h. absurd (omega arith))
@@ -80,7 +80,7 @@ module _ (t : ℕ) where
 
   completable-returns-2 : completable-lts.Need-returns-2 (completable-claims t) (completable-at t) completable.Post completable-Inv-loop completable-μ-loop
   completable-returns-2 c = let b = c .before .before .before .before .before .before .before .before .before .before .before in
-      found-tried (b .args .sheet) (b .args .figure) (b .pre .1 .0 .ready) (b .args .taken) (b .args .to) (b .args .flags) (search (needs, b .good .1 .1 .1 .1 .1 .1 .0)) (c .before .before .before .before .before .before .before .before .before .before .obstacle .result) (c .before .before .before .before .before .before .before .before .before .before .obstacle .ensures) (c .before .before .before .before .before .before .loop .x)
+      found-tried (b .args .sheet) (b .args .figure) (b .pre .1 .0 .ready) (b .args .taken) (b .args .to) (b .args .flags) (search (needs, b .good .1 .1 .1 .1 .1 .1 .1 .0)) (c .before .before .before .before .before .before .before .before .before .before .obstacle .result) (c .before .before .before .before .before .before .before .before .before .before .obstacle .ensures) (c .before .before .before .before .before .before .loop .x)
       (subst (CompletesAt (b .args .sheet) (b .args .figure) (b .args .taken) (b .args .to) (b .args .flags) (c .before .before .before .before .before .before .before .before .before .before .obstacle .result .links) (c .before .before .before .before .before .before .loop .x)) (c .if4 .taken) (c .before .mendable .ensures))
 
   completable-add-x : completable-lts.Need-add-x (completable-claims t) (completable-at t) completable.Post completable-Inv-loop completable-μ-loop
@@ -94,15 +94,15 @@ module _ (t : ℕ) where
       let l = c .before .before .before .before in (
         omega (arith, c .before .before .if2 .taken),
         ⊎-elim
-            (λ w. link-refused (b .args .sheet) (b .args .figure) (b .pre .1 .0 .ready) (b .args .taken) (b .args .to) (b .args .flags) (search (needs, b .good .1 .1 .1 .1 .1 .1 .0)) (c .before .before .before .before .before .before .before .before .obstacle .result .links) (l .loop .x) (l .loop .inv .1) (w .1 .result) (w .2 .left) (w .1 .ensures))
-            (λ w. link-skipped (b .args .sheet) (b .args .figure) (b .pre .1 .0 .ready) (b .args .taken) (b .args .to) (b .args .flags) (search (needs, b .good .1 .1 .1 .1 .1 .1 .0)) (c .before .before .before .before .before .before .before .before .obstacle .result .links) (l .loop .x) (l .loop .inv .1) (b .args .kinds) (b .pre .1 .0 .kinds-in)
+            (λ w. link-refused (b .args .sheet) (b .args .figure) (b .pre .1 .0 .ready) (b .args .taken) (b .args .to) (b .args .flags) (search (needs, b .good .1 .1 .1 .1 .1 .1 .1 .0)) (c .before .before .before .before .before .before .before .before .obstacle .result .links) (l .loop .x) (l .loop .inv .1) (w .1 .result) (w .2 .left) (w .1 .ensures))
+            (λ w. link-skipped (b .args .sheet) (b .args .figure) (b .pre .1 .0 .ready) (b .args .taken) (b .args .to) (b .args .flags) (search (needs, b .good .1 .1 .1 .1 .1 .1 .1 .0)) (c .before .before .before .before .before .before .before .before .obstacle .result .links) (l .loop .x) (l .loop .inv .1) (b .args .kinds) (b .pre .1 .0 .kinds-in)
             (c .before .before .if2 .taken) (c .before .first-of-kind .result) (w .left) (c .before .first-of-kind .ensures))
             (c .if3 .came),
       )
 
   completable-returns-3 : completable-lts.Need-returns-3 (completable-claims t) (completable-at t) completable.Post completable-Inv-loop completable-μ-loop
   completable-returns-3 c = let b = c .before .before .before .before .before .before .before in
-      found-refused (b .args .sheet) (b .args .figure) (b .pre .1 .0 .ready) (b .args .taken) (b .args .to) (b .args .flags) (search (needs, b .good .1 .1 .1 .1 .1 .1 .0)) (c .before .before .before .before .before .before .obstacle .result) (c .before .before .before .before .before .before .obstacle .ensures) (not-false _ (c .before .before .before .before .if1 .left)) (c .before .before .loop .x) (c .if2 .left) (c .before .before .loop .inv .1)
+      found-refused (b .args .sheet) (b .args .figure) (b .pre .1 .0 .ready) (b .args .taken) (b .args .to) (b .args .flags) (search (needs, b .good .1 .1 .1 .1 .1 .1 .1 .0)) (c .before .before .before .before .before .before .obstacle .result) (c .before .before .before .before .before .before .obstacle .ensures) (not-false _ (c .before .before .before .before .if1 .left)) (c .before .before .loop .x) (c .if2 .left) (c .before .before .loop .inv .1)
 
   mendable-array-write-rest : mendable-lts.Need-array-write-rest (mendable-claims t) (mendable-at t) mendable.Post mendable-Inv-loop mendable-μ-loop
   mendable-array-write-rest c = omega (arith, c .pre .1 .1, c .pre .1 .0 .ready .figure-fit .class-count)
@@ -127,14 +127,14 @@ module _ (t : ℕ) where
 
   mendable-completable-requires : mendable-lts.Need-completable-requires (mendable-claims t) (mendable-at t) mendable.Post mendable-Inv-loop mendable-μ-loop
   mendable-completable-requires c κs = let b = c .before .before .before .before in
-      let room : length (b .args .flags) ≡ sheetLinks = search (needs, b .good .1 .1 .1 .1 .1 .1 .0) in (
+      let room : length (b .args .flags) ≡ sheetLinks = search (needs, b .good .1 .1 .1 .1 .1 .1 .1 .0) in (
         omega (arith, b .pre .0, flagged-fewer (b .args .figure .«class_count») (b .args .flags) (b .args .x) (b .pre .1 .1) (omega (arith, room, b .pre .1 .0 .ready .figure-fit .class-count)) (b .pre .1 .2)),
-        (tables-put (b .args .sheet) (b .args .figure) (now (b .args .chains)) (b .args .kinds) (b .args .to) (b .pre .1 .0) (b .args .x) (c .before .before .before .loop .y) (b .pre .1 .1) (c .before .if1 .taken), omega (arith, c .before .if1 .taken)),
+        (tables-put (b .args .sheet) (b .args .figure) (now (b .args .laid)) (now (b .args .chains)) (b .args .kinds) (b .args .to) (b .pre .1 .0) (b .args .x) (c .before .before .before .loop .y) (b .pre .1 .1) (c .before .if1 .taken), omega (arith, c .before .if1 .taken)),
       )
 
   mendable-returns : mendable-lts.Need-returns (mendable-claims t) (mendable-at t) mendable.Post mendable-Inv-loop mendable-μ-loop
   mendable-returns c = let b = c .before .before .before .before .before .before in
-      at-found (b .args .sheet) (b .args .figure) (b .pre .1 .0 .ready) (b .args .taken) (b .args .to) (b .args .flags) (search (needs, b .good .1 .1 .1 .1 .1 .1 .0)) (b .args .x) (b .pre .1 .1) (b .pre .1 .2) (b .args .t8) (c .before .before .before .before .before .loop .y) (c .before .before .before .if1 .taken) (c .before .completable .result) (c .if3 .taken) (c .before .completable .ensures)
+      at-found (b .args .sheet) (b .args .figure) (b .pre .1 .0 .ready) (b .args .taken) (b .args .to) (b .args .flags) (search (needs, b .good .1 .1 .1 .1 .1 .1 .1 .0)) (b .args .x) (b .pre .1 .1) (b .pre .1 .2) (b .args .t9) (c .before .before .before .before .before .loop .y) (c .before .before .before .if1 .taken) (c .before .completable .result) (c .if3 .taken) (c .before .completable .ensures)
 
   mendable-add-y : mendable-lts.Need-add-y (mendable-claims t) (mendable-at t) mendable.Post mendable-Inv-loop mendable-μ-loop
   mendable-add-y c = omega (arith, c .before .if1 .taken, c .before .before .before .before .pre .1 .0 .ready .sheet-fit .class-count)
@@ -147,14 +147,14 @@ module _ (t : ℕ) where
       let l = c .before .before .before in (
         omega (arith, c .before .if1 .taken),
         ⊎-elim
-            (λ w. tried-next (b .args .sheet) (b .args .figure) (b .args .taken) (b .args .to) (b .args .x) _ (l .loop .y) (b .args .t8) (l .loop .inv .1) (w .1 .result) (w .2 .left) (w .1 .ensures))
-            (λ w. tried-skip (b .args .sheet) (b .args .figure) (b .args .taken) (b .args .to) (b .args .x) _ (l .loop .y) (b .args .t8) (l .loop .inv .1) (w .left))
+            (λ w. tried-next (b .args .sheet) (b .args .figure) (b .args .taken) (b .args .to) (b .args .x) _ (l .loop .y) (b .args .t9) (l .loop .inv .1) (w .1 .result) (w .2 .left) (w .1 .ensures))
+            (λ w. tried-skip (b .args .sheet) (b .args .figure) (b .args .taken) (b .args .to) (b .args .x) _ (l .loop .y) (b .args .t9) (l .loop .inv .1) (w .left))
             (c .if2 .came),
       )
 
   mendable-returns-2 : mendable-lts.Need-returns-2 (mendable-claims t) (mendable-at t) mendable.Post mendable-Inv-loop mendable-μ-loop
   mendable-returns-2 c = let b = c .before .before .before in
-      at-none (b .args .sheet) (b .args .figure) (b .pre .1 .0 .ready) (b .args .taken) (b .args .to) (b .args .flags) (search (needs, b .good .1 .1 .1 .1 .1 .1 .0)) (b .args .x) (b .pre .1 .1) (b .pre .1 .2) (b .args .t8) (c .before .before .loop .y) (c .if1 .left) (c .before .before .loop .inv .1)
+      at-none (b .args .sheet) (b .args .figure) (b .pre .1 .0 .ready) (b .args .taken) (b .args .to) (b .args .flags) (search (needs, b .good .1 .1 .1 .1 .1 .1 .1 .0)) (b .args .x) (b .pre .1 .1) (b .pre .1 .2) (b .args .t9) (c .before .before .loop .y) (c .if1 .left) (c .before .before .loop .inv .1)
 
 pub +completable+mendable-spec : {M : Type 1} → statement M
 +completable+mendable-spec = close μ-completable μ-mendable (λ t. completable-lts.spec (completable-claims t)

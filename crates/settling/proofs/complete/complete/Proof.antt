@@ -42,6 +42,7 @@ least-requires c κs = let b = c .before .before .before .before .before .before
   b .pre .0,
   links-in (b .args .sheet) (b .args .figure) (b .pre .0) (b .args .atoms-to) (b .pre .1) (c .before .before .before .before .before .before .before .before .links-of .result .to) (c .before .before .before .before .before .before .before .before .links-of .ensures .passed (not-false _ (c .before .before .before .before .before .before .if2 .left)))
       (c .before .before .before .open-links .result .to) (c .before .before .before .open-links .result .flags) (c .before .before .before .open-links .ensures) (c .before .before .before .before .before .before .before .before .before .before .before .taken-by .result .flags) (c .before .before .before .before .before .before .before .before .before .before .before .taken-by .ensures .different (not-false _ (c .before .before .before .before .before .before .before .before .before .if1 .left))),
+  b .pre .2,
 )
 
 returns-3 : tie.Need-returns-3

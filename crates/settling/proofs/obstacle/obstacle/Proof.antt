@@ -13,8 +13,8 @@ torn-requires c κs = let s = c .before .before in (s .pre .0 .figure-fit, λ x 
 returns : tie.Need-returns
 returns c = let b = c .before .before .before .before in
     let a = b .args in
-    torn-hinders (a .sheet) (a .figure) (b .pre .0) (a .taken) (a .t5) (a .t6) (search (needs, b .good .1 .1 .1 .1 .1 .0)) (a .y)
-    (λ atoms. c .before .torn .ensures (c .if1 .taken) (netIn (a .sheet)) atoms (unsettled (a .figure) (a .t6)) (b .pre .3) (flag-of (a .sheet) (a .figure) (b .pre .0) (a .taken) (a .t5) (a .t6) (search (needs, b .good .1 .1 .1 .1 .1 .0)))) _ refl
+    torn-hinders (a .sheet) (a .figure) (b .pre .0) (a .taken) (a .t6) (a .t7) (search (needs, b .good .1 .1 .1 .1 .1 .1 .0)) (a .y)
+    (λ atoms. c .before .torn .ensures (c .if1 .taken) (netIn (a .sheet)) atoms (unsettled (a .figure) (a .t7)) (b .pre .3) (flag-of (a .sheet) (a .figure) (b .pre .0) (a .taken) (a .t6) (a .t7) (search (needs, b .good .1 .1 .1 .1 .1 .1 .0)))) _ refl
 
 find-requires : tie.Need-find-requires
 find-requires c κs = search needs
@@ -22,7 +22,7 @@ find-requires c κs = search needs
 returns-2 : tie.Need-returns-2
 returns-2 c = let b = c .before .before .before .before .before in
     let a = b .args in
-    find-hinders (a .sheet) (a .figure) (b .pre .0) (a .taken) (a .t5) (a .t6) (search (needs, b .good .1 .1 .1 .1 .1 .0)) (c .find .result) (c .find .ensures)
+    find-hinders (a .sheet) (a .figure) (b .pre .0) (a .taken) (a .t6) (a .t7) (search (needs, b .good .1 .1 .1 .1 .1 .1 .0)) (c .find .result) (c .find .ensures)
 
 pub obstacle-spec : {M : Type 1} → statement M
 obstacle-spec =

@@ -9,10 +9,10 @@ use Rattle.settling.proofs.settle.first_link.Statement.{statement}
 use Rattle.settling.proofs.settle.first_link.Tie as tie
 
 abbrev Inv-loop : tie.InvT-loop
-Inv-loop sheet figure chains taken kinds to x rest y₀ y = (y ≤ sheet .«class_count») × TriedAll sheet figure taken to x rest y
+Inv-loop sheet figure laid chains taken kinds to x rest y₀ y = (y ≤ sheet .«class_count») × TriedAll sheet figure taken to x rest y
 
 abbrev μ-loop : tie.MeasureT-loop
-μ-loop sheet figure chains taken kinds to x rest y₀ y = sheet .«class_count» - y
+μ-loop sheet figure laid chains taken kinds to x rest y₀ y = sheet .«class_count» - y
 
 array-write-rest : tie.Need-array-write-rest Inv-loop μ-loop
 array-write-rest c = omega (arith, c .pre .1, c .pre .0 .ready .figure-fit .class-count)
@@ -34,11 +34,11 @@ array-write-next c = omega (arith, c .before .before .before .pre .1, c .before 
 
 completable-requires : tie.Need-completable-requires Inv-loop μ-loop
 completable-requires c κs = let b = c .before .before .before in
-    (tables-put (b .args .sheet) (b .args .figure) (now (b .args .chains)) (b .args .kinds) (b .args .to) (b .pre .0) (b .args .x) (c .before .before .loop .y) (b .pre .1) (c .if1 .taken), omega (arith, c .if1 .taken))
+    (tables-put (b .args .sheet) (b .args .figure) (now (b .args .laid)) (now (b .args .chains)) (b .args .kinds) (b .args .to) (b .pre .0) (b .args .x) (c .before .before .loop .y) (b .pre .1) (c .if1 .taken), omega (arith, c .if1 .taken))
 
 returns : tie.Need-returns Inv-loop μ-loop
 returns c = let b = c .before .before .before .before .before in
-    first-found (b .args .sheet) (b .args .figure) (b .pre .0 .ready) (b .args .taken) (b .args .to) (b .args .flags) (search (needs, b .good .1 .1 .1 .1 .1 .1 .0)) (b .args .x) (b .pre .1) (b .pre .2)
+    first-found (b .args .sheet) (b .args .figure) (b .pre .0 .ready) (b .args .taken) (b .args .to) (b .args .flags) (search (needs, b .good .1 .1 .1 .1 .1 .1 .1 .0)) (b .args .x) (b .pre .1) (b .pre .2)
     (c .before .before .before .before .loop .y) (c .before .before .if1 .taken) (c .before .before .before .before .loop .inv .1) (c .before .completable .result) (c .if2 .taken) (c .before .completable .ensures)
 
 add-y : tie.Need-add-y Inv-loop μ-loop
@@ -60,7 +60,7 @@ cast-result c = omega (arith, c .before .before .loop .inv .0, c .before .before
 returns-2 : tie.Need-returns-2 Inv-loop μ-loop
 returns-2 c = let b = c .before .before .before in
     let e : c .before .before .loop .y ≡ b .args .sheet .«class_count» = omega (arith, c .if1 .left, c .before .before .loop .inv .0) in
-    first-none (b .args .sheet) (b .args .figure) (b .pre .0 .ready) (b .args .taken) (b .args .to) (b .args .flags) (search (needs, b .good .1 .1 .1 .1 .1 .1 .0)) (b .args .x) (b .pre .1) (b .pre .2)
+    first-none (b .args .sheet) (b .args .figure) (b .pre .0 .ready) (b .args .taken) (b .args .to) (b .args .flags) (search (needs, b .good .1 .1 .1 .1 .1 .1 .1 .0)) (b .args .x) (b .pre .1) (b .pre .2)
     (c .before .before .loop .y) e (c .before .before .loop .inv .1)
 
 pub first-link-spec : {M : Type 1} → statement M

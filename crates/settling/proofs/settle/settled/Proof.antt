@@ -8,20 +8,20 @@ use Rattle.settling.proofs.settle.settled.Statement.{statement}
 use Rattle.settling.proofs.settle.settled.Tie as tie
 
 abbrev Inv-loop : tie.InvT-loop
-Inv-loop sheet figure chains taken kinds next₀ rest₀ x₀ next rest x = (x ≤ figure .«class_count») × SettledTo sheet figure taken next₀ rest₀ next rest x
+Inv-loop sheet figure laid chains taken kinds next₀ rest₀ x₀ next rest x = (x ≤ figure .«class_count») × SettledTo sheet figure taken next₀ rest₀ next rest x
 
 abbrev μ-loop : tie.MeasureT-loop
-μ-loop sheet figure chains taken kinds next₀ rest₀ x₀ next rest x = figure .«class_count» - x
+μ-loop sheet figure laid chains taken kinds next₀ rest₀ x₀ next rest x = figure .«class_count» - x
 
 loop-holds : tie.Need-loop-holds Inv-loop μ-loop
-loop-holds c = (omega arith, settled-start (c .args .sheet) (c .args .figure) (c .pre .ready) (c .args .taken) (c .args .to) (c .args .flags) (c .pre .links-in) (search (needs, c .good .1 .1 .1 .1 .1 .1 .0)))
+loop-holds c = (omega arith, settled-start (c .args .sheet) (c .args .figure) (c .pre .ready) (c .args .taken) (c .args .to) (c .args .flags) (c .pre .links-in) (search (needs, c .good .1 .1 .1 .1 .1 .1 .1 .0)))
 
 array-read-if2 : tie.Need-array-read-if2 Inv-loop μ-loop
 array-read-if2 c = omega (arith, c .if1 .taken, c .before .before .before .pre .ready .figure-fit .class-count)
 
 first-link-requires : tie.Need-first-link-requires Inv-loop μ-loop
 first-link-requires c κs = let p = c .before .before .before .before .pre in
-    (record { ready = p .ready; chains-in = p .chains-in; kinds-in = p .kinds-in; links-in = c .before .before .before .loop .inv .1 .links-in }, c .before .if1 .taken, c .if2 .taken)
+    (record { ready = p .ready; laid-out = p .laid-out; chains-in = p .chains-in; kinds-in = p .kinds-in; links-in = c .before .before .before .loop .inv .1 .links-in }, c .before .if1 .taken, c .if2 .taken)
 
 mul-next : tie.Need-mul-next Inv-loop μ-loop
 mul-next c = omega (arith, c .before .before .if1 .taken, c .before .before .before .before .before .pre .ready .figure-fit .class-count)

@@ -10,10 +10,10 @@ use Rattle.stepping.proofs.contexts.least.Statement.{statement}
 use Rattle.stepping.proofs.contexts.least.Tie as tie
 
 abbrev Inv-loop : tie.InvT-loop
-Inv-loop figure left best₀ c₀ best c = (c ≤ figure .«context_count») × (best ≤ figure .«context_count») × Least figure left c best
+Inv-loop count contexts left best₀ c₀ best c = (c ≤ count) × (best ≤ count) × Least contexts count left c best
 
 abbrev μ-loop : tie.MeasureT-loop
-μ-loop figure left best₀ c₀ best c = figure .«context_count» - c
+μ-loop count contexts left best₀ c₀ best c = count - c
 
 loop-holds : tie.Need-loop-holds Inv-loop μ-loop
 loop-holds c = (omega arith, omega arith, inr (refl, λ i h. absurd (omega arith)))
@@ -43,13 +43,13 @@ loop-again : tie.Need-loop-again Inv-loop μ-loop
 loop-again c = let l = c .before .before .loop in
     let s = c .before .before .before in
     let a = s .args in
-    let w = least-step (a .t1) (a .t2) (l .c) (l .best) (omega arith) (l .inv .1) (c .if1 .best) (l .inv .2)
+    let w = least-step (a .t1) (a .count) (a .t3) (l .c) (l .best) (omega arith) (l .inv .1) (c .if1 .best) (l .inv .2)
     (⊎-elim (λ w. inl (w .0 .taken, w .1 .taken, w .2)) (⊎-elim (λ w. inr (inl (w .0 .taken, w .1 .left, w .2 .taken, w .3)))
     (⊎-elim (λ w. inr (inr (inl (w .0 .taken, w .1 .left, w .2 .left, w .3)))) (λ w. inr (inr (inr (w .0 .left, w .1)))))) (c .if1 .came)) in
     (omega arith, w .0, w .1)
 
 returns : tie.Need-returns Inv-loop μ-loop
-returns c = let l = c .before .loop in let a = c .before .before .args in let e : l .c ≡ a .t1 .«context_count» = omega arith in (l .inv .1, subst (λ n. Least (a .t1) (a .t2) n (l .best)) e (l .inv .2))
+returns c = let l = c .before .loop in let a = c .before .before .args in let e : l .c ≡ a .count = omega arith in (l .inv .1, subst (λ n. Least (a .t1) (a .count) (a .t3) n (l .best)) e (l .inv .2))
 
 pub least-spec : {M : Type 1} → statement M
 least-spec =
