@@ -23,8 +23,8 @@ pub fn left_at(left: &mut [u8; Sheet::CONTEXT_ROOM], ports: &[u8; PORTS], y: usi
     }
 }
 
-// Of the first `count` contexts, those that are left: the row of one with the least number; `count` where none
-// is left.
+// Of the contexts that are left, among the first `count`, the row of one with the least number; `count` where
+// none is left.
 pub fn least(
     contexts: [Context; Sheet::CONTEXT_ROOM],
     count: usize,
