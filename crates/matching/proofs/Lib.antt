@@ -4,3 +4,4 @@ pub mod SearchWhole
 pub mod ChosenLaws
 mod Excusing
 mod Forcing
+mod Leftover
