@@ -184,56 +184,22 @@ fn late_answer(
     Answer::Passed
 }
 
-fn turned_down(answer: Answer) -> Reading
-    ensures { λ r. ⌜ r ≡ record { answer = answer; sheet = packed nothing } ⌝ }
+// The text has passed, and this is what it holds.
+fn passed(
+    atoms: [Atom; Sheet::ATOM_ROOM],
+    a: usize,
+    contexts: [Context; Sheet::CONTEXT_ROOM],
+    c: usize,
+    ports: [u16; Sheet::NUMBERS],
+    links: [u16; Sheet::LINK_ROOM],
+    classes: [u16; Sheet::LINK_ROOM],
+    n: usize,
+    marks: [u16; Sheet::MARK_ROOM],
+    marked: [u16; Sheet::MARK_ROOM],
+    m: usize,
+) -> Reading
+    ensures { λ r. ⌜ r ≡ record { answer = Answer.Passed; sheet = record { atoms = atoms; «atom_count» = a; contexts = contexts; «context_count» = c; ports = ports; links = links; classes = classes; «link_count» = n; marks = marks; marked = marked; «mark_count» = m } } ⌝ }
 {
-    Reading {
-        answer,
-        sheet: Sheet::empty(),
-    }
-}
-
-// The one walk over rows. `pattern` has the port counts of the pattern's contexts, for a replacement.
-pub fn read_text(kind: Kind, pattern: [u16; Sheet::NUMBERS], text: &[u8]) -> Reading
-    ensures { λ r. ⌜ r ≡ readingOf (outcomeOf kind pattern (now (text .entry))) ⌝ }
-{
-    let atom = Atom::none();
-    let context = Context::none();
-    let mut atoms = [atom; Sheet::ATOM_ROOM];
-    let mut contexts = [context; Sheet::CONTEXT_ROOM];
-    let mut ports = [0; Sheet::NUMBERS];
-    let mut links = [0; Sheet::LINK_ROOM];
-    let mut classes = [0; Sheet::LINK_ROOM];
-    let mut marks = [0; Sheet::MARK_ROOM];
-    let mut marked = [0; Sheet::MARK_ROOM];
-    let mut a = 0;
-    let mut c = 0;
-    let mut n = 0;
-    let mut m = 0;
-    let mut k = 0;
-    while k * Sheet::ROW < text.len() {
-        let next = next_row(kind, c, text, k);
-        let row = next.row;
-        let answer = next.answer;
-        if !is_passed(answer) {
-            return turned_down(answer);
-        }
-        let last = before(c);
-        let clash = row_clash(kind, pattern, ports, contexts[last].number, row);
-        atoms[a] = atom_of(row);
-        a += counted(row.letter == 0);
-        contexts[c] = context_of(row, (k + 1) as u16);
-        c += counted(is_context(row.letter));
-        let table = row_ports(ports, row);
-        ports = table;
-        n = add_row_links(&mut links, &mut classes, n, row);
-        m = add_row_mark(&links, &mut classes, &mut marks, &mut marked, n, m, row);
-        k += 1;
-        let answer = late_answer(kind, a, c, n, m, clash, k);
-        if !is_passed(answer) {
-            return turned_down(answer);
-        }
-    }
     let sheet = Sheet {
         atoms,
         atom_count: a,
@@ -251,6 +217,68 @@ pub fn read_text(kind: Kind, pattern: [u16; Sheet::NUMBERS], text: &[u8]) -> Rea
         answer: Answer::Passed,
         sheet,
     }
+}
+
+fn turned_down(answer: Answer) -> Reading
+    ensures { λ r. ⌜ r ≡ record { answer = answer; sheet = packed nothing } ⌝ }
+{
+    Reading {
+        answer,
+        sheet: Sheet::empty(),
+    }
+}
+
+// The one walk over rows. `pattern` has the port counts of the pattern's contexts, for a replacement.
+pub fn read_text(kind: Kind, pattern: [u16; Sheet::NUMBERS], text: &[u8]) -> Reading
+    ensures { λ r. ⌜ r ≡ readingOf (outcomeOf kind pattern (now (text .entry))) ⌝ }
+{
+    let mut atoms = [Atom::none(); Sheet::ATOM_ROOM];
+    let mut contexts = [Context::none(); Sheet::CONTEXT_ROOM];
+    let mut ports = [0; Sheet::NUMBERS];
+    let mut links = [0; Sheet::LINK_ROOM];
+    let mut classes = [0; Sheet::LINK_ROOM];
+    let mut marks = [0; Sheet::MARK_ROOM];
+    let mut marked = [0; Sheet::MARK_ROOM];
+    let mut a = 0;
+    let mut c = 0;
+    let mut n = 0;
+    let mut m = 0;
+    let mut k = 0;
+    while k * Sheet::ROW < text.len() {
+        let next = next_row(kind, c, text, k);
+        let row = next.row;
+        let answer = next.answer;
+        if !is_passed(answer) {
+            return turned_down(answer);
+        }
+        let clash = row_clash(kind, pattern, ports, contexts[before(c)].number, row);
+        atoms[a] = atom_of(row);
+        a += counted(row.letter == 0);
+        contexts[c] = context_of(row, (k + 1) as u16);
+        c += counted(is_context(row.letter));
+        let table = row_ports(ports, row);
+        ports = table;
+        n = add_row_links(&mut links, &mut classes, n, row);
+        m = add_row_mark(&links, &mut classes, &mut marks, &mut marked, n, m, row);
+        k += 1;
+        let answer = late_answer(kind, a, c, n, m, clash, k);
+        if !is_passed(answer) {
+            return turned_down(answer);
+        }
+    }
+    passed(
+        atoms,
+        a,
+        contexts,
+        c,
+        ports,
+        links,
+        classes,
+        n,
+        marks,
+        marked,
+        m,
+    )
 }
 
 pub fn read_sheet(text: &[u8]) -> Reading

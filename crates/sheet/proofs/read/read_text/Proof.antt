@@ -294,11 +294,14 @@ loop-again c =
     (λ r q p. d .before .before .before .row-clash .ensures r (ap (λ (j : ℕ). getD (l .loop .contexts) j (record { number = 0; count = 0; links = []; row = 0 }) .number) (d .before .before .before .before .before2 .ensures) ∙ q) p)
     (f .late-answer .ensures) (sym (c .before .is-passed2 .ensures) ∙ not-false _ (c .if2 .left))
 
+passed-requires : tie.Need-passed-requires Inv-loop μ-loop
+passed-requires c κs = search needs
+
 returns-3 : tie.Need-returns-3 Inv-loop μ-loop
 returns-3 c =
-    let l = c .before in
+    let l = c .before .before in
     let a = l .before .before .before .before .args in
-    kept-end (a .kind) (a .pattern) (a .text .now) (l .loop .k) (state l) (l .loop .inv) (c .loop-test .left)
+    c .passed .ensures ∙ kept-end (a .kind) (a .pattern) (a .text .now) (l .loop .k) (state l) (l .loop .inv) (c .before .loop-test .left)
 
 pub read-text-spec : {M : Type 1} → statement M
 read-text-spec =
@@ -347,4 +350,5 @@ read-text-spec =
     returns-2
     loop-less
     loop-again
+    passed-requires
     returns-3)
