@@ -228,7 +228,8 @@ fn turned_down(answer: Answer) -> Reading
     }
 }
 
-// The one walk over rows. `pattern` has the port counts of the pattern's contexts, for a replacement.
+// The one walk over rows. `pattern` has the port counts of the pattern's contexts, for a replacement;
+// `labels` has the class of each link, and `on` the place of each mark's link.
 pub fn read_text(kind: Kind, pattern: [u16; Sheet::NUMBERS], text: &[u8]) -> Reading
     ensures { λ r. ⌜ r ≡ readingOf (outcomeOf kind pattern (now (text .entry))) ⌝ }
 {
@@ -236,9 +237,9 @@ pub fn read_text(kind: Kind, pattern: [u16; Sheet::NUMBERS], text: &[u8]) -> Rea
     let mut contexts = [Context::none(); Sheet::CONTEXT_ROOM];
     let mut ports = [0; Sheet::NUMBERS];
     let mut links = [0; Sheet::LINK_ROOM];
-    let mut classes = [0; Sheet::LINK_ROOM];
+    let mut labels = [0; Sheet::LINK_ROOM];
     let mut marks = [0; Sheet::MARK_ROOM];
-    let mut marked = [0; Sheet::MARK_ROOM];
+    let mut on = [0; Sheet::MARK_ROOM];
     let mut a = 0;
     let mut c = 0;
     let mut n = 0;
@@ -258,27 +259,15 @@ pub fn read_text(kind: Kind, pattern: [u16; Sheet::NUMBERS], text: &[u8]) -> Rea
         c += counted(is_context(row.letter));
         let table = row_ports(ports, row);
         ports = table;
-        n = add_row_links(&mut links, &mut classes, n, row);
-        m = add_row_mark(&links, &mut classes, &mut marks, &mut marked, n, m, row);
+        n = add_row_links(&mut links, &mut labels, n, row);
+        m = add_row_mark(&links, &mut labels, &mut marks, &mut on, n, m, row);
         k += 1;
         let answer = late_answer(kind, a, c, n, m, clash, k);
         if !is_passed(answer) {
             return turned_down(answer);
         }
     }
-    passed(
-        atoms,
-        a,
-        contexts,
-        c,
-        ports,
-        links,
-        classes,
-        n,
-        marks,
-        marked,
-        m,
-    )
+    passed(atoms, a, contexts, c, ports, links, labels, n, marks, on, m)
 }
 
 pub fn read_sheet(text: &[u8]) -> Reading

@@ -21,7 +21,7 @@ use Rattle.sheet.proofs.read.read_text.Statement.{statement}
 use Rattle.sheet.proofs.read.read_text.Tie as tie
 
 abbrev Inv-loop : tie.InvT-loop
-Inv-loop kind pattern text atoms₀ contexts₀ ports₀ links₀ classes₀ marks₀ marked₀ a₀ c₀ n₀ m₀ k₀ atoms contexts ports links classes marks marked a c n m k =
+Inv-loop kind pattern text atoms₀ contexts₀ ports₀ links₀ labels₀ marks₀ on₀ a₀ c₀ n₀ m₀ k₀ atoms contexts ports links labels marks on a c n m k =
     Kept kind pattern text k (record {
       atoms = atoms;
       «atom_count» = a;
@@ -29,15 +29,15 @@ Inv-loop kind pattern text atoms₀ contexts₀ ports₀ links₀ classes₀ mar
       «context_count» = c;
       ports = ports;
       links = links;
-      classes = classes;
+      classes = labels;
       «link_count» = n;
       marks = marks;
-      marked = marked;
+      marked = on;
       «mark_count» = m;
     })
 
 abbrev μ-loop : tie.MeasureT-loop
-μ-loop kind pattern text atoms₀ contexts₀ ports₀ links₀ classes₀ marks₀ marked₀ a₀ c₀ n₀ m₀ k₀ atoms contexts ports links classes marks marked a c n m k = length text - k * rowWidth
+μ-loop kind pattern text atoms₀ contexts₀ ports₀ links₀ labels₀ marks₀ on₀ a₀ c₀ n₀ m₀ k₀ atoms contexts ports links labels marks on a c n m k = length text - k * rowWidth
 
 -- what the arrays hold where a turn begins, and their room
 abbrev state : tie.At-loop Inv-loop μ-loop → Sheet
@@ -49,10 +49,10 @@ state l =
       «context_count» = l .loop .c;
       ports = l .loop .ports;
       links = l .loop .links;
-      classes = l .loop .classes;
+      classes = l .loop .labels;
       «link_count» = l .loop .n;
       marks = l .loop .marks;
-      marked = l .loop .marked;
+      marked = l .loop .on;
       «mark_count» = l .loop .m;
     }
 
@@ -69,10 +69,10 @@ top c = c .before .before .before .before .before
 abbrev tested : tie.After-counted Inv-loop μ-loop → tie.Else1 Inv-loop μ-loop
 tested c = c .before .before .before .before .before
 
-abbrev counted-too : tie.After-classes Inv-loop μ-loop → tie.After-counted Inv-loop μ-loop
+abbrev counted-too : tie.After-labels Inv-loop μ-loop → tie.After-counted Inv-loop μ-loop
 counted-too c = c .before .before .before .before .before .before
 
-abbrev linked : tie.After-marked Inv-loop μ-loop → tie.After-add-row-links Inv-loop μ-loop
+abbrev linked : tie.After-on Inv-loop μ-loop → tie.After-add-row-links Inv-loop μ-loop
 linked c = c .before .before .before .before .before .before
 
 one : (b : Bool) → pick b 1 0 ≤ 1
@@ -210,13 +210,13 @@ add-row-mark-requires c κs =
     (λ e. omega (arith, x .ensures .0 e, r .links), r .marks, r .places, x .kept .0 ∙ w .0, x .kept .1 .0 ∙ w .1, w .2, w .3)
 
 -- the calls of a turn that is over, its tests and its beginning
-abbrev marks-in : tie.After-marked2 Inv-loop μ-loop → tie.After-add-row-mark Inv-loop μ-loop
+abbrev marks-in : tie.After-on2 Inv-loop μ-loop → tie.After-add-row-mark Inv-loop μ-loop
 marks-in c = c .before .before .before
 
-abbrev counts-in : tie.After-marked2 Inv-loop μ-loop → tie.After-counted Inv-loop μ-loop
+abbrev counts-in : tie.After-on2 Inv-loop μ-loop → tie.After-counted Inv-loop μ-loop
 counts-in c = counted-too (linked (marks-in c .before) .before)
 
-abbrev row-in : tie.After-marked2 Inv-loop μ-loop → tie.Else1 Inv-loop μ-loop
+abbrev row-in : tie.After-on2 Inv-loop μ-loop → tie.Else1 Inv-loop μ-loop
 row-in c = tested (counts-in c)
 
 add-k : tie.Need-add-k Inv-loop μ-loop
@@ -226,7 +226,7 @@ late-answer-requires : tie.Need-late-answer-requires Inv-loop μ-loop
 late-answer-requires c κs = search needs
 
 -- the arrays with the row
-abbrev after : tie.After-marked2 Inv-loop μ-loop → Sheet
+abbrev after : tie.After-on2 Inv-loop μ-loop → Sheet
 after c =
     let s = state (top (row-in c)) in
     let x = linked (marks-in c .before) in
@@ -245,7 +245,7 @@ after c =
       «mark_count» = y .result;
     }
 
-made : (c : tie.After-marked2 Inv-loop μ-loop) → let l = top (row-in c) in after c ≡ packed (withRow (l .loop .inv .held) (rowAt (drop (l .loop .k * rowWidth) (l .before .before .before .before .args .text .now))))
+made : (c : tie.After-on2 Inv-loop μ-loop) → let l = top (row-in c) in after c ≡ packed (withRow (l .loop .inv .held) (rowAt (drop (l .loop .k * rowWidth) (l .before .before .before .before .args .text .now))))
 made c =
     let e = row-in c in
     let l = top e in
