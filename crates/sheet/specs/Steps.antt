@@ -9,7 +9,6 @@ use Rattle.rows.specs.Pick.{and, or, not}
 use Rattle.rows.specs.Format.{rowWidth}
 use Rattle.rows.specs.Limits.{rowLimit, figureContexts, sheetMarks}
 use Rattle.rows.specs.Row.{rowOf}
-use Rattle.rows.specs.declared.Sheet.{Sheet}
 use Rattle.rows.specs.declared.row.Row.{Row}
 use Rattle.sheet.specs.Kinds.{isList, atomLimit, linkLimit, allowed}
 use Rattle.sheet.specs.Filling.{isPassed}
@@ -52,20 +51,3 @@ lateTests kind atoms contexts links marks clash =
     ∷ (ltb sheetMarks marks, Marks)
     ∷ (clash, BlankClash)
     ∷ []
-
--- a sheet with these links and marks
-abbrev pub rewired : Sheet → List ℕ → List ℕ → ℕ → List ℕ → List ℕ → ℕ → Sheet
-rewired s links classes n marks marked m =
-    record {
-      atoms = s .atoms;
-      «atom_count» = s .«atom_count»;
-      contexts = s .contexts;
-      «context_count» = s .«context_count»;
-      ports = s .ports;
-      links = links;
-      classes = classes;
-      «link_count» = n;
-      marks = marks;
-      marked = marked;
-      «mark_count» = m;
-    }

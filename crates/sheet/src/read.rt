@@ -6,6 +6,8 @@ use crate::kind::is_strange;
 use crate::kind::most_atoms;
 use crate::kind::most_links;
 use crate::kind::ports_clash;
+use rows::Atom;
+use rows::Context;
 use rows::Sheet;
 use rows::entry::atom_of;
 use rows::entry::context_of;
@@ -30,7 +32,7 @@ ghost use Rattle.rows.specs.Steps.{Ranged};
 ghost use Rattle.rows.specs.declared.Context.{Context};
 ghost use Rattle.sheet.specs.Filling.{isPassed};
 ghost use Rattle.sheet.specs.Reading.{ragged, lastNumber, clashes, firstOf, readingOf, outcomeOf, noPorts};
-ghost use Rattle.sheet.specs.Steps.{answerOf, earlyTests, lateTests, Looked, rewired};
+ghost use Rattle.sheet.specs.Steps.{answerOf, earlyTests, lateTests, Looked};
 
 // A reader's answer, and what the text holds; a text that is turned down holds nothing.
 pub struct Reading {
@@ -182,9 +184,13 @@ fn late_answer(
     Answer::Passed
 }
 
-// What is read, in the arrays of a sheet.
-fn wired(
-    sheet: Sheet,
+// The text has passed, and this is what it holds.
+fn passed(
+    atoms: [Atom; Sheet::ATOM_ROOM],
+    a: usize,
+    contexts: [Context; Sheet::CONTEXT_ROOM],
+    c: usize,
+    ports: [u16; Sheet::NUMBERS],
     links: [u16; Sheet::LINK_ROOM],
     classes: [u16; Sheet::LINK_ROOM],
     n: usize,
@@ -192,15 +198,21 @@ fn wired(
     marked: [u16; Sheet::MARK_ROOM],
     m: usize,
 ) -> Reading
-    ensures { λ r. ⌜ r ≡ record { answer = Answer.Passed; sheet = rewired sheet links classes n marks marked m } ⌝ }
+    ensures { λ r. ⌜ r ≡ record { answer = Answer.Passed; sheet = record { atoms = atoms; «atom_count» = a; contexts = contexts; «context_count» = c; ports = ports; links = links; classes = classes; «link_count» = n; marks = marks; marked = marked; «mark_count» = m } } ⌝ }
 {
-    let mut sheet = sheet;
-    sheet.links = links;
-    sheet.classes = classes;
-    sheet.link_count = n;
-    sheet.marks = marks;
-    sheet.marked = marked;
-    sheet.mark_count = m;
+    let sheet = Sheet {
+        atoms,
+        atom_count: a,
+        contexts,
+        context_count: c,
+        ports,
+        links,
+        classes,
+        link_count: n,
+        marks,
+        marked,
+        mark_count: m,
+    };
     Reading {
         answer: Answer::Passed,
         sheet,
@@ -216,44 +228,46 @@ fn turned_down(answer: Answer) -> Reading
     }
 }
 
-// The one walk over rows. `pattern` has the port counts of the pattern's contexts, for a replacement.
+// The one walk over rows. `pattern` has the port counts of the pattern's contexts, for a replacement;
+// `labels` has the class of each link, and `on` the place of each mark's link.
 pub fn read_text(kind: Kind, pattern: [u16; Sheet::NUMBERS], text: &[u8]) -> Reading
     ensures { λ r. ⌜ r ≡ readingOf (outcomeOf kind pattern (now (text .entry))) ⌝ }
 {
-    let mut sheet = Sheet::empty();
+    let mut atoms = [Atom::none(); Sheet::ATOM_ROOM];
+    let mut contexts = [Context::none(); Sheet::CONTEXT_ROOM];
+    let mut ports = [0; Sheet::NUMBERS];
     let mut links = [0; Sheet::LINK_ROOM];
-    let mut classes = [0; Sheet::LINK_ROOM];
+    let mut labels = [0; Sheet::LINK_ROOM];
     let mut marks = [0; Sheet::MARK_ROOM];
-    let mut marked = [0; Sheet::MARK_ROOM];
+    let mut on = [0; Sheet::MARK_ROOM];
+    let mut a = 0;
+    let mut c = 0;
     let mut n = 0;
     let mut m = 0;
     let mut k = 0;
     while k * Sheet::ROW < text.len() {
-        let c = sheet.context_count;
         let next = next_row(kind, c, text, k);
         let row = next.row;
         let answer = next.answer;
         if !is_passed(answer) {
             return turned_down(answer);
         }
-        let last = before(c);
-        let clash = row_clash(kind, pattern, sheet.ports, sheet.contexts[last].number, row);
-        let a = sheet.atom_count;
-        sheet.atoms[a] = atom_of(row);
-        sheet.atom_count = a + counted(row.letter == 0);
-        sheet.contexts[c] = context_of(row, (k + 1) as u16);
-        sheet.context_count = c + counted(is_context(row.letter));
-        let ports = row_ports(sheet.ports, row);
-        sheet.ports = ports;
-        n = add_row_links(&mut links, &mut classes, n, row);
-        m = add_row_mark(&links, &mut classes, &mut marks, &mut marked, n, m, row);
+        let clash = row_clash(kind, pattern, ports, contexts[before(c)].number, row);
+        atoms[a] = atom_of(row);
+        a += counted(row.letter == 0);
+        contexts[c] = context_of(row, (k + 1) as u16);
+        c += counted(is_context(row.letter));
+        let table = row_ports(ports, row);
+        ports = table;
+        n = add_row_links(&mut links, &mut labels, n, row);
+        m = add_row_mark(&links, &mut labels, &mut marks, &mut on, n, m, row);
         k += 1;
-        let answer = late_answer(kind, sheet.atom_count, sheet.context_count, n, m, clash, k);
+        let answer = late_answer(kind, a, c, n, m, clash, k);
         if !is_passed(answer) {
             return turned_down(answer);
         }
     }
-    wired(sheet, links, classes, n, marks, marked, m)
+    passed(atoms, a, contexts, c, ports, links, labels, n, marks, on, m)
 }
 
 pub fn read_sheet(text: &[u8]) -> Reading

@@ -5,12 +5,12 @@ use mathlib.Core.List.{List, []}
 use mathlib.Core.Bool.{Bool, true, false}
 use native.Mathlib.Omega.{arith}
 use lib.Dec.{eqb, ltb}
-use lib.ListN.{length, take, drop, getD, set, replicate}
+use lib.ListN.{length, take, drop, getD, set}
 use Rattle.rows.specs.Pick.{pick}
 use Rattle.rows.specs.Format.{mostLinks, fieldCount, rowWidth}
 use Rattle.rows.specs.Limits.{rowLimit, sheetMarks, fillingLinks}
 use Rattle.rows.specs.Held.{Wiring, Held, nothing, withRow}
-use Rattle.rows.specs.Packed.{padded, portTable, packed}
+use Rattle.rows.specs.Packed.{portTable, packed}
 use Rattle.rows.specs.Steps.{Wired, Linked, Relinks, Marked, Tied, Room, Ranged, linkedBy, markedBy, isContext, atomBy, contextBy, portsBy}
 use Rattle.rows.specs.declared.Atom.{Atom}
 use Rattle.rows.specs.declared.Context.{Context}
@@ -20,7 +20,7 @@ use Rattle.rows.proofs.RowRange.{row-length}
 use Rattle.rows.proofs.TakeRow.{row-taken}
 use Rattle.sheet.specs.Filling.{isPassed}
 use Rattle.sheet.specs.Reading.{ragged, lastNumber, clashes, taken, firstOf, tests, readingOf, readFrom, outcomeOf}
-use Rattle.sheet.specs.Steps.{answerOf, earlyTests, lateTests, Looked, rewired}
+use Rattle.sheet.specs.Steps.{answerOf, earlyTests, lateTests, Looked}
 use Rattle.sheet.specs.declared.answer.Answer.{Answer}
 use Rattle.sheet.specs.declared.answer.Answer.the-variants.{Passed}
 use Rattle.sheet.specs.declared.kind.Kind.{Kind}
@@ -59,10 +59,8 @@ kept-widths kind pattern text k s i =
       length-padded (sheetMarks + 1) 0 (v .marked) (omega (arith, w .marks, w .wired .placed)),
     )
 
-pub kept-start : (kind : Kind) (pattern text : List ℕ) (s : Sheet) → s ≡ packed nothing
-    → Kept kind pattern text 0 (rewired s (replicate (fillingLinks + mostLinks) 0) (replicate (fillingLinks + mostLinks) 0) 0 (replicate (sheetMarks + 1) 0) (replicate (sheetMarks + 1) 0) 0)
-unfolding padded
-kept-start kind pattern text s e = record { held = nothing; arrays = rw e; before = omega arith; few = omega arith; read = read-start kind pattern text }
+pub kept-start : (kind : Kind) (pattern text : List ℕ) (s : Sheet) → s ≡ packed nothing → Kept kind pattern text 0 s
+kept-start kind pattern text s e = record { held = nothing; arrays = e; before = omega arith; few = omega arith; read = read-start kind pattern text }
 
 pub kept-end : (kind : Kind) (pattern text : List ℕ) (k : ℕ) (s : Sheet) → Kept kind pattern text k s → length text ≤ k * rowWidth
     → _≡_ {A = Reading} (record { answer = Passed; sheet = s }) (readingOf (outcomeOf kind pattern text))

@@ -11,41 +11,83 @@ use lib.ListN.{length, getD, drop, set}
 use Rattle.rows.specs.Pick.{pick}
 use Rattle.rows.specs.Format.{rowWidth}
 use Rattle.rows.specs.Held.{withRow}
-use Rattle.rows.specs.Packed.{packed}
+use Rattle.rows.specs.Packed.{padded, portsOf, packed}
 use Rattle.rows.specs.Steps.{Room, Ranged}
 use Rattle.rows.specs.declared.Sheet.{Sheet}
 use Rattle.sheet.specs.Filling.{isPassed}
-use Rattle.sheet.specs.Steps.{rewired}
 use Rattle.sheet.proofs.read.Taken.{rowAt}
 use Rattle.sheet.proofs.read.Turn.{Kept, kept-room, Widths, kept-widths, kept-start, kept-end, turned-early, row-ranged, row-made, turned-late, kept-next}
 use Rattle.sheet.proofs.read.read_text.Statement.{statement}
 use Rattle.sheet.proofs.read.read_text.Tie as tie
 
 abbrev Inv-loop : tie.InvT-loop
-Inv-loop kind pattern text sheet₀ links₀ classes₀ marks₀ marked₀ n₀ m₀ k₀ sheet links classes marks marked n m k = Kept kind pattern text k (rewired sheet links classes n marks marked m)
+Inv-loop kind pattern text atoms₀ contexts₀ ports₀ links₀ labels₀ marks₀ on₀ a₀ c₀ n₀ m₀ k₀ atoms contexts ports links labels marks on a c n m k =
+    Kept kind pattern text k (record {
+      atoms = atoms;
+      «atom_count» = a;
+      contexts = contexts;
+      «context_count» = c;
+      ports = ports;
+      links = links;
+      classes = labels;
+      «link_count» = n;
+      marks = marks;
+      marked = on;
+      «mark_count» = m;
+    })
 
 abbrev μ-loop : tie.MeasureT-loop
-μ-loop kind pattern text sheet₀ links₀ classes₀ marks₀ marked₀ n₀ m₀ k₀ sheet links classes marks marked n m k = length text - k * rowWidth
+μ-loop kind pattern text atoms₀ contexts₀ ports₀ links₀ labels₀ marks₀ on₀ a₀ c₀ n₀ m₀ k₀ atoms contexts ports links labels marks on a c n m k = length text - k * rowWidth
 
 -- what the arrays hold where a turn begins, and their room
 abbrev state : tie.At-loop Inv-loop μ-loop → Sheet
-state l = rewired (l .loop .sheet) (l .loop .links) (l .loop .classes) (l .loop .n) (l .loop .marks) (l .loop .marked) (l .loop .m)
+state l =
+    record {
+      atoms = l .loop .atoms;
+      «atom_count» = l .loop .a;
+      contexts = l .loop .contexts;
+      «context_count» = l .loop .c;
+      ports = l .loop .ports;
+      links = l .loop .links;
+      classes = l .loop .labels;
+      «link_count» = l .loop .n;
+      marks = l .loop .marks;
+      marked = l .loop .on;
+      «mark_count» = l .loop .m;
+    }
 
 room : (l : tie.At-loop Inv-loop μ-loop) → Room (state l)
-room l = let a = l .before .before .before .args in kept-room (a .kind) (a .pattern) (a .text .now) (l .loop .k) (state l) (l .loop .inv)
+room l = let a = l .before .before .before .before .args in kept-room (a .kind) (a .pattern) (a .text .now) (l .loop .k) (state l) (l .loop .inv)
 
 widths : (l : tie.At-loop Inv-loop μ-loop) → Widths (state l)
-widths l = let a = l .before .before .before .args in kept-widths (a .kind) (a .pattern) (a .text .now) (l .loop .k) (state l) (l .loop .inv)
+widths l = let a = l .before .before .before .before .args in kept-widths (a .kind) (a .pattern) (a .text .now) (l .loop .k) (state l) (l .loop .inv)
+
+-- the places of a turn before the one given: its beginning, the tests that ask nothing of what is held, and the calls
+abbrev top : tie.Else1 Inv-loop μ-loop → tie.At-loop Inv-loop μ-loop
+top c = c .before .before .before .before .before
+
+abbrev tested : tie.After-counted Inv-loop μ-loop → tie.Else1 Inv-loop μ-loop
+tested c = c .before .before .before .before .before
+
+abbrev counted-too : tie.After-labels Inv-loop μ-loop → tie.After-counted Inv-loop μ-loop
+counted-too c = c .before .before .before .before .before .before
+
+abbrev linked : tie.After-on Inv-loop μ-loop → tie.After-add-row-links Inv-loop μ-loop
+linked c = c .before .before .before .before .before .before
 
 one : (b : Bool) → pick b 1 0 ≤ 1
 one true = omega arith
 one false = omega arith
 
-empty-requires : tie.Need-empty-requires Inv-loop μ-loop
-empty-requires c κs = search needs
+none-requires : tie.Need-none-requires Inv-loop μ-loop
+none-requires c κs = search needs
+
+none-requires-2 : tie.Need-none-requires-2 Inv-loop μ-loop
+none-requires-2 c κs = search needs
 
 loop-holds : tie.Need-loop-holds Inv-loop μ-loop
-loop-holds c = kept-start _ _ _ (c .empty .result) (c .empty .ensures)
+unfolding padded portsOf
+loop-holds c = kept-start _ _ _ _ (rw (c .before .none .ensures) (rw (c .none2 .ensures)))
 
 mul-loop : tie.Need-mul-loop Inv-loop μ-loop
 mul-loop c = omega (arith, c .loop .inv .few)
@@ -60,60 +102,64 @@ turned-down-requires : tie.Need-turned-down-requires Inv-loop μ-loop
 turned-down-requires c κs = search needs
 
 returns : tie.Need-returns Inv-loop μ-loop
-returns c = let l = c .before .before .before .before .before .before in
-    let a = l .before .before .before .args in
-    c .turned-down .ensures ∙ turned-early (a .kind) (a .pattern) (a .text .now) (l .loop .k) (state l) (l .loop .inv) (c .before .before .before .before .before .loop-test .taken) (c .before .before .before .before .next-row .result) (c .before .before .before .before .next-row .ensures) (sym (c .before .before .is-passed .ensures) ∙ not-true _ (c .before .if1 .taken))
+returns c =
+    let l = c .before .before .before .before .before .before in
+    let a = l .before .before .before .before .args in
+    let x = c .before .before .before .before .next-row in
+    c .turned-down .ensures ∙ turned-early (a .kind) (a .pattern) (a .text .now) (l .loop .k) (state l) (l .loop .inv) (c .before .before .before .before .before .loop-test .taken) (x .result) (x .ensures) (sym (c .before .before .is-passed .ensures) ∙ not-true _ (c .before .if1 .taken))
 
 -- the row passes the tests before it is taken in, so it is in range
 passes : (c : tie.Else1 Inv-loop μ-loop) → isPassed (c .before .before .before .next-row .result .answer) ≡ true
 passes c = sym (c .before .is-passed .ensures) ∙ not-false _ (c .if1 .left)
 
 ranged : (c : tie.Else1 Inv-loop μ-loop) → Ranged (c .before .before .before .next-row .result .row)
-ranged c = let l = c .before .before .before .before .before in
-    let a = l .before .before .before .args in
-    row-ranged (a .kind) (a .pattern) (a .text .now) (l .loop .k) (state l) (l .loop .inv) (c .before .before .before .before .loop-test .taken) (c .before .before .before .next-row .result) (c .before .before .before .next-row .ensures) (passes c)
+ranged c =
+    let l = top c in
+    let a = l .before .before .before .before .args in
+    let x = c .before .before .before .next-row in
+    row-ranged (a .kind) (a .pattern) (a .text .now) (l .loop .k) (state l) (l .loop .inv) (c .before .before .before .before .loop-test .taken) (x .result) (x .ensures) (passes c)
 
 before-requires : tie.Need-before-requires Inv-loop μ-loop
 before-requires c κs = search needs
 
 mul-row-clash : tie.Need-mul-row-clash Inv-loop μ-loop
-mul-row-clash c = omega (arith, c .before .before2 .ensures, room (c .before .before .before .before .before .before .before) .contexts)
+mul-row-clash c = omega (arith, c .before2 .ensures, room (top (c .before)) .contexts)
 
 element-copy-out-row-clash : tie.Need-element-copy-out-row-clash Inv-loop μ-loop
-element-copy-out-row-clash c = omega (arith, c .before .before2 .ensures, room (c .before .before .before .before .before .before .before) .contexts)
+element-copy-out-row-clash c = omega (arith, c .before2 .ensures, room (top (c .before)) .contexts)
 
 row-clash-requires : tie.Need-row-clash-requires Inv-loop μ-loop
-row-clash-requires c κs = ranged (c .before .before)
+row-clash-requires c κs = ranged (c .before)
 
 atom-of-requires : tie.Need-atom-of-requires Inv-loop μ-loop
 atom-of-requires c κs = search needs
 
-mul-t23 : tie.Need-mul-t23 Inv-loop μ-loop
-mul-t23 c = omega (arith, room (c .before .before .before .before .before .before .before .before .before) .atoms)
+mul-atoms : tie.Need-mul-atoms Inv-loop μ-loop
+mul-atoms c = omega (arith, room (top (c .before .before .before)) .atoms)
 
-element-set-from-sheet : tie.Need-element-set-from-sheet Inv-loop μ-loop
-element-set-from-sheet c = omega (arith, room (c .before .before .before .before .before .before .before .before .before) .atoms)
+array-set-from-atoms : tie.Need-array-set-from-atoms Inv-loop μ-loop
+array-set-from-atoms c = omega (arith, room (top (c .before .before .before)) .atoms)
 
 counted-requires : tie.Need-counted-requires Inv-loop μ-loop
 counted-requires c κs = search needs
 
-add-sheet : tie.Need-add-sheet Inv-loop μ-loop
-add-sheet c = omega (arith, room (c .before .before .before .before .before .before .before .before .before .before .before) .atoms, c .counted .ensures, one (eqb (c .before .before .before .before .before .before .before .before .before .next-row .result .row .letter) 0))
+add-a : tie.Need-add-a Inv-loop μ-loop
+add-a c = omega (arith, room (top (tested c)) .atoms, c .counted .ensures, one (eqb (tested c .before .before .before .next-row .result .row .letter) 0))
 
 add-context-of : tie.Need-add-context-of Inv-loop μ-loop
-add-context-of c = omega (arith, c .before .before .before .before .before .before .before .before .before .before .before .loop .inv .few)
+add-context-of c = omega (arith, top (tested c) .loop .inv .few)
 
 cast-context-of : tie.Need-cast-context-of Inv-loop μ-loop
-cast-context-of c = omega (arith, c .before .before .before .before .before .before .before .before .before .before .before .loop .inv .few)
+cast-context-of c = omega (arith, top (tested c) .loop .inv .few)
 
 context-of-requires : tie.Need-context-of-requires Inv-loop μ-loop
 context-of-requires c κs = search needs
 
-mul-t23-2 : tie.Need-mul-t23-2 Inv-loop μ-loop
-mul-t23-2 c = omega (arith, room (c .before .before .before .before .before .before .before .before .before .before .before .before) .contexts)
+mul-contexts : tie.Need-mul-contexts Inv-loop μ-loop
+mul-contexts c = omega (arith, room (top (tested (c .before))) .contexts)
 
-element-set-from-sheet-2 : tie.Need-element-set-from-sheet-2 Inv-loop μ-loop
-element-set-from-sheet-2 c = omega (arith, room (c .before .before .before .before .before .before .before .before .before .before .before .before) .contexts)
+array-set-from-contexts : tie.Need-array-set-from-contexts Inv-loop μ-loop
+array-set-from-contexts c = omega (arith, room (top (tested (c .before))) .contexts)
 
 is-context-requires : tie.Need-is-context-requires Inv-loop μ-loop
 is-context-requires c κs = search needs
@@ -121,70 +167,97 @@ is-context-requires c κs = search needs
 counted-requires-2 : tie.Need-counted-requires-2 Inv-loop μ-loop
 counted-requires-2 c κs = search needs
 
-add-sheet-2 : tie.Need-add-sheet-2 Inv-loop μ-loop
-add-sheet-2 c = omega (arith, room (c .before .before .before .before .before .before .before .before .before .before .before .before .before .before) .contexts, c .counted2 .ensures, one (c .before .is-context .result))
+add-c : tie.Need-add-c Inv-loop μ-loop
+add-c c = omega (arith, room (top (tested (c .before .before .before))) .contexts, c .counted2 .ensures, one (c .before .is-context .result))
 
 row-ports-requires : tie.Need-row-ports-requires Inv-loop μ-loop
-row-ports-requires c κs = ranged (c .before .before .before .before .before .before .before .before .before .before)
+row-ports-requires c κs = ranged (tested (c .before .before .before))
 
 slice-aggregate-add-row-links : tie.Need-slice-aggregate-add-row-links Inv-loop μ-loop
-slice-aggregate-add-row-links c = sym (widths (c .before .before .before .before .before .before .before .before .before .before .before .before .before .before .before .before .before) .0)
+slice-aggregate-add-row-links c = sym (widths (top (tested (c .before .before .before .before .before))) .0)
 
 slice-aggregate-add-row-links-2 : tie.Need-slice-aggregate-add-row-links-2 Inv-loop μ-loop
-slice-aggregate-add-row-links-2 c = sym (widths (c .before .before .before .before .before .before .before .before .before .before .before .before .before .before .before .before .before .before) .1)
+slice-aggregate-add-row-links-2 c = sym (widths (top (tested (counted-too c))) .1)
 
 add-row-links-requires : tie.Need-add-row-links-requires Inv-loop μ-loop
-add-row-links-requires c κs = (room (c .before .before .before .before .before .before .before .before .before .before .before .before .before .before .before .before .before .before) .links, ranged (c .before .before .before .before .before .before .before .before .before .before .before .before .before), widths (c .before .before .before .before .before .before .before .before .before .before .before .before .before .before .before .before .before .before) .0, widths (c .before .before .before .before .before .before .before .before .before .before .before .before .before .before .before .before .before .before) .1)
+add-row-links-requires c κs =
+    let e = tested (counted-too c) in
+    let w = widths (top e) in
+    (room (top e) .links, ranged e, w .0, w .1)
 
 slice-aggregate-add-row-mark : tie.Need-slice-aggregate-add-row-mark Inv-loop μ-loop
-slice-aggregate-add-row-mark c = sym (c .before .before .before .add-row-links .kept .0 ∙ widths (c .before .before .before .before .before .before .before .before .before .before .before .before .before .before .before .before .before .before .before .before .before .before) .0)
+slice-aggregate-add-row-mark c =
+    let x = c .before .before .before in
+    sym (x .add-row-links .kept .0 ∙ widths (top (tested (counted-too (x .before)))) .0)
 
 slice-aggregate-add-row-mark-2 : tie.Need-slice-aggregate-add-row-mark-2 Inv-loop μ-loop
-slice-aggregate-add-row-mark-2 c = sym (c .before .before .before .before .add-row-links .kept .1 .0 ∙ widths (c .before .before .before .before .before .before .before .before .before .before .before .before .before .before .before .before .before .before .before .before .before .before .before) .1)
+slice-aggregate-add-row-mark-2 c =
+    let x = c .before .before .before .before in
+    sym (x .add-row-links .kept .1 .0 ∙ widths (top (tested (counted-too (x .before)))) .1)
 
 slice-aggregate-add-row-mark-3 : tie.Need-slice-aggregate-add-row-mark-3 Inv-loop μ-loop
-slice-aggregate-add-row-mark-3 c = sym (widths (c .before .before .before .before .before .before .before .before .before .before .before .before .before .before .before .before .before .before .before .before .before .before .before .before) .2)
+slice-aggregate-add-row-mark-3 c = sym (widths (top (tested (counted-too (c .before .before .before .before .before .before)))) .2)
 
 slice-aggregate-add-row-mark-4 : tie.Need-slice-aggregate-add-row-mark-4 Inv-loop μ-loop
-slice-aggregate-add-row-mark-4 c = sym (widths (c .before .before .before .before .before .before .before .before .before .before .before .before .before .before .before .before .before .before .before .before .before .before .before .before .before) .3)
+slice-aggregate-add-row-mark-4 c = sym (widths (top (tested (counted-too (linked c .before)))) .3)
 
 add-row-mark-requires : tie.Need-add-row-mark-requires Inv-loop μ-loop
-add-row-mark-requires c κs = let x = c .before .before .before .before .before .before .add-row-links in
-    let w = widths (c .before .before .before .before .before .before .before .before .before .before .before .before .before .before .before .before .before .before .before .before .before .before .before .before .before) in
-    (λ e. omega (arith, x .ensures .0 e, room (c .before .before .before .before .before .before .before .before .before .before .before .before .before .before .before .before .before .before .before .before .before .before .before .before .before) .links), room (c .before .before .before .before .before .before .before .before .before .before .before .before .before .before .before .before .before .before .before .before .before .before .before .before .before) .marks, room (c .before .before .before .before .before .before .before .before .before .before .before .before .before .before .before .before .before .before .before .before .before .before .before .before .before) .places, x .kept .0 ∙ w .0, x .kept .1 .0 ∙ w .1, w .2, w .3)
+add-row-mark-requires c κs =
+    let x = linked c .add-row-links in
+    let l = top (tested (counted-too (linked c .before))) in
+    let r = room l in
+    let w = widths l in
+    (λ e. omega (arith, x .ensures .0 e, r .links), r .marks, r .places, x .kept .0 ∙ w .0, x .kept .1 .0 ∙ w .1, w .2, w .3)
+
+-- the calls of a turn that is over, its tests and its beginning
+abbrev marks-in : tie.After-on2 Inv-loop μ-loop → tie.After-add-row-mark Inv-loop μ-loop
+marks-in c = c .before .before .before
+
+abbrev counts-in : tie.After-on2 Inv-loop μ-loop → tie.After-counted Inv-loop μ-loop
+counts-in c = counted-too (linked (marks-in c .before) .before)
+
+abbrev row-in : tie.After-on2 Inv-loop μ-loop → tie.Else1 Inv-loop μ-loop
+row-in c = tested (counts-in c)
 
 add-k : tie.Need-add-k Inv-loop μ-loop
-add-k c = omega (arith, c .before .before .before .before .before .before .before .before .before .before .before .before .before .before .before .before .before .before .before .before .before .before .before .before .before .before .before .before .before .loop .inv .few)
+add-k c = omega (arith, top (row-in c) .loop .inv .few)
 
 late-answer-requires : tie.Need-late-answer-requires Inv-loop μ-loop
 late-answer-requires c κs = search needs
 
 -- the arrays with the row
-abbrev after : tie.After-late-answer Inv-loop μ-loop → Sheet
-after c = let s = state (c .before .before .before .before .before .before .before .before .before .before .before .before .before .before .before .before .before .before .before .before .before .before .before .before .before .before .before .before .before .before) in
-    let y = c .before .before .before .before .add-row-mark in
+abbrev after : tie.After-on2 Inv-loop μ-loop → Sheet
+after c =
+    let s = state (top (row-in c)) in
+    let x = linked (marks-in c .before) in
+    let y = marks-in c .add-row-mark in
     record {
-      atoms = set (s .atoms) (s .«atom_count») (c .before .before .before .before .before .before .before .before .before .before .before .before .before .before .before .before .before .before .before .before .before .atom-of .result);
-      «atom_count» = s .«atom_count» + c .before .before .before .before .before .before .before .before .before .before .before .before .before .before .before .before .before .before .before .counted .result;
-      contexts = set (s .contexts) (s .«context_count») (c .before .before .before .before .before .before .before .before .before .before .before .before .before .before .before .before .before .before .context-of .result);
-      «context_count» = s .«context_count» + c .before .before .before .before .before .before .before .before .before .before .before .before .before .before .before .before .counted2 .result;
-      ports = c .before .before .before .before .before .before .before .before .before .before .before .before .before .before .row-ports .result;
-      links = c .before .before .before .before .before .before .before .before .before .before .before .add-row-links .last .0;
+      atoms = set (s .atoms) (s .«atom_count») (counts-in c .before .before .atom-of .result);
+      «atom_count» = s .«atom_count» + counts-in c .counted .result;
+      contexts = set (s .contexts) (s .«context_count») (x .before .before .before .before .before .before .context-of .result);
+      «context_count» = s .«context_count» + x .before .before .before .before .counted2 .result;
+      ports = x .before .before .before .row-ports .result;
+      links = x .add-row-links .last .0;
       classes = y .last .1 .0;
-      «link_count» = c .before .before .before .before .before .before .before .before .before .before .before .add-row-links .result;
+      «link_count» = x .add-row-links .result;
       marks = y .last .1 .1 .0;
       marked = y .last .1 .1 .1 .0;
       «mark_count» = y .result;
     }
 
-made : (c : tie.After-late-answer Inv-loop μ-loop) → let l = c .before .before .before .before .before .before .before .before .before .before .before .before .before .before .before .before .before .before .before .before .before .before .before .before .before .before .before .before .before .before in after c ≡ packed (withRow (l .loop .inv .held) (rowAt (drop (l .loop .k * rowWidth) (l .before .before .before .args .text .now))))
-made c = let l = c .before .before .before .before .before .before .before .before .before .before .before .before .before .before .before .before .before .before .before .before .before .before .before .before .before .before .before .before .before .before in
-    let a = l .before .before .before .args in
-    let x = c .before .before .before .before .before .before .before .before .before .before .before .add-row-links in
-    let y = c .before .before .before .before .add-row-mark in
-    row-made (a .kind) (a .pattern) (a .text .now) (l .loop .k) (state l) (l .loop .inv) (c .before .before .before .before .before .before .before .before .before .before .before .before .before .before .before .before .before .before .before .before .before .before .before .before .before .before .before .before .before .loop-test .taken) (c .before .before .before .before .before .before .before .before .before .before .before .before .before .before .before .before .before .before .before .before .before .before .before .before .before .before .before .before .next-row .result) (c .before .before .before .before .before .before .before .before .before .before .before .before .before .before .before .before .before .before .before .before .before .before .before .before .before .before .before .before .next-row .ensures) (passes (c .before .before .before .before .before .before .before .before .before .before .before .before .before .before .before .before .before .before .before .before .before .before .before .before .before))
-    (c .before .before .before .before .before .before .before .before .before .before .before .before .before .before .before .before .before .before .before .before .before .atom-of .result) (c .before .before .before .before .before .before .before .before .before .before .before .before .before .before .before .before .before .before .before .counted .result) (c .before .before .before .before .before .before .before .before .before .before .before .before .before .before .before .before .before .before .context-of .result) (c .before .before .before .before .before .before .before .before .before .before .before .before .before .before .before .before .before .is-context .result) (c .before .before .before .before .before .before .before .before .before .before .before .before .before .before .before .before .counted2 .result) (c .before .before .before .before .before .before .before .before .before .before .before .before .before .before .row-ports .result) (x .last .0) (x .last .1 .0) (x .result) (y .last .1 .0) (y .last .1 .1 .0) (y .last .1 .1 .1 .0) (y .result)
-    (c .before .before .before .before .before .before .before .before .before .before .before .before .before .before .before .before .before .before .before .before .before .atom-of .ensures) (c .before .before .before .before .before .before .before .before .before .before .before .before .before .before .before .before .before .before .before .counted .ensures) (c .before .before .before .before .before .before .before .before .before .before .before .before .before .before .before .before .before .before .context-of .ensures) (c .before .before .before .before .before .before .before .before .before .before .before .before .before .before .before .before .before .is-context .ensures) (c .before .before .before .before .before .before .before .before .before .before .before .before .before .before .before .before .counted2 .ensures) (c .before .before .before .before .before .before .before .before .before .before .before .before .before .before .row-ports .ensures) (x .ensures .1) (y .ensures)
+made : (c : tie.After-on2 Inv-loop μ-loop) → let l = top (row-in c) in after c ≡ packed (withRow (l .loop .inv .held) (rowAt (drop (l .loop .k * rowWidth) (l .before .before .before .before .args .text .now))))
+made c =
+    let e = row-in c in
+    let l = top e in
+    let a = l .before .before .before .before .args in
+    let z = e .before .before .before .next-row in
+    let d = counts-in c in
+    let w = linked (marks-in c .before) in
+    let x = w .add-row-links in
+    let y = marks-in c .add-row-mark in
+    row-made (a .kind) (a .pattern) (a .text .now) (l .loop .k) (state l) (l .loop .inv) (e .before .before .before .before .loop-test .taken) (z .result) (z .ensures) (passes e)
+    (d .before .before .atom-of .result) (d .counted .result) (w .before .before .before .before .before .before .context-of .result) (w .before .before .before .before .before .is-context .result) (w .before .before .before .before .counted2 .result) (w .before .before .before .row-ports .result) (x .last .0) (x .last .1 .0) (x .result) (y .last .1 .0) (y .last .1 .1 .0) (y .last .1 .1 .1 .0) (y .result)
+    (d .before .before .atom-of .ensures) (d .counted .ensures) (w .before .before .before .before .before .before .context-of .ensures) (w .before .before .before .before .before .is-context .ensures) (w .before .before .before .before .counted2 .ensures) (w .before .before .before .row-ports .ensures) (x .ensures .1) (y .ensures)
 
 is-passed-requires-2 : tie.Need-is-passed-requires-2 Inv-loop μ-loop
 is-passed-requires-2 c κs = search needs
@@ -193,33 +266,42 @@ turned-down-requires-2 : tie.Need-turned-down-requires-2 Inv-loop μ-loop
 turned-down-requires-2 c κs = search needs
 
 returns-2 : tie.Need-returns-2 Inv-loop μ-loop
-returns-2 c = let f = c .before .before .before in
-    let l = c .before .before .before .before .before .before .before .before .before .before .before .before .before .before .before .before .before .before .before .before .before .before .before .before .before .before .before .before .before .before .before .before .before in
-    let a = l .before .before .before .args in
-    c .turned-down2 .ensures ∙ turned-late (a .kind) (a .pattern) (a .text .now) (l .loop .k) (state l) (l .loop .inv) (c .before .before .before .before .before .before .before .before .before .before .before .before .before .before .before .before .before .before .before .before .before .before .before .before .before .before .before .before .before .before .before .before .loop-test .taken) (c .before .before .before .before .before .before .before .before .before .before .before .before .before .before .before .before .before .before .before .before .before .before .before .before .before .before .before .before .before .before .before .next-row .result) (c .before .before .before .before .before .before .before .before .before .before .before .before .before .before .before .before .before .before .before .before .before .before .before .before .before .before .before .before .before .before .before .next-row .ensures) (passes (c .before .before .before .before .before .before .before .before .before .before .before .before .before .before .before .before .before .before .before .before .before .before .before .before .before .before .before .before))
-    (after f) (made f) (c .before .before .before .before .before .before .before .before .before .before .before .before .before .before .before .before .before .before .before .before .before .before .before .before .before .row-clash .result) (f .late-answer .result)
-    (λ r q p. c .before .before .before .before .before .before .before .before .before .before .before .before .before .before .before .before .before .before .before .before .before .before .before .before .before .row-clash .ensures r (ap (λ (j : ℕ). getD (l .loop .sheet .contexts) j (record { number = 0; count = 0; links = []; row = 0 }) .number) (c .before .before .before .before .before .before .before .before .before .before .before .before .before .before .before .before .before .before .before .before .before .before .before .before .before .before .before .before2 .ensures) ∙ q) p)
+returns-2 c =
+    let f = c .before .before .before in
+    let e = row-in (f .before) in
+    let l = top e in
+    let a = l .before .before .before .before .args in
+    let z = e .before .before .before .next-row in
+    let d = counts-in (f .before) in
+    c .turned-down2 .ensures ∙ turned-late (a .kind) (a .pattern) (a .text .now) (l .loop .k) (state l) (l .loop .inv) (e .before .before .before .before .loop-test .taken) (z .result) (z .ensures) (passes e)
+    (after (f .before)) (made (f .before)) (d .before .before .before .row-clash .result) (f .late-answer .result)
+    (λ r q p. d .before .before .before .row-clash .ensures r (ap (λ (j : ℕ). getD (l .loop .contexts) j (record { number = 0; count = 0; links = []; row = 0 }) .number) (d .before .before .before .before .before2 .ensures) ∙ q) p)
     (f .late-answer .ensures) (sym (c .before .before .is-passed2 .ensures) ∙ not-true _ (c .before .if2 .taken))
 
 loop-less : tie.Need-loop-less Inv-loop μ-loop
-loop-less c = omega (arith, c .before .before .before .before .before .before .before .before .before .before .before .before .before .before .before .before .before .before .before .before .before .before .before .before .before .before .before .before .before .before .before .loop-test .taken)
+loop-less c = omega (arith, row-in (c .before .before .before) .before .before .before .before .loop-test .taken)
 
 loop-again : tie.Need-loop-again Inv-loop μ-loop
-loop-again c = let f = c .before .before in
-    let l = c .before .before .before .before .before .before .before .before .before .before .before .before .before .before .before .before .before .before .before .before .before .before .before .before .before .before .before .before .before .before .before .before in
-    let a = l .before .before .before .args in
-    kept-next (a .kind) (a .pattern) (a .text .now) (l .loop .k) (state l) (l .loop .inv) (c .before .before .before .before .before .before .before .before .before .before .before .before .before .before .before .before .before .before .before .before .before .before .before .before .before .before .before .before .before .before .before .loop-test .taken) (c .before .before .before .before .before .before .before .before .before .before .before .before .before .before .before .before .before .before .before .before .before .before .before .before .before .before .before .before .before .before .next-row .result) (c .before .before .before .before .before .before .before .before .before .before .before .before .before .before .before .before .before .before .before .before .before .before .before .before .before .before .before .before .before .before .next-row .ensures) (passes (c .before .before .before .before .before .before .before .before .before .before .before .before .before .before .before .before .before .before .before .before .before .before .before .before .before .before .before))
-    (after f) (made f) (c .before .before .before .before .before .before .before .before .before .before .before .before .before .before .before .before .before .before .before .before .before .before .before .before .row-clash .result) (f .late-answer .result)
-    (λ r q p. c .before .before .before .before .before .before .before .before .before .before .before .before .before .before .before .before .before .before .before .before .before .before .before .before .row-clash .ensures r (ap (λ (j : ℕ). getD (l .loop .sheet .contexts) j (record { number = 0; count = 0; links = []; row = 0 }) .number) (c .before .before .before .before .before .before .before .before .before .before .before .before .before .before .before .before .before .before .before .before .before .before .before .before .before .before .before2 .ensures) ∙ q) p)
+loop-again c =
+    let f = c .before .before in
+    let e = row-in (f .before) in
+    let l = top e in
+    let a = l .before .before .before .before .args in
+    let z = e .before .before .before .next-row in
+    let d = counts-in (f .before) in
+    kept-next (a .kind) (a .pattern) (a .text .now) (l .loop .k) (state l) (l .loop .inv) (e .before .before .before .before .loop-test .taken) (z .result) (z .ensures) (passes e)
+    (after (f .before)) (made (f .before)) (d .before .before .before .row-clash .result) (f .late-answer .result)
+    (λ r q p. d .before .before .before .row-clash .ensures r (ap (λ (j : ℕ). getD (l .loop .contexts) j (record { number = 0; count = 0; links = []; row = 0 }) .number) (d .before .before .before .before .before2 .ensures) ∙ q) p)
     (f .late-answer .ensures) (sym (c .before .is-passed2 .ensures) ∙ not-false _ (c .if2 .left))
 
-wired-requires : tie.Need-wired-requires Inv-loop μ-loop
-wired-requires c κs = search needs
+passed-requires : tie.Need-passed-requires Inv-loop μ-loop
+passed-requires c κs = search needs
 
 returns-3 : tie.Need-returns-3 Inv-loop μ-loop
-returns-3 c = let l = c .before .before in
-    let a = l .before .before .before .args in
-    c .wired .ensures ∙ kept-end (a .kind) (a .pattern) (a .text .now) (l .loop .k) (state l) (l .loop .inv) (c .before .loop-test .left)
+returns-3 c =
+    let l = c .before .before in
+    let a = l .before .before .before .before .args in
+    c .passed .ensures ∙ kept-end (a .kind) (a .pattern) (a .text .now) (l .loop .k) (state l) (l .loop .inv) (c .before .loop-test .left)
 
 pub read-text-spec : {M : Type 1} → statement M
 read-text-spec =
@@ -227,7 +309,8 @@ read-text-spec =
     (tie.spec
     Inv-loop
     μ-loop
-    empty-requires
+    none-requires
+    none-requires-2
     loop-holds
     mul-loop
     next-row-requires
@@ -239,18 +322,18 @@ read-text-spec =
     element-copy-out-row-clash
     row-clash-requires
     atom-of-requires
-    mul-t23
-    element-set-from-sheet
+    mul-atoms
+    array-set-from-atoms
     counted-requires
-    add-sheet
+    add-a
     add-context-of
     cast-context-of
     context-of-requires
-    mul-t23-2
-    element-set-from-sheet-2
+    mul-contexts
+    array-set-from-contexts
     is-context-requires
     counted-requires-2
-    add-sheet-2
+    add-c
     row-ports-requires
     slice-aggregate-add-row-links
     slice-aggregate-add-row-links-2
@@ -267,5 +350,5 @@ read-text-spec =
     returns-2
     loop-less
     loop-again
-    wired-requires
+    passed-requires
     returns-3)
