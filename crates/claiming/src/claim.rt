@@ -3,6 +3,7 @@ use answers::outcome::Claimed;
 use filling::filled::normal_filled;
 use filling::part::first_differing;
 use filling::part::first_lacking;
+use matching::identical::identical;
 use matching::search::smallest_placing;
 use rows::Sheet;
 use sheet::answer::Answer;
@@ -29,6 +30,9 @@ fn claim_filled(sheet: Normal, filled: Normal) -> Claimed
     requires { ⌜ Ready sheet filled ⌝ }
     ensures { λ r. ⌜ r ≡ placedClaim (smallest (netIn sheet) (netIn filled)) ⌝ }
 {
+    if identical(sheet, filled) {
+        return Claimed::Holds;
+    }
     let found = smallest_placing(sheet, filled);
     if found.ok {
         return Claimed::Holds;

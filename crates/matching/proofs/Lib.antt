@@ -5,3 +5,4 @@ pub mod ChosenLaws
 mod Excusing
 mod Forcing
 mod Leftover
+mod SameNets

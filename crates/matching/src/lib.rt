@@ -2,4 +2,5 @@
 mod colours;
 mod excuse;
 mod forced;
+pub mod identical;
 pub mod search;
