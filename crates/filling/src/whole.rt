@@ -1,4 +1,4 @@
-// The atoms of a filled figure, first with the places of their link classes, then with their labels.
+// The atoms of a filled figure, with the places of their link classes.
 use crate::glue::PART;
 use crate::glue::PLACES;
 use crate::glue::with_ports;
@@ -11,13 +11,11 @@ ghost use mathlib.Core.Path.{_≡_};
 ghost use mathlib.Core.List.{[], map};
 ghost use Prim.Native.Nat.{ℕ, _+_, _≤_, _<_};
 ghost use lib.ListN.{length, getD};
-ghost use Rattle.rows.specs.Format.{mostLinks};
 ghost use Rattle.rows.specs.Limits.{sheetAtoms, figureContexts};
 ghost use Rattle.sheet.specs.Filling.{Passes};
-ghost use Rattle.sheet.specs.NormalRows.{pastAtoms};
 ghost use Rattle.filling.specs.Parts.{partRoom, places, Low, Exacts};
 ghost use Rattle.filling.specs.Glued.{placeOf};
-ghost use Rattle.filling.specs.Whole.{labelledLinks, labelledAtom, partAtoms, wholeAtoms, Grown, Puts};
+ghost use Rattle.filling.specs.Whole.{partAtoms, wholeAtoms, Grown, Puts};
 
 // As many atoms as a sheet has room for: one more than its limit says that there are too many.
 pub(crate) struct Whole {
@@ -34,24 +32,6 @@ fn placed(p: usize, links: [u16; Sheet::MOST_LINKS]) -> [u16; Sheet::MOST_LINKS]
     let mut k = 0;
     while k < Sheet::MOST_LINKS {
         more[k] = (p * PART) as u16 + links[k];
-        k += 1;
-    }
-    more
-}
-
-// The labels of the first `count` of these places.
-fn labelled(
-    labels: &[u16; PLACES],
-    links: [u16; Sheet::MOST_LINKS],
-    count: usize,
-) -> [u16; Sheet::MOST_LINKS]
-    requires { ⌜ (count ≤ mostLinks) × ((k : ℕ) → getD links k 0 < places) ⌝ }
-    ensures { λ r. ⌜ r ≡ labelledLinks (now (labels .entry)) count links ⌝ }
-{
-    let mut more = [0u16; Sheet::MOST_LINKS];
-    let mut k = 0;
-    while k < count {
-        more[k] = labels[links[k] as usize];
         k += 1;
     }
     more
@@ -89,31 +69,6 @@ impl Whole {
             i += 1;
         }
         whole
-    }
-
-    // Each place made the label that it has.
-    pub(crate) fn labelled(self, labels: &[u16; PLACES]) -> Self
-        requires { ⌜ (self .count ≤ sheetAtoms + 1) × ((i : ℕ) → getD (wholeAtoms self) i pastAtoms .count ≤ mostLinks) ⌝ }
-        requires { ⌜ ((i k : ℕ) → getD (getD (wholeAtoms self) i pastAtoms .links) k 0 < places) ⌝ }
-        ensures { λ r. ⌜ (wholeAtoms r ≡ map (labelledAtom (now (labels .entry))) (wholeAtoms self)) × (r .count ≡ self .count) ⌝ }
-    {
-        let mut atoms = self.atoms;
-        let mut i = 0;
-        while i < self.count {
-            let atom = self.atoms[i];
-            let before = atom.links;
-            let links = labelled(labels, before, atom.count as usize);
-            atoms[i] = Atom {
-                name: atom.name,
-                count: atom.count,
-                links,
-            };
-            i += 1;
-        }
-        Whole {
-            atoms,
-            count: self.count,
-        }
     }
 }
 
