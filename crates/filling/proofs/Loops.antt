@@ -28,7 +28,7 @@ use Rattle.filling.specs.Read.{fillingRead}
 use Rattle.filling.specs.Fill.{firstDiffering, isExact}
 use Rattle.filling.specs.Parts.{partNormal, exactTo, Exacts, firstUnported}
 use Rattle.filling.specs.Glued.{placeOf, joinedAt, joinedAll, portPairs, contextPairs, allPairs}
-use Rattle.filling.specs.Whole.{partAtoms, contextAtoms, labelsAt, labelledLinks, labelledAtom, roomFor, wholeAtoms, Grown}
+use Rattle.filling.specs.Whole.{placedAtom, partAtoms, contextAtoms, labelsAt, labelledLinks, labelledAtom, roomFor, wholeAtoms, Grown}
 use Rattle.filling.specs.Classes.{Known, Sees, withLabel, withLabels, linksIn, numberIn, numberedLinks, numberedAt}
 use Rattle.filling.specs.declared.whole.Whole.{Whole}
 use Rattle.filling.proofs.Join.{all-append}
@@ -96,6 +96,15 @@ module _ (list : List ℕ) (contexts : List Context) (count i : ℕ) (d : Contex
   pub differing-end : count ≤ i → firstDiffering list (drop i (take count contexts)) ≡ 0
   unfolding firstDiffering
   differing-end h = rw (part-end contexts count i h)
+
+-- The places of the figure's own classes are their numbers.
+same-places : (l : List ℕ) → map (placeOf 0) l ≡ l
+same-places [] = refl
+same-places (x ∷ l) = let e : placeOf 0 x ≡ x = omega arith in ap₂ _∷_ e (same-places l)
+
+pub own-places : (l : List Atom) → map (placedAtom 0) l ≡ l
+own-places [] = refl
+own-places (a ∷ l) = ap₂ (λ (w : List ℕ) (r : List Atom). record { name = a .name; count = a .count; links = w } ∷ r) (same-places (a .links)) (own-places l)
 
 -- As many atoms as there is room for.
 pub room-twice : (a b : List Atom) → roomFor (roomFor a ++ b) ≡ roomFor (a ++ b)
