@@ -88,7 +88,13 @@ pub(crate) fn whole_of(
         let part = part_of(list, context.number);
         let marked = part.marked;
         with_ports(&mut *labels, i + 1, links, context.count as usize, marked);
-        note_exact(&mut *exact, part, context.number, context.count);
+        note_exact(
+            &mut *exact,
+            &part.marks,
+            part.mark_count,
+            context.number,
+            context.count,
+        );
         let atoms = part.atoms;
         whole = whole.with_part(i + 1, atoms, part.atom_count);
         i += 1;

@@ -13,7 +13,7 @@ use Rattle.numbering.proofs.Turns.{unmapped}
 use Rattle.filling.specs.Parts.{partNormal, partRoom, places, Low, Exacts}
 use Rattle.filling.specs.Glued.{joinedAll, portPairs, allPairs}
 use Rattle.filling.specs.Whole.{partAtoms, contextAtoms, roomFor, wholeAtoms}
-use Rattle.filling.proofs.Parts.{part-low}
+use Rattle.filling.proofs.Parts.{part-low, part-marks}
 use Rattle.filling.proofs.Join.{all-length}
 use Rattle.filling.proofs.Loops.{pairs-next, pairs-end, room-twice, room-all, atoms-next, atoms-end, own-places}
 use Rattle.filling.proofs.whole.whole_of.Statement.{statement}
@@ -57,17 +57,17 @@ with-ports-requires c κs = let p = c .before .before .before in
     )
 
 note-exact-requires : tie.Need-note-exact-requires Inv-loop μ-loop
-note-exact-requires c κs = let p = c .before .before .before .before .before in
+note-exact-requires c κs = let p = c .before .before .before .before .before .before .before in
     let l = p .before .before .before .before in
     let s = l .before .before .before in
     let x = getD (s .args .t1 .contexts) (l .loop .i) pastContexts in
-    (subst (λ (n : Normal). n .«mark_count» ≤ sheetMarks) (sym (p .part-of .ensures)) (part-low (s .args .list .now) (x .number) .marks), s .pre .0 .contextNumbers (l .loop .i), s .pre .0 .contextCounts (l .loop .i))
+    (subst (λ (n : Normal). n .«mark_count» ≤ sheetMarks) (sym (p .part-of .ensures)) (part-low (s .args .list .now) (x .number) .marks), subst (λ (n : Normal). length (n .marks) ≡ sheetMarks + 1) (sym (p .part-of .ensures)) (part-marks (s .args .list .now) (x .number)), s .pre .0 .contextNumbers (l .loop .i), s .pre .0 .contextCounts (l .loop .i))
 
 add-with-part : tie.Need-add-with-part Inv-loop μ-loop
 add-with-part c = search needs
 
 with-part-requires : tie.Need-with-part-requires Inv-loop μ-loop
-with-part-requires c κs = let p = c .before .before .before .before .before .before .before in
+with-part-requires c κs = let p = c .before .before .before .before .before .before .before .before .before in
     let l = p .before .before .before .before in
     let s = l .before .before .before in
     let x = getD (s .args .t1 .contexts) (l .loop .i) pastContexts in
@@ -75,7 +75,7 @@ with-part-requires c κs = let p = c .before .before .before .before .before .be
     (l .loop .inv .3, omega (arith, s .pre .0 .contexts, p .before .before .before .loop-test .taken), low .atoms, low .atomLinks)
 
 add-i : tie.Need-add-i Inv-loop μ-loop
-add-i c = let t = c .before .before .before .before .before .before .before .before .before .before .before in
+add-i c = let t = c .before .before .before .before .before .before .before .before .before .before .before .before .before in
     omega (arith, t .loop-test .taken, t .before .before .before .before .pre .0 .contexts)
 
 loop-less : tie.Need-loop-less Inv-loop μ-loop
@@ -83,7 +83,7 @@ loop-less c = search needs
 
 loop-again : tie.Need-loop-again Inv-loop μ-loop
 loop-again c = let note = c .before .before in
-    let w = note .before .before in
+    let w = note .before .before .before .before in
     let p = w .before .before .before .before in
     let l = p .before .before .before .before in
     let s = l .before .before .before in
@@ -105,7 +105,7 @@ loop-again c = let note = c .before .before in
           ∙ sym (pairs-next (a .list .now) (a .t1 .contexts) (a .t1 .«context_count») (l .loop .i) pastContexts (l .loop .labels) (l .loop .i + 1) many in-loop) ∙ l .loop .inv .4,
       ap (λ (w : List Atom). roomFor (w ++ rest)) g ∙ room-twice (W ++ P) rest ∙ ap roomFor (append-assoc W P rest)
           ∙ ap (λ (t : List Atom). roomFor (W ++ t)) (sym (atoms-next (a .list .now) (a .t1 .contexts) (a .t1 .«context_count») (l .loop .i) pastContexts (l .loop .i + 1) many in-loop)) ∙ l .loop .inv .5,
-      note .note-exact .ensures (a .list .now) (p .part-of .ensures) (l .loop .inv .6),
+      note .note-exact .ensures (a .list .now) (ap (λ (n : Normal). take (n .«mark_count») (n .marks)) (p .part-of .ensures)) (l .loop .inv .6),
     )
 
 returns : tie.Need-returns Inv-loop μ-loop
