@@ -9,27 +9,30 @@ use native.Mathlib.Numerals.{add-one}
 use native.Mathlib.Omega.{arith}
 use borrow.Author.Tests.{eqb-true, eqb-false, lt-ltb, le-ltb}
 use lib.Dec.{eqb}
-use lib.ListN.{length, getD, take, drop, set, replicate, length-append, length-take, drop-of-length-le}
+use lib.ListN.{length, getD, take, drop, set, replicate, length-append, length-map, length-set, length-take, drop-of-length-le}
 use lib.Seq.{take-all, take-append-le, take-suc, take-suc-set, length-take-le, getD-set-same, getD-set-other}
 use Rattle.rows.specs.Pick.{pick, and}
+use Rattle.rows.specs.Format.{mostLinks}
 use Rattle.rows.specs.Limits.{sheetAtoms, sheetLinks}
 use Rattle.rows.specs.Held.{indexOf, isIn}
+use Rattle.rows.specs.Packed.{padded}
 use Rattle.rows.specs.declared.Atom.{Atom}
 use Rattle.rows.specs.declared.Context.{Context}
-use Rattle.rows.proofs.Lists.{mapped, index-below}
-use Rattle.rows.proofs.Padding.{getD-filled}
+use Rattle.rows.proofs.Lists.{mapped, mapped-next as stored-mapped, index-below}
+use Rattle.rows.proofs.Padding.{getD-filled, stored-next}
 use Rattle.numbering.proofs.Turns.{part-cons, part-end}
+use Rattle.sheet.proofs.normal_text.NormalWritten.{taken-padded}
 use Rattle.placing.specs.Smallest.{numbersFrom, numbersTo, sameList}
 use Rattle.placing.proofs.Joined.{numbers-length}
 use Rattle.filling.specs.Read.{fillingRead}
 use Rattle.filling.specs.Fill.{firstDiffering, isExact}
 use Rattle.filling.specs.Parts.{partNormal, exactTo, Exacts, firstUnported}
 use Rattle.filling.specs.Glued.{placeOf, joinedAt, joinedAll, portPairs, contextPairs, allPairs}
-use Rattle.filling.specs.Whole.{partAtoms, contextAtoms, roomFor, wholeAtoms, Grown}
-use Rattle.filling.specs.Classes.{withLabel, withLabels, linksIn}
+use Rattle.filling.specs.Whole.{placedAtom, partAtoms, contextAtoms, labelsAt, labelledLinks, labelledAtom, roomFor, wholeAtoms, Grown}
+use Rattle.filling.specs.Classes.{Known, Sees, withLabel, withLabels, linksIn, numberIn, numberedLinks, numberedAt}
 use Rattle.filling.specs.declared.whole.Whole.{Whole}
 use Rattle.filling.proofs.Join.{all-append}
-use Rattle.filling.proofs.Numbered.{labels-append}
+use Rattle.filling.proofs.Numbered.{labels-append, label-kept}
 
 pub mapped-whole : {A : Type 0} (f : A → A) (l : List A) (n : ℕ) → length l ≡ n → mapped f n l ≡ map f l
 mapped-whole f l n e =
@@ -94,6 +97,15 @@ module _ (list : List ℕ) (contexts : List Context) (count i : ℕ) (d : Contex
   unfolding firstDiffering
   differing-end h = rw (part-end contexts count i h)
 
+-- The places of the figure's own classes are their numbers.
+same-places : (l : List ℕ) → map (placeOf 0) l ≡ l
+same-places [] = refl
+same-places (x ∷ l) = let e : placeOf 0 x ≡ x = omega arith in ap₂ _∷_ e (same-places l)
+
+pub own-places : (l : List Atom) → map (placedAtom 0) l ≡ l
+own-places [] = refl
+own-places (a ∷ l) = ap₂ (λ (w : List ℕ) (r : List Atom). record { name = a .name; count = a .count; links = w } ∷ r) (same-places (a .links)) (own-places l)
+
 -- As many atoms as there is room for.
 pub room-twice : (a b : List Atom) → roomFor (roomFor a ++ b) ≡ roomFor (a ++ b)
 room-twice a b = go (decLe (length a) (sheetAtoms + 1))
@@ -143,48 +155,97 @@ module _ (l : List ℕ) (n x : ℕ) (e : length l ≡ sheetLinks + 1) (h : n ≤
   size : length (take n l) ≡ n
   size = length-take-le n l (omega arith)
 
-  pub label-new : indexOf x (take n l) ≡ n → n < sheetLinks + 1 → take (n + 1) (set l n x) ≡ withLabel (take n l) x
+  label-new : indexOf x (take n l) ≡ n → n < sheetLinks + 1 → take (n + 1) (set l n x) ≡ withLabel (take n l) x
   unfolding withLabel
   label-new q k =
       let s = size in
       let new : isIn x (take n l) ≡ false = le-ltb (indexOf x (take n l)) (length (take n l)) (omega arith) in
       rw (add-one n) (take-suc-set l n x (omega arith) ∙ sym (ap (λ b. pick b (take n l) (take (sheetLinks + 1) (take n l ++ (x ∷ [])))) new ∙ take-all (sheetLinks + 1) (take n l ++ (x ∷ [])) (simp length-append (omega arith))))
 
-  pub label-full : indexOf x (take n l) ≡ n → sheetLinks + 1 ≤ n → take n l ≡ withLabel (take n l) x
+  label-full : indexOf x (take n l) ≡ n → sheetLinks + 1 ≤ n → take n l ≡ withLabel (take n l) x
   unfolding withLabel
   label-full q k =
       let s = size in
       let new : isIn x (take n l) ≡ false = le-ltb (indexOf x (take n l)) (length (take n l)) (omega arith) in
       sym (ap (λ b. pick b (take n l) (take (sheetLinks + 1) (take n l ++ (x ∷ [])))) new ∙ take-append-le (sheetLinks + 1) (take n l) (x ∷ []) (omega arith) ∙ take-all (sheetLinks + 1) (take n l) (omega arith))
 
-  pub label-old : (indexOf x (take n l) ≡ n → ⊥) → take n l ≡ withLabel (take n l) x
+  label-old : (indexOf x (take n l) ≡ n → ⊥) → take n l ≡ withLabel (take n l) x
   unfolding withLabel
   label-old q =
       let s = size in
       let old : isIn x (take n l) ≡ true = lt-ltb (indexOf x (take n l)) (length (take n l)) (omega (arith, index-below x n l, q)) in
       sym (ap (λ b. pick b (take n l) (take (sheetLinks + 1) (take n l ++ (x ∷ [])))) old)
 
-pub one-label : (l : List ℕ) (x : ℕ) → withLabels l (x ∷ []) ≡ withLabel l x
-unfolding withLabels
-one-label l x = refl
+  pub seen-new : indexOf x (take n l) ≡ n → n < sheetLinks + 1 → (b : List ℕ) (m : ℕ) → b ≡ set l n x → m ≡ n + 1 → Sees l n b m (x ∷ [])
+  unfolding withLabels
+  seen-new q k b m u v = record { labels = ap₂ take v u ∙ label-new q k; room = (omega arith, ap length u ∙ simp length-set e) }
 
-pub labels-next : (s links : List ℕ) (count k : ℕ) → count ≤ length links → k < count
-    → withLabels s (drop k (take count links)) ≡ withLabels (withLabels s (getD links k 0 ∷ [])) (drop (k + 1) (take count links))
-unfolding withLabels
-labels-next s links count k a h = rw (part-cons links count k 0 a h)
+  pub seen-full : indexOf x (take n l) ≡ n → sheetLinks + 1 ≤ n → (b : List ℕ) (m : ℕ) → b ≡ l → m ≡ n → Sees l n b m (x ∷ [])
+  unfolding withLabels
+  seen-full q k b m u v = record { labels = ap₂ take v u ∙ label-full q k; room = (omega arith, ap length u ∙ e) }
 
-pub labels-end : (s links : List ℕ) (count k : ℕ) → count ≤ k → withLabels s (drop k (take count links)) ≡ s
-unfolding withLabels
-labels-end s links count k h = rw (part-end links count k h)
+  pub seen-old : (indexOf x (take n l) ≡ n → ⊥) → (b : List ℕ) (m : ℕ) → b ≡ l → m ≡ n → Sees l n b m (x ∷ [])
+  unfolding withLabels
+  seen-old q b m u v = record { labels = ap₂ take v u ∙ label-old q; room = (omega arith, ap length u ∙ e) }
 
-pub links-next : (s : List ℕ) (atoms : List Atom) (count i : ℕ) (d : Atom) → count ≤ length atoms → i < count
-    → withLabels s (linksIn (drop i (take count atoms))) ≡ withLabels (withLabels s (take (getD atoms i d .count) (getD atoms i d .links))) (linksIn (drop (i + 1) (take count atoms)))
+  pub seen-number : (b : List ℕ) (m r : ℕ) → Sees l n b m (x ∷ []) → r ≡ indexOf x (take n l) → (later : List ℕ) → r + 1 ≡ numberIn (withLabels (take m b) later) x
+  unfolding withLabels
+  seen-number b m r s q later =
+      let z = size in
+      add-one r ∙ ap suc (q ∙ sym (ap (λ (t : List ℕ). indexOf x (withLabels t later)) (s .labels) ∙ label-kept (take n l) x (omega arith) later))
+
+-- Labels seen one after the other.
+pub sees-none : (known : List ℕ) (n : ℕ) → Known known n → Sees known n known n []
+unfolding withLabels
+sees-none known n h = record { labels = refl; room = h }
+
+pub sees-then : (a b c : List ℕ) (i j k : ℕ) (x y : List ℕ) → Sees a i b j x → Sees b j c k y → Sees a i c k (x ++ y)
+sees-then a b c i j k x y s t = record { labels = t .labels ∙ ap (λ (l : List ℕ). withLabels l y) (s .labels) ∙ sym (labels-append (take i a) x y); room = t .room }
+
+sees-later : (a b : List ℕ) (i j : ℕ) (x : List ℕ) → Sees a i b j x → (later : List ℕ) → withLabels (take i a) (x ++ later) ≡ withLabels (take j b) later
+sees-later a b i j x s later = labels-append (take i a) x later ∙ sym (ap (λ (l : List ℕ). withLabels l later) (s .labels))
+
+-- A place more has the number of its label.
+module _ (f : ℕ → ℕ) (l : List ℕ) (k : ℕ) (h : k < length l) (a b : List ℕ) (i j : ℕ) (s : Sees a i b j (f (getD l k 0) ∷ [])) where
+  pub places-next : (before : List ℕ) (n : ℕ) → Sees before n a i (map f (take k l)) → Sees before n b j (map f (take (k + 1) l))
+  places-next before n t = subst (Sees before n b j) (mapped-next f l k 0 h) (sees-then before a b n i j (map f (take k l)) (f (getD l k 0) ∷ []) t s)
+
+  pub numbers-next : (room : ℕ) (numbered : List ℕ) (x : ℕ) → k < room → ((later : List ℕ) → x ≡ numberIn (withLabels (take j b) later) (f (getD l k 0)))
+      → ((later : List ℕ) → numbered ≡ padded room 0 (map (λ p. numberIn (withLabels (take i a) later) (f p)) (take k l)))
+      → (later : List ℕ) → set numbered k x ≡ padded room 0 (map (λ p. numberIn (withLabels (take j b) later) (f p)) (take (k + 1) l))
+  numbers-next room numbered x q e inv later =
+      let known = withLabels (take j b) later in
+      let now : numbered ≡ padded room 0 (map (λ p. numberIn known (f p)) (take k l))
+      = inv (f (getD l k 0) ∷ later) ∙ ap (λ (t : List ℕ). padded room 0 (map (λ p. numberIn t (f p)) (take k l))) (sees-later a b i j (f (getD l k 0) ∷ []) s later) in
+      ap (set numbered k) (e later) ∙ stored-next room (λ p. numberIn known (f p)) l numbered k now h q
+
+-- The labels among an atom's links are those of its places.
+pub links-taken : (labels : List ℕ) (count : ℕ) (links : List ℕ) → count ≤ length links → take count (labelledLinks labels count links) ≡ labelsAt labels count links
+links-taken labels count links h = taken-padded mostLinks (labelsAt labels count links) count (length-map (take count links) (λ x. getD labels x 0) ∙ length-take-le count links h)
+
+-- An atom more.
+links-one : (l : List Atom) (a : Atom) → linksIn l ++ take (a .count) (a .links) ≡ linksIn (l ++ (a ∷ []))
 unfolding linksIn
-links-next s atoms count i d a h = rw (part-cons atoms count i d a h) (labels-append s (take (getD atoms i d .count) (getD atoms i d .links)) (linksIn (drop (i + 1) (take count atoms))))
+links-one [] a = sym (append-nil (take (a .count) (a .links)))
+links-one (b ∷ l) a = append-assoc (take (b .count) (b .links)) (linksIn l) (take (a .count) (a .links)) ∙ ap (λ (r : List ℕ). take (b .count) (b .links) ++ r) (links-one l a)
 
-pub links-end : (s : List ℕ) (atoms : List Atom) (count i : ℕ) → count ≤ i → withLabels s (linksIn (drop i (take count atoms))) ≡ s
-unfolding withLabels linksIn
-links-end s atoms count i h = rw (part-end atoms count i h)
+module _ (labels : List ℕ) (l : List Atom) (k : ℕ) (d x : Atom) (h : k < length l) (q : x ≡ getD l k d) (a b : List ℕ) (i j : ℕ) (s : Sees a i b j (take (x .count) (labelledLinks labels (x .count) (x .links)))) where
+  pub atoms-seen : (before : List ℕ) (n : ℕ) → Sees before n a i (linksIn (map (labelledAtom labels) (take k l))) → Sees before n b j (linksIn (map (labelledAtom labels) (take (k + 1) l)))
+  atoms-seen before n t =
+      let done = map (labelledAtom labels) (take k l) in
+      let e : linksIn done ++ take (x .count) (labelledLinks labels (x .count) (x .links)) ≡ linksIn (map (labelledAtom labels) (take (k + 1) l))
+      = links-one done (labelledAtom labels x) ∙ ap (λ (y : Atom). linksIn (done ++ (labelledAtom labels y ∷ []))) q ∙ ap linksIn (mapped-next (labelledAtom labels) l k d h) in
+      subst (Sees before n b j) e (sees-then before a b n i j (linksIn done) (take (x .count) (labelledLinks labels (x .count) (x .links))) t s)
+
+  pub atoms-numbered : (atoms : List Atom) (w : List ℕ) → ((later : List ℕ) → w ≡ numberedLinks (withLabels (take j b) later) (x .count) (labelledLinks labels (x .count) (x .links)))
+      → ((later : List ℕ) → atoms ≡ mapped (numberedAt (withLabels (take i a) later) labels) k l)
+      → (later : List ℕ) → set atoms k (record { name = x .name; count = x .count; links = w }) ≡ mapped (numberedAt (withLabels (take j b) later) labels) (k + 1) l
+  atoms-numbered atoms w e inv later =
+      let more = take (x .count) (labelledLinks labels (x .count) (x .links)) in
+      let f = numberedAt (withLabels (take j b) later) labels in
+      let now : atoms ≡ mapped f k l = inv (more ++ later) ∙ ap (λ (t : List ℕ). mapped (numberedAt t labels) k l) (sees-later a b i j more s later) in
+      ap (λ (t : List ℕ). set atoms k (record { name = x .name; count = x .count; links = t })) (e later)
+      ∙ ap₂ (λ (t : List Atom) (y : Atom). set t k (f y)) now q ∙ sym (stored-mapped f d l k h)
 
 -- Marks that are to be 1 to n.
 pub marks-next : (marks : List ℕ) (n k : ℕ) → n ≤ length marks → k < n → (b : Bool) → eqb (getD marks k 0) (k + 1) ≡ b

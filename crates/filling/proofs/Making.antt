@@ -2,10 +2,10 @@
 use Prim.Native.Nat.{ℕ, zero, suc, _+_, _<_, _≤_}
 use mathlib.Core.Path.{_≡_, ap, ap₂, sym, _∙_, subst}
 use mathlib.Core.Logic.{_⊎_, inl, inr}
-use mathlib.Core.List.{List, [], _∷_, _++_, map, List·Memᴰ·head, List·Memᴰ·tail, List·Memᴰ·not-nil, List·Memᴰ·append-cases, Memᴰ·of-map}
+use mathlib.Core.List.{List, [], _∷_, _++_, map, map-map, List·Memᴰ·head, List·Memᴰ·tail, List·Memᴰ·not-nil, List·Memᴰ·append-cases, Memᴰ·of-map}
 use native.Mathlib.Omega.{arith}
 use lib.ListN.{length, getD, take, drop, length-map, length-take}
-use lib.Seq.{take-append-seam}
+use lib.Seq.{take-append-seam, length-take-le}
 use Rattle.hyperlmntal.specs.Link.{_∈_}
 use Rattle.rows.specs.Format.{mostLinks}
 use Rattle.rows.specs.Limits.{sheetAtoms, figureContexts, sheetMarks}
@@ -16,18 +16,14 @@ use Rattle.sheet.specs.NormalRows.{pastAtoms}
 use Rattle.sheet.specs.declared.normal.Normal.{Normal}
 use Rattle.filling.specs.Parts.{partNormal, partRoom, places, Low}
 use Rattle.filling.specs.Glued.{placeOf, Own, Glues}
-use Rattle.filling.specs.Whole.{placedAtom, partAtoms, contextAtoms, placedAtoms, labelledAtom, roomFor, wholeAtoms, Puts}
-use Rattle.filling.specs.Classes.{seen, withLabels, Sees, linksIn, numberIn, numberedAtom, markLabels, labelsOf, shownAtoms, shownLabels, Numbered, Made}
+use Rattle.filling.specs.Whole.{placedAtom, Linked, partAtoms, contextAtoms, placedAtoms, labelledAtom, roomFor, wholeAtoms, Puts}
+use Rattle.filling.specs.Classes.{withLabels, Sees, linksIn, numberIn, numberedAtom, numberedAt, markLabels, shownAtoms, shownLabels, Made}
 use Rattle.filling.specs.declared.whole.Whole.{Whole}
-use Rattle.filling.specs.declared.classes.Classes.{Classes}
 use Rattle.filling.proofs.Parts.{list-any, taken-map, part-low}
 
--- An atom of a part, and one with the places of its links.
+-- An atom of a part.
 abbrev Small : Atom → Type 0
 Small a = (a .count ≤ mostLinks) × ((k : ℕ) → getD (a .links) k 0 < partRoom)
-
-abbrev pub Linked : Atom → Type 0
-Linked a = (a .count ≤ mostLinks) × ((k : ℕ) → getD (a .links) k 0 < places)
 
 small-taken : (n : ℕ) (l : List Atom) → ((i : ℕ) → Small (getD l i pastAtoms)) → (a : Atom) → a ∈ take n l → Small a
 small-taken zero l p a i = absurd (List·Memᴰ·not-nil i)
@@ -71,60 +67,43 @@ placed-linked list figure low =
     (taken-linked (sheetAtoms + 1) (placedAtoms list figure)
     (both-linked (partAtoms 0 figure) (contextAtoms list 1 contexts) (part-linked 0 (omega arith) figure low) (contexts-linked list 1 contexts (omega (arith, length-take (figure .«context_count») (figure .contexts), low .contexts)))))
 
--- With labels they have as many links.
-labelled-count : (labels : List ℕ) (l : List Atom) → ((i : ℕ) → getD l i pastAtoms .count ≤ mostLinks) → (i : ℕ) → getD (map (labelledAtom labels) l) i pastAtoms .count ≤ mostLinks
-labelled-count labels [] f i = omega arith
-labelled-count labels (x ∷ l) f zero = f 0
-labelled-count labels (x ∷ l) f (suc i) = labelled-count labels l (λ k. f (suc k)) i
-
--- What the steps of numbering come to.
-module _ (figure : Normal) (whole : Whole) (none first all : Classes) (labelled : List ℕ)
-    (size : length (wholeAtoms whole) ≡ whole .count) (N : seen none ≡ []) (A : Sees none first (linksIn (wholeAtoms whole))) (M : Sees first all (take (figure .«mark_count») labelled))
-    (every : length (seen all) ≡ all .count) where
-  seen-all : seen all ≡ labelsOf (wholeAtoms whole) (take (figure .«mark_count») labelled)
-  seen-all = M .labels ∙ ap (λ (l : List ℕ). withLabels l (take (figure .«mark_count») labelled)) (A .labels ∙ ap (λ (l : List ℕ). withLabels l (linksIn (wholeAtoms whole))) N)
-
-  pub numbered-made : (r : Normal) → r .atoms ≡ map (numberedAtom (seen all)) (wholeAtoms whole) ++ drop (whole .count) (whole .atoms) → r .«atom_count» ≡ whole .count → r .«context_count» ≡ 0
-      → r .marks ≡ figure .marks → r .marked ≡ padded (sheetMarks + 1) 0 (map (numberIn (seen all)) (take (figure .«mark_count») labelled)) → r .«mark_count» ≡ figure .«mark_count» → r .«class_count» ≡ all .count
-      → Numbered figure whole labelled r
-  numbered-made r a b c d e f g =
-      let rows = map (numberedAtom (seen all)) (wholeAtoms whole) in
-      let n : length rows ≡ whole .count = length-map (wholeAtoms whole) (numberedAtom (seen all)) ∙ size in
-      record {
-        atoms = ap₂ take (b ∙ sym n) a ∙ take-append-seam rows (drop (whole .count) (whole .atoms)) ∙ ap (λ (s : List ℕ). map (numberedAtom s) (wholeAtoms whole)) seen-all;
-        atomCount = b ∙ sym size;
-        contextCount = c;
-        marks = d;
-        marked = e ∙ ap (λ (s : List ℕ). padded (sheetMarks + 1) 0 (map (numberIn s) (take (figure .«mark_count») labelled))) seen-all;
-        markCount = f;
-        classCount = g ∙ sym every ∙ ap length seen-all;
-      }
-
--- With the atoms and the mark labels of the filled figure it is that figure.
-made : (list labels : List ℕ) (figure : Normal) (whole : Whole) (labelled : List ℕ) → wholeAtoms whole ≡ shownAtoms list labels figure → take (figure .«mark_count») labelled ≡ markLabels labels figure
-    → (r : Normal) → Numbered figure whole labelled r → Made list labels figure r
-made list labels figure whole labelled W K r n =
-    let e : labelsOf (wholeAtoms whole) (take (figure .«mark_count») labelled) ≡ shownLabels list labels figure = ap₂ labelsOf W K in
-    record {
-      atoms = n .atoms ∙ ap₂ (λ (s : List ℕ) (l : List Atom). map (numberedAtom s) l) e W;
-      atomCount = n .atomCount ∙ ap length W;
-      contextCount = n .contextCount;
-      marks = n .marks;
-      marked = n .marked ∙ ap₂ (λ (s l : List ℕ). padded (sheetMarks + 1) 0 (map (numberIn s) l)) e K;
-      markCount = n .markCount;
-      classCount = n .classCount ∙ ap length e;
-    }
-
 -- The figure and its fillings put together, with labels, and numbered.
 module _ (list : List ℕ) (figure : Normal) (own labels : List ℕ) (whole : Whole) (P : Puts list figure own labels whole) where
   pub put-linked : Low figure → (i : ℕ) → Linked (getD (wholeAtoms whole) i pastAtoms)
   put-linked low i = subst (λ (l : List Atom). Linked (getD l i pastAtoms)) (sym (P .atoms)) (placed-linked list figure low i)
 
-  module _ (tagged : Whole) (T : wholeAtoms tagged ≡ map (labelledAtom labels) (wholeAtoms whole)) where
-    pub tagged-count : Low figure → (i : ℕ) → getD (wholeAtoms tagged) i pastAtoms .count ≤ mostLinks
-    tagged-count low i = subst (λ (l : List Atom). getD l i pastAtoms .count ≤ mostLinks) (sym T) (labelled-count labels (wholeAtoms whole) (λ k. put-linked low k .0) i)
+  -- All labels that are known in the end are those of the atoms and marks in order.
+  module _ (none first all : List ℕ) (m n : ℕ) (A : Sees none 0 first m (linksIn (map (labelledAtom labels) (wholeAtoms whole)))) (M : Sees first m all n (markLabels labels figure)) where
+    all-shown : map (labelledAtom labels) (wholeAtoms whole) ≡ shownAtoms list labels figure
+    all-shown = ap (map (labelledAtom labels)) (P .atoms) ∙ sym (taken-map (labelledAtom labels) (sheetAtoms + 1) (placedAtoms list figure))
 
-    pub made-of : Own own → (labelled : List ℕ) → take (figure .«mark_count») labelled ≡ markLabels labels figure → (r : Normal) → Numbered figure tagged labelled r → (l : List ℕ) × (Glues list figure l × Made list l figure r)
-    made-of O labelled K r N =
-        let W : wholeAtoms tagged ≡ shownAtoms list labels figure = T ∙ ap (map (labelledAtom labels)) (P .atoms) ∙ sym (taken-map (labelledAtom labels) (sheetAtoms + 1) (placedAtoms list figure)) in
-        (labels, ((own, O, P .labels), made list labels figure tagged labelled W K r N))
+    in-order : withLabels (take m first) (markLabels labels figure) ≡ shownLabels list labels figure
+    in-order = ap (λ (l : List ℕ). withLabels l (markLabels labels figure)) (A .labels ∙ ap (λ (l : List Atom). withLabels [] (linksIn l)) all-shown)
+
+    known-shown : take n all ≡ shownLabels list labels figure
+    known-shown = M .labels ∙ in-order
+
+    pub made-of : Own own → length (wholeAtoms whole) ≡ whole .count
+        → (r : Normal) → ((later : List ℕ) → r .atoms ≡ map (numberedAt (withLabels (take m first) later) labels) (wholeAtoms whole) ++ drop (whole .count) (whole .atoms)) → r .«atom_count» ≡ whole .count
+        → r .«context_count» ≡ 0 → r .marks ≡ figure .marks → r .marked ≡ padded (sheetMarks + 1) 0 (map (numberIn (take n all)) (markLabels labels figure)) → r .«mark_count» ≡ figure .«mark_count» → r .«class_count» ≡ n
+        → (l : List ℕ) × (Glues list figure l × Made list l figure r)
+    made-of O size r a b c d e f g =
+        let s = withLabels (take m first) (markLabels labels figure) in
+        let rows = map (numberedAt s labels) (wholeAtoms whole) in
+        let k : length rows ≡ whole .count = length-map (wholeAtoms whole) (numberedAt s labels) ∙ size in
+        let few : n ≤ length all = omega (arith, M .room .0, M .room .1) in (
+          labels,
+          (
+            (own, O, P .labels),
+            record {
+              atoms = ap₂ take (b ∙ sym k) (a (markLabels labels figure)) ∙ take-append-seam rows (drop (whole .count) (whole .atoms))
+                  ∙ sym (map-map (numberedAtom s) (labelledAtom labels) (wholeAtoms whole)) ∙ ap₂ (λ (t : List ℕ) (l : List Atom). map (numberedAtom t) l) in-order all-shown;
+              atomCount = b ∙ sym size ∙ sym (length-map (wholeAtoms whole) (labelledAtom labels)) ∙ ap length all-shown;
+              contextCount = c;
+              marks = d;
+              marked = e ∙ ap (λ (t : List ℕ). padded (sheetMarks + 1) 0 (map (numberIn t) (markLabels labels figure))) known-shown;
+              markCount = f;
+              classCount = g ∙ sym (length-take-le n all few) ∙ ap length known-shown;
+            },
+          ),
+        )

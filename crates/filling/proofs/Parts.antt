@@ -9,7 +9,10 @@ use Rattle.hyperlmntal.specs.Hypergraph.{Node, inner, portNodes}
 use Rattle.rows.specs.Format.{mostLinks}
 use Rattle.rows.specs.Limits.{sheetAtoms, figureContexts, sheetMarks}
 use Rattle.rows.specs.Held.{Held}
-use Rattle.rows.specs.Packed.{padded, noAtom, noContext, packed}
+use Rattle.rows.specs.Packed.{padded, noAtom, noContext, portsOf, packed}
+use Rattle.rows.specs.declared.Context.{Context}
+use Rattle.rows.specs.declared.Sheet.{Sheet}
+use Rattle.rows.proofs.Padding.{length-padded}
 use Rattle.sheet.specs.Graph.{atomCell, contextCell, graphOf}
 use Rattle.sheet.specs.Agrees.{Agrees}
 use Rattle.sheet.specs.Normal.{classOf, markNode, marksOf, shown}
@@ -63,6 +66,25 @@ module _ (list : List ℕ) (number : ℕ) where
 
   pub part-numberable : Numberable (packed (withoutHeads (partHeld list number)))
   part-numberable = numberable-held Fillings (withoutHeads (partHeld list number)) part-within (part-agrees .labels)
+
+-- A sheet whose contexts are cleared.
+pub heads-gone : (s : Sheet) (c : Context) (h : Held) → c ≡ noContext → s ≡ packed h
+    → record {
+      atoms = s .atoms;
+      «atom_count» = s .«atom_count»;
+      contexts = replicate (figureContexts + 1) c;
+      «context_count» = 0;
+      ports = replicate 5 0;
+      links = s .links;
+      classes = s .classes;
+      «link_count» = s .«link_count»;
+      marks = s .marks;
+      marked = s .marked;
+      «mark_count» = s .«mark_count»;
+    }
+    ≡ packed (withoutHeads h)
+unfolding padded portsOf
+heads-gone s c h u e = rw (u, e)
 
 -- An array as P says, at every place and past its end.
 pub list-any : {A : Type 0} (P : A → Type 0) (d : A) (l : List A) → P d → ((a : A) → a ∈ l → P a) → (i : ℕ) → P (getD l i d)
@@ -138,3 +160,6 @@ counted kind h w =
 
 pub part-low : (list : List ℕ) (number : ℕ) → Low (partNormal list number)
 part-low list number = normal-low Fillings (withoutHeads (partHeld list number)) (part-within list number) (part-agrees list number)
+
+pub part-marks : (list : List ℕ) (number : ℕ) → length (partNormal list number .marks) ≡ sheetMarks + 1
+part-marks list number = length-padded (sheetMarks + 1) 0 (normalMarks (withoutHeads (partHeld list number))) (omega (arith, part-low list number .marks))

@@ -2,7 +2,7 @@
 use Prim.Native.Nat.{ℕ, suc, _+_, _≤_}
 use mathlib.Core.Path.{_≡_}
 use mathlib.Core.List.{List, [], _∷_, _++_, map}
-use lib.ListN.{length, take, getD}
+use lib.ListN.{length, take}
 use Rattle.rows.specs.Pick.{pick}
 use Rattle.rows.specs.Format.{mostLinks}
 use Rattle.rows.specs.Limits.{sheetLinks, sheetMarks}
@@ -10,12 +10,11 @@ use Rattle.rows.specs.Held.{indexOf, isIn}
 use Rattle.rows.specs.Packed.{padded}
 use Rattle.rows.specs.declared.Atom.{Atom}
 use Rattle.sheet.specs.declared.normal.Normal.{Normal}
-use Rattle.filling.specs.Whole.{allAtoms, roomFor, wholeAtoms}
-use Rattle.filling.specs.declared.whole.Whole.{Whole}
-use Rattle.filling.specs.declared.classes.Classes.{Classes}
+use Rattle.filling.specs.Whole.{labelsAt, labelledAtom, allAtoms, roomFor}
 
-abbrev pub seen : Classes → List ℕ
-seen c = take (c .count) (c .labels)
+-- a table with room for one label more than a sheet has links, and how many labels are in it
+abbrev pub Known : List ℕ → ℕ → Type 0
+Known known n = (n ≤ sheetLinks + 1) × (length known ≡ sheetLinks + 1)
 
 -- a label that is new comes last, where there is room
 unfoldable pub withLabel : List ℕ → ℕ → List ℕ
@@ -25,10 +24,10 @@ unfoldable pub withLabels : List ℕ → List ℕ → List ℕ
 withLabels l [] = l
 withLabels l (x ∷ more) = withLabels (withLabel l x) more
 
--- r has what c has, and these labels
-pub record Sees (c r : Classes) (more : List ℕ) : Type 0 where
-  pub labels : seen r ≡ withLabels (seen c) more
-  pub few : r .count ≤ sheetLinks + 1
+-- the m labels of after are the n labels of before, and these
+pub record Sees (before : List ℕ) (n : ℕ) (after : List ℕ) (m : ℕ) (more : List ℕ) : Type 0 where
+  pub labels : take m after ≡ withLabels (take n before) more
+  pub room : Known after m
 
 -- the links of atoms, in order
 unfoldable pub linksIn : List Atom → List ℕ
@@ -45,9 +44,13 @@ numberedLinks labels count links = padded mostLinks 0 (map (numberIn labels) (ta
 abbrev pub numberedAtom : List ℕ → Atom → Atom
 numberedAtom labels a = record { name = a .name; count = a .count; links = numberedLinks labels (a .count) (a .links) }
 
+-- an atom with places as its links, with the numbers of their labels
+abbrev pub numberedAt : List ℕ → List ℕ → Atom → Atom
+numberedAt known labels a = numberedAtom known (labelledAtom labels a)
+
 -- the labels of the figure's marks
 abbrev pub markLabels : List ℕ → Normal → List ℕ
-markLabels labels figure = map (λ x. getD labels x 0) (take (figure .«mark_count») (figure .marked))
+markLabels labels figure = labelsAt labels (figure .«mark_count») (figure .marked)
 
 -- atoms and labels of the filled figure
 abbrev pub shownAtoms : List ℕ → List ℕ → Normal → List Atom
@@ -59,16 +62,6 @@ labelsOf atoms marks = withLabels (withLabels [] (linksIn atoms)) marks
 
 abbrev pub shownLabels : List ℕ → List ℕ → Normal → List ℕ
 shownLabels list labels figure = labelsOf (shownAtoms list labels figure) (markLabels labels figure)
-
--- r has these atoms and the figure's marks, of which these are the labels, with their numbers
-pub record Numbered (figure : Normal) (whole : Whole) (labelled : List ℕ) (r : Normal) : Type 0 where
-  pub atoms : take (r .«atom_count») (r .atoms) ≡ map (numberedAtom (labelsOf (wholeAtoms whole) (take (figure .«mark_count») labelled))) (wholeAtoms whole)
-  pub atomCount : r .«atom_count» ≡ length (wholeAtoms whole)
-  pub contextCount : r .«context_count» ≡ 0
-  pub marks : r .marks ≡ figure .marks
-  pub marked : r .marked ≡ padded (sheetMarks + 1) 0 (map (numberIn (labelsOf (wholeAtoms whole) (take (figure .«mark_count») labelled))) (take (figure .«mark_count») labelled))
-  pub markCount : r .«mark_count» ≡ figure .«mark_count»
-  pub classCount : r .«class_count» ≡ length (labelsOf (wholeAtoms whole) (take (figure .«mark_count») labelled))
 
 -- r is the figure filled from the list, where these are the labels of its classes
 pub record Made (list labels : List ℕ) (figure r : Normal) : Type 0 where

@@ -25,9 +25,13 @@ withoutHeads h = record { rows = h .rows; atoms = h .atoms; contexts = []; fusio
 abbrev pub partNormal : List ℕ → ℕ → Normal
 partNormal list number = packedNormal (withoutHeads (partHeld list number))
 
+-- its marks
+abbrev pub partMarks : List ℕ → ℕ → List ℕ
+partMarks list number = take (partNormal list number .«mark_count») (partNormal list number .marks)
+
 -- the marks of the filling of this number are 1 to n
 abbrev pub exactTo : List ℕ → ℕ → ℕ → Bool
-exactTo list number n = sameList (take (partNormal list number .«mark_count») (partNormal list number .marks)) (numbersTo n)
+exactTo list number n = sameList (partMarks list number) (numbersTo n)
 
 -- a table that has, of some numbers, the n to which their fillings' marks go, and 1
 abbrev pub Exacts : List ℕ → List ℕ → Type 0

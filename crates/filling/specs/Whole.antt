@@ -1,5 +1,5 @@
 -- The atoms of a filled figure, with the places of their links and with their labels.
-use Prim.Native.Nat.{ℕ, _+_, _≤_}
+use Prim.Native.Nat.{ℕ, _+_, _<_, _≤_}
 use mathlib.Core.Path.{_≡_}
 use mathlib.Core.List.{List, [], _∷_, _++_, map}
 use lib.ListN.{take, getD}
@@ -9,13 +9,17 @@ use Rattle.rows.specs.Packed.{padded}
 use Rattle.rows.specs.declared.Atom.{Atom}
 use Rattle.rows.specs.declared.Context.{Context}
 use Rattle.sheet.specs.declared.normal.Normal.{Normal}
-use Rattle.filling.specs.Parts.{partNormal}
+use Rattle.filling.specs.Parts.{partNormal, places}
 use Rattle.filling.specs.Glued.{placeOf, joinedAll, allPairs}
 use Rattle.filling.specs.declared.whole.Whole.{Whole}
 
 -- an atom of part p, with the places of its links
 abbrev pub placedAtom : ℕ → Atom → Atom
 placedAtom p a = record { name = a .name; count = a .count; links = map (placeOf p) (a .links) }
+
+-- an atom whose links are places
+abbrev pub Linked : Atom → Type 0
+Linked a = (a .count ≤ mostLinks) × ((k : ℕ) → getD (a .links) k 0 < places)
 
 -- the atoms of part p
 abbrev pub partAtoms : ℕ → Normal → List Atom
@@ -31,8 +35,11 @@ abbrev pub placedAtoms : List ℕ → Normal → List Atom
 placedAtoms list figure = partAtoms 0 figure ++ contextAtoms list 1 (take (figure .«context_count») (figure .contexts))
 
 -- the labels of the first so many of these places
+abbrev pub labelsAt : List ℕ → ℕ → List ℕ → List ℕ
+labelsAt labels count l = map (λ x. getD labels x 0) (take count l)
+
 abbrev pub labelledLinks : List ℕ → ℕ → List ℕ → List ℕ
-labelledLinks labels count links = padded mostLinks 0 (map (λ x. getD labels x 0) (take count links))
+labelledLinks labels count links = padded mostLinks 0 (labelsAt labels count links)
 
 abbrev pub labelledAtom : List ℕ → Atom → Atom
 labelledAtom labels a = record { name = a .name; count = a .count; links = labelledLinks labels (a .count) (a .links) }

@@ -1,4 +1,5 @@
 // One filling of a list, and the refusals over whole texts.
+use rows::Context;
 use rows::Sheet;
 use sheet::filling::filling_in;
 use sheet::normal::Normal;
@@ -6,51 +7,42 @@ use sheet::normal::normal_of;
 use sheet::read::read_list;
 ghost use mathlib.Core.Path.{_≡_};
 ghost use mathlib.Core.List.{List};
-ghost use Prim.Native.Nat.{ℕ, _<_, _≤_};
-ghost use lib.ListN.{take};
+ghost use Prim.Native.Nat.{ℕ, _+_, _<_, _≤_};
+ghost use lib.ListN.{length, take};
 ghost use Rattle.rows.specs.Format.{mostLinks};
 ghost use Rattle.rows.specs.Limits.{sheetMarks};
-ghost use Rattle.rows.specs.Held.{Held};
-ghost use Rattle.rows.specs.Packed.{packed};
 ghost use Rattle.sheet.specs.Filling.{Passes};
 ghost use Rattle.placing.specs.Smallest.{sameList, numbersTo};
 ghost use Rattle.filling.specs.Fill.{firstDiffering};
-ghost use Rattle.filling.specs.Parts.{withoutHeads, partNormal, exactTo, Exacts, firstUnported, Counted};
+ghost use Rattle.filling.specs.Parts.{partNormal, partMarks, exactTo, Exacts, firstUnported, Counted};
 
-// The rows of a filling without its head.
-fn without_heads(mut sheet: Sheet) -> Sheet
-    ensures { λ r. ⌜ ((h : Held) → sheet ≡ packed h → r ≡ packed (withoutHeads h)) ⌝ }
-{
-    let none = Sheet::empty();
-    let contexts = none.contexts;
-    let ports = none.ports;
-    sheet.contexts = contexts;
-    sheet.context_count = 0;
-    sheet.ports = ports;
-    sheet
-}
-
-// The normal form of the filling of this number.
+// The normal form of the filling of this number, which is read without its head.
 pub(crate) fn part_of(list: &[u8], number: u16) -> Normal
     requires { ⌜ Passes (now list) ⌝ }
     ensures { λ r. ⌜ r ≡ partNormal (now (list .entry)) number ⌝ }
 {
     let reading = read_list(filling_in(list, number));
-    let sheet = reading.sheet;
-    normal_of(without_heads(sheet))
+    let context = Context::none();
+    let contexts = [context; Sheet::CONTEXT_ROOM];
+    let ports = [0u16; Sheet::NUMBERS];
+    let mut sheet = reading.sheet;
+    sheet.contexts = contexts;
+    sheet.context_count = 0;
+    sheet.ports = ports;
+    normal_of(sheet)
 }
 
-// Whether the marks, which ascend, are exactly 1 to n.
-fn marks_exact(part: Normal, n: u16) -> bool
-    requires { ⌜ part .«mark_count» ≤ sheetMarks ⌝ }
-    ensures { λ r. ⌜ r ≡ sameList (take (part .«mark_count») (part .marks)) (numbersTo n) ⌝ }
+// Whether the first `count` marks, which ascend, are exactly 1 to n.
+fn marks_exact(marks: &[u16; Sheet::MARK_ROOM], count: usize, n: u16) -> bool
+    requires { ⌜ (count ≤ sheetMarks) × (length (now marks) ≡ sheetMarks + 1) ⌝ }
+    ensures { λ r. ⌜ r ≡ sameList (take count (now (marks .entry))) (numbersTo n) ⌝ }
 {
-    if part.mark_count != n as usize {
+    if count != n as usize {
         return false;
     }
     let mut k: u16 = 0;
     while k < n {
-        if part.marks[k as usize] != k + 1 {
+        if marks[k as usize] != k + 1 {
             return false;
         }
         k += 1;
@@ -58,12 +50,18 @@ fn marks_exact(part: Normal, n: u16) -> bool
     true
 }
 
-// Notes of a number that the marks of its filling, which is this part, are exactly its ports.
-pub(crate) fn note_exact(exact: &mut [u16; Sheet::NUMBERS], part: Normal, number: u16, n: u16)
-    requires { ⌜ (part .«mark_count» ≤ sheetMarks) × (number < 5) × (n ≤ mostLinks) ⌝ }
-    ensures { λ _. ⌜ ((list : List ℕ) → part ≡ partNormal list number → Exacts list (now (exact .entry)) → Exacts list (now (exact .exit))) ⌝ }
+// Notes of a number that the marks of its filling, which are these, are exactly its ports.
+pub(crate) fn note_exact(
+    exact: &mut [u16; Sheet::NUMBERS],
+    marks: &[u16; Sheet::MARK_ROOM],
+    count: usize,
+    number: u16,
+    n: u16,
+)
+    requires { ⌜ (count ≤ sheetMarks) × (length (now marks) ≡ sheetMarks + 1) × (number < 5) × (n ≤ mostLinks) ⌝ }
+    ensures { λ _. ⌜ ((list : List ℕ) → take count (now (marks .entry)) ≡ partMarks list number → Exacts list (now (exact .entry)) → Exacts list (now (exact .exit))) ⌝ }
 {
-    if marks_exact(part, n) {
+    if marks_exact(marks, count, n) {
         exact[number as usize] = n + 1;
     }
 }
@@ -76,7 +74,8 @@ fn is_exact(list: &[u8], exact: &[u16; Sheet::NUMBERS], number: u16, n: u16) -> 
     if exact[number as usize] == n + 1 {
         return true;
     }
-    marks_exact(part_of(list, number), n)
+    let part = part_of(list, number);
+    marks_exact(&part.marks, part.mark_count, n)
 }
 
 // 8 over whole texts: the row of the first context without a filling of its number and count, or 0.

@@ -1,4 +1,4 @@
-// The atoms of a filled figure, first with the places of their link classes, then with their labels.
+// The atoms of a filled figure, with the places of their link classes.
 use crate::glue::PART;
 use crate::glue::PLACES;
 use crate::glue::with_ports;
@@ -8,16 +8,15 @@ use rows::Atom;
 use rows::Sheet;
 use sheet::normal::Normal;
 ghost use mathlib.Core.Path.{_≡_};
-ghost use mathlib.Core.List.{[], map};
+ghost use mathlib.Core.List.{map};
 ghost use Prim.Native.Nat.{ℕ, _+_, _≤_, _<_};
-ghost use lib.ListN.{length, getD};
-ghost use Rattle.rows.specs.Format.{mostLinks};
+ghost use lib.ListN.{length, take, getD};
 ghost use Rattle.rows.specs.Limits.{sheetAtoms, figureContexts};
 ghost use Rattle.sheet.specs.Filling.{Passes};
 ghost use Rattle.sheet.specs.NormalRows.{pastAtoms};
 ghost use Rattle.filling.specs.Parts.{partRoom, places, Low, Exacts};
 ghost use Rattle.filling.specs.Glued.{placeOf};
-ghost use Rattle.filling.specs.Whole.{labelledLinks, labelledAtom, partAtoms, wholeAtoms, Grown, Puts};
+ghost use Rattle.filling.specs.Whole.{placedAtom, Grown, Puts};
 
 // As many atoms as a sheet has room for: one more than its limit says that there are too many.
 pub(crate) struct Whole {
@@ -39,86 +38,34 @@ fn placed(p: usize, links: [u16; Sheet::MOST_LINKS]) -> [u16; Sheet::MOST_LINKS]
     more
 }
 
-// The labels of the first `count` of these places.
-fn labelled(
-    labels: &[u16; PLACES],
-    links: [u16; Sheet::MOST_LINKS],
-    count: usize,
-) -> [u16; Sheet::MOST_LINKS]
-    requires { ⌜ (count ≤ mostLinks) × ((k : ℕ) → getD links k 0 < places) ⌝ }
-    ensures { λ r. ⌜ r ≡ labelledLinks (now (labels .entry)) count links ⌝ }
-{
-    let mut more = [0u16; Sheet::MOST_LINKS];
-    let mut k = 0;
-    while k < count {
-        more[k] = labels[links[k] as usize];
-        k += 1;
-    }
-    more
-}
-
 impl Whole {
-    fn none() -> Self
-        ensures { λ r. ⌜ (wholeAtoms r ≡ []) × (r .count ≡ 0) ⌝ }
+    // The first `count` atoms of part p, as many as there is room for.
+    fn with_part(mut self, p: usize, atoms: [Atom; Sheet::ATOM_ROOM], count: usize) -> Self
+        requires { ⌜ (self .count ≤ sheetAtoms + 1) × (p ≤ figureContexts) × (count ≤ sheetAtoms) × ((i k : ℕ) → getD (getD atoms i pastAtoms .links) k 0 < partRoom) ⌝ }
+        ensures { λ r. ⌜ Grown self r (map (placedAtom p) (take count atoms)) ⌝ }
     {
-        let none = Sheet::empty();
-        let atoms = none.atoms;
-        Whole { atoms, count: 0 }
-    }
-
-    // The atoms of part p, as many as there is room for.
-    fn with_part(self, p: usize, part: Normal) -> Self
-        requires { ⌜ (self .count ≤ sheetAtoms + 1) × (p ≤ figureContexts) × Low part ⌝ }
-        ensures { λ r. ⌜ Grown self r (partAtoms p part) ⌝ }
-    {
-        let mut whole = self;
         let mut i = 0;
-        while i < part.atom_count {
-            let atom = part.atoms[i];
+        while i < count {
+            let atom = atoms[i];
             let before = atom.links;
             let links = placed(p, before);
-            let n = whole.count;
+            let n = self.count;
             if n < Sheet::ATOM_ROOM {
-                whole.atoms[n] = Atom {
+                self.atoms[n] = Atom {
                     name: atom.name,
                     count: atom.count,
                     links,
                 };
-                whole.count = n + 1;
+                self.count = n + 1;
             }
             i += 1;
         }
-        whole
-    }
-
-    // Each place made the label that it has.
-    pub(crate) fn labelled(self, labels: &[u16; PLACES]) -> Self
-        requires { ⌜ (self .count ≤ sheetAtoms + 1) × ((i : ℕ) → getD (wholeAtoms self) i pastAtoms .count ≤ mostLinks) ⌝ }
-        requires { ⌜ ((i k : ℕ) → getD (getD (wholeAtoms self) i pastAtoms .links) k 0 < places) ⌝ }
-        ensures { λ r. ⌜ (wholeAtoms r ≡ map (labelledAtom (now (labels .entry))) (wholeAtoms self)) × (r .count ≡ self .count) ⌝ }
-    {
-        let mut atoms = self.atoms;
-        let mut i = 0;
-        while i < self.count {
-            let atom = self.atoms[i];
-            let before = atom.links;
-            let links = labelled(labels, before, atom.count as usize);
-            atoms[i] = Atom {
-                name: atom.name,
-                count: atom.count,
-                links,
-            };
-            i += 1;
-        }
-        Whole {
-            atoms,
-            count: self.count,
-        }
+        self
     }
 }
 
-// The figure's atoms, then for each context in order its filling's; each filling is read once, and its
-// ports make labels one.
+// The figure's atoms, whose link classes are their own places, then for each context in order its
+// filling's; each filling is read once, and its ports make labels one.
 pub(crate) fn whole_of(
     figure: Normal,
     list: &[u8],
@@ -129,7 +76,11 @@ pub(crate) fn whole_of(
     ensures { λ _. ⌜ Exacts (now (list .entry)) (now (exact .exit)) ⌝ }
     ensures { λ r. ⌜ Puts (now (list .entry)) figure (now (labels .entry)) (now (labels .exit)) r ⌝ }
 {
-    let mut whole = Whole::none().with_part(0, figure);
+    let own = figure.atoms;
+    let mut whole = Whole {
+        atoms: own,
+        count: figure.atom_count,
+    };
     let mut i = 0;
     while i < figure.context_count {
         let context = figure.contexts[i];
@@ -137,8 +88,15 @@ pub(crate) fn whole_of(
         let part = part_of(list, context.number);
         let marked = part.marked;
         with_ports(&mut *labels, i + 1, links, context.count as usize, marked);
-        note_exact(&mut *exact, part, context.number, context.count);
-        whole = whole.with_part(i + 1, part);
+        note_exact(
+            &mut *exact,
+            &part.marks,
+            part.mark_count,
+            context.number,
+            context.count,
+        );
+        let atoms = part.atoms;
+        whole = whole.with_part(i + 1, atoms, part.atom_count);
         i += 1;
     }
     whole

@@ -1,7 +1,8 @@
--- The atoms and labels of the filled figure, numbered.
+-- The atoms and marks of the filled figure, with the numbers of their labels.
 use borrow.Author.Needs.{needs}
 use native.Mathlib.Omega.{arith}
-use Rattle.filling.proofs.Making.{put-linked, tagged-count, made-of}
+use mathlib.Core.Path.{refl}
+use Rattle.filling.proofs.Making.{put-linked, made-of}
 use Rattle.filling.proofs.filled.filled.Statement.{statement}
 use Rattle.filling.proofs.filled.filled.Tie as tie
 
@@ -13,29 +14,37 @@ whole-of-requires c κs = let o = c .before .before in
     let s = o .before .before in
     (s .pre .0, s .pre .1, o .own-labels .ensures .size, s .pre .2)
 
-mark-labels-requires : tie.Need-mark-labels-requires
-mark-labels-requires c κs = c .before .before .before .before .before .before .pre .0
+slice-aggregate-numbered-atoms : tie.Need-slice-aggregate-numbered-atoms
+slice-aggregate-numbered-atoms c = search needs
 
-labelled-requires : tie.Need-labelled-requires
-labelled-requires c κs = let w = c .before .before .before in
+numbered-atoms-requires : tie.Need-numbered-atoms-requires
+numbered-atoms-requires c κs = let w = c .before .before .before .before in
     let s = w .before .before .before .before .before in
     let P = w .whole-of .ensures .1 in
-    let k = put-linked (s .args .list .now) (s .args .figure) _ _ (w .whole-of .result) P (s .pre .0) in
-    ((P .few, λ i. k i .0), λ i j. k i .1 j)
+    ((search needs, search needs), P .few, put-linked (s .args .list .now) (s .args .figure) _ _ (w .whole-of .result) P (s .pre .0))
 
-numbered-requires : tie.Need-numbered-requires
-numbered-requires c κs = let w = c .before .before .before .before in
+slice-aggregate-numbered-marks : tie.Need-slice-aggregate-numbered-marks
+slice-aggregate-numbered-marks c = search needs
+
+numbered-marks-requires : tie.Need-numbered-marks-requires
+numbered-marks-requires c κs = let t = c .before .before .before .before .before in
+    let w = t .before .before .before .before .before in
     let s = w .before .before .before .before .before in
-    let P = w .whole-of .ensures .1 in
-    (s .pre .0 .marks, omega (arith, c .labelled .ensures .1, P .few), tagged-count (s .args .list .now) (s .args .figure) _ _ (w .whole-of .result) P (c .labelled .result) (c .labelled .ensures .0) (s .pre .0))
+    (t .numbered-atoms .ensures .0 .room, s .pre .0 .marks, λ k. omega (arith, s .pre .0 .marked k))
+
+none-requires : tie.Need-none-requires
+none-requires c κs = search needs
 
 returns : tie.Need-returns
-returns c = let t = c .before in
-    let k = t .before .before in
-    let w = k .before .before in
+returns c = let k = c .before .before .before in
+    let t = k .before .before .before .before .before .before in
+    let w = t .before .before .before .before .before in
     let o = w .before .before .before in
-    let s = o .before .before in
-    (w .whole-of .ensures .0, made-of (s .args .list .now) (s .args .figure) _ _ (w .whole-of .result) (w .whole-of .ensures .1) (t .labelled .result) (t .labelled .ensures .0) (o .own-labels .ensures) (k .mark-labels .result) (k .mark-labels .ensures) (c .numbered .result) (c .numbered .ensures))
+    let s = o .before .before in (
+      w .whole-of .ensures .0,
+      made-of (s .args .list .now) (s .args .figure) _ _ (w .whole-of .result) (w .whole-of .ensures .1) _ (t .numbered-atoms .last .1 .0) (k .numbered-marks .last .1 .0) (t .numbered-atoms .last .1 .1 .0) (k .numbered-marks .last .1 .1 .0)
+          (t .numbered-atoms .ensures .0) (k .numbered-marks .ensures .0) (o .own-labels .ensures) (t .numbered-atoms .ensures .1 .1) _ (t .numbered-atoms .ensures .1 .0) refl refl refl (k .numbered-marks .ensures .1) refl refl,
+    )
 
 pub filled-spec : {M : Type 1} → statement M
 filled-spec =
@@ -43,7 +52,9 @@ filled-spec =
     (tie.spec
     own-labels-requires
     whole-of-requires
-    mark-labels-requires
-    labelled-requires
-    numbered-requires
+    slice-aggregate-numbered-atoms
+    numbered-atoms-requires
+    slice-aggregate-numbered-marks
+    numbered-marks-requires
+    none-requires
     returns)

@@ -28,11 +28,12 @@ part-of-requires : tie.Need-part-of-requires
 part-of-requires c κs = search needs
 
 marks-exact-requires : tie.Need-marks-exact-requires
-marks-exact-requires c κs = let a = c .before .before .before .before .args in
-    subst (λ (n : Normal). n .«mark_count» ≤ sheetMarks) (sym (c .part-of .ensures)) (part-low (a .list .now) (a .number) .marks)
+marks-exact-requires c κs = let p = c .before .before in
+    let a = p .before .before .before .before .args in
+    (subst (λ (n : Normal). n .«mark_count» ≤ sheetMarks) (sym (p .part-of .ensures)) (part-low (a .list .now) (a .number) .marks), search needs)
 
 returns-2 : tie.Need-returns-2
-returns-2 c = let p = c .before in
+returns-2 c = let p = c .before .before .before in
     let a = p .before .before .before .before .args in
     c .marks-exact .ensures ∙ ap (λ (n : Normal). sameList (take (n .«mark_count») (n .marks)) (numbersTo (a .n))) (p .part-of .ensures)
 

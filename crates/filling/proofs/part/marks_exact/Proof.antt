@@ -13,20 +13,19 @@ use Rattle.filling.proofs.part.marks_exact.Statement.{statement}
 use Rattle.filling.proofs.part.marks_exact.Tie as tie
 
 abbrev Inv-loop : tie.InvT-loop
-Inv-loop n part k₀ k = (k ≤ n) × (part .«mark_count» ≡ n) × (length (part .marks) ≡ sheetMarks + 1) × (sameList (drop k (take n (part .marks))) (numbersFrom (k + 1) (n - k)) ≡ sameList (take n (part .marks)) (numbersTo n))
+Inv-loop marks count n k₀ k = (k ≤ n) × (count ≡ n) × (length marks ≡ sheetMarks + 1) × (sameList (drop k (take n marks)) (numbersFrom (k + 1) (n - k)) ≡ sameList (take n marks) (numbersTo n))
 
 abbrev μ-loop : tie.MeasureT-loop
-μ-loop n part k₀ k = n - k
+μ-loop marks count n k₀ k = n - k
 
 returns : tie.Need-returns Inv-loop μ-loop
 returns c = let s = c .before in
     let a = s .args in
-    let e : length (a .t1 .marks) ≡ sheetMarks + 1 = search needs in
-    sym (marks-other (a .t1 .marks) (a .t1 .«mark_count») (a .n) (omega (arith, s .pre)) (c .if1 .taken))
+    sym (marks-other (a .marks .now) (a .count) (a .n) (omega (arith, s .pre .0, s .pre .1)) (c .if1 .taken))
 
 loop-holds : tie.Need-loop-holds Inv-loop μ-loop
 loop-holds c = let a = c .before .args in
-    (search needs, c .if1 .left, search needs, ap (λ m. sameList (take (a .n) (a .t1 .marks)) (numbersFrom 1 m)) (let z : a .n - 0 ≡ a .n = omega arith in z))
+    (search needs, c .if1 .left, c .before .pre .1, ap (λ m. sameList (take (a .n) (a .marks .now)) (numbersFrom 1 m)) (let z : a .n - 0 ≡ a .n = omega arith in z))
 
 cast-if2 : tie.Need-cast-if2 Inv-loop μ-loop
 cast-if2 c = search needs
@@ -44,8 +43,8 @@ returns-2 : tie.Need-returns-2 Inv-loop μ-loop
 returns-2 c = let l = c .before .before .before in
     let s = l .before .before in
     let a = s .args in
-    sym (marks-next (a .t1 .marks) (a .n) (l .loop .k) (omega (arith, l .loop .inv .1, l .loop .inv .2, s .pre)) (c .before .before .loop-test .taken) false (ne-eqb (getD (a .t1 .marks) (l .loop .k) 0) (l .loop .k + 1) (c .if2 .taken)))
-    ∙ l .loop .inv .3 ∙ ap (λ m. sameList (take m (a .t1 .marks)) (numbersTo (a .n))) (sym (l .loop .inv .1))
+    sym (marks-next (a .marks .now) (a .n) (l .loop .k) (omega (arith, l .loop .inv .1, l .loop .inv .2, s .pre .0)) (c .before .before .loop-test .taken) false (ne-eqb (getD (a .marks .now) (l .loop .k) 0) (l .loop .k + 1) (c .if2 .taken)))
+    ∙ l .loop .inv .3 ∙ ap (λ m. sameList (take m (a .marks .now)) (numbersTo (a .n))) (sym (l .loop .inv .1))
 
 add-k : tie.Need-add-k Inv-loop μ-loop
 add-k c = search needs
@@ -60,14 +59,14 @@ loop-again c = let l = c .before .before .before in
       search needs,
       l .loop .inv .1,
       l .loop .inv .2,
-      sym (marks-next (a .t1 .marks) (a .n) (l .loop .k) (omega (arith, l .loop .inv .1, l .loop .inv .2, s .pre)) (c .before .before .loop-test .taken) true (eq-eqb (getD (a .t1 .marks) (l .loop .k) 0) (l .loop .k + 1) (c .if2 .left)))
+      sym (marks-next (a .marks .now) (a .n) (l .loop .k) (omega (arith, l .loop .inv .1, l .loop .inv .2, s .pre .0)) (c .before .before .loop-test .taken) true (eq-eqb (getD (a .marks .now) (l .loop .k) 0) (l .loop .k + 1) (c .if2 .left)))
           ∙ l .loop .inv .3,
     )
 
 returns-3 : tie.Need-returns-3 Inv-loop μ-loop
 returns-3 c = let l = c .before in
     let a = l .before .before .args in
-    sym (marks-end (a .t1 .marks) (a .n) (l .loop .k) (c .loop-test .left)) ∙ l .loop .inv .3 ∙ ap (λ m. sameList (take m (a .t1 .marks)) (numbersTo (a .n))) (sym (l .loop .inv .1))
+    sym (marks-end (a .marks .now) (a .n) (l .loop .k) (c .loop-test .left)) ∙ l .loop .inv .3 ∙ ap (λ m. sameList (take m (a .marks .now)) (numbersTo (a .n))) (sym (l .loop .inv .1))
 
 pub marks-exact-spec : {M : Type 1} → statement M
 marks-exact-spec =

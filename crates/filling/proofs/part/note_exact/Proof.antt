@@ -1,8 +1,8 @@
 -- Where the marks are exact that is noted.
 use borrow.Author.Needs.{needs}
+use Prim.Native.Nat.{ℕ}
 use mathlib.Core.Path.{sym, _∙_, ap}
-use lib.ListN.{take}
-use Rattle.sheet.specs.declared.normal.Normal.{Normal}
+use mathlib.Core.List.{List}
 use Rattle.placing.specs.Smallest.{sameList, numbersTo}
 use Rattle.filling.proofs.Loops.{exacts-next}
 use Rattle.filling.proofs.part.note_exact.Statement.{statement}
@@ -23,7 +23,7 @@ element-write-exact c = search needs
 returns : tie.Need-returns
 returns c = let m = c .before in
     let a = m .before .args in
-    λ list e old. exacts-next list (a .exact .now) (a .number) (a .n) (ap (λ (p : Normal). sameList (take (p .«mark_count») (p .marks)) (numbersTo (a .n))) (sym e) ∙ sym (m .marks-exact .ensures) ∙ c .if1 .taken) old
+    λ list e old. exacts-next list (a .exact .now) (a .number) (a .n) (ap (λ (l : List ℕ). sameList l (numbersTo (a .n))) (sym e) ∙ sym (m .marks-exact .ensures) ∙ c .if1 .taken) old
 
 returns-2 : tie.Need-returns-2
 returns-2 c = λ list e old. old

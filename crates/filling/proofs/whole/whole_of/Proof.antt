@@ -13,9 +13,9 @@ use Rattle.numbering.proofs.Turns.{unmapped}
 use Rattle.filling.specs.Parts.{partNormal, partRoom, places, Low, Exacts}
 use Rattle.filling.specs.Glued.{joinedAll, portPairs, allPairs}
 use Rattle.filling.specs.Whole.{partAtoms, contextAtoms, roomFor, wholeAtoms}
-use Rattle.filling.proofs.Parts.{part-low}
+use Rattle.filling.proofs.Parts.{part-low, part-marks}
 use Rattle.filling.proofs.Join.{all-length}
-use Rattle.filling.proofs.Loops.{pairs-next, pairs-end, room-twice, room-all, atoms-next, atoms-end}
+use Rattle.filling.proofs.Loops.{pairs-next, pairs-end, room-twice, room-all, atoms-next, atoms-end, own-places}
 use Rattle.filling.proofs.whole.whole_of.Statement.{statement}
 use Rattle.filling.proofs.whole.whole_of.Tie as tie
 
@@ -28,23 +28,18 @@ Inv-loop list labels₀ exact₀ figure whole₀ i₀ labels exact whole i = (i 
 abbrev μ-loop : tie.MeasureT-loop
 μ-loop list labels₀ exact₀ figure whole₀ i₀ labels exact whole i = figure .«context_count» - i
 
-none-requires : tie.Need-none-requires Inv-loop μ-loop
-none-requires c κs = search needs
-
-with-part-requires : tie.Need-with-part-requires Inv-loop μ-loop
-with-part-requires c κs = (omega (arith, c .none .ensures .1), omega arith, c .before .before .pre .0)
-
 loop-holds : tie.Need-loop-holds Inv-loop μ-loop
-loop-holds c = (search needs, search (needs, unmapped), c .before .before .before .pre .2, c .with-part .ensures .few, refl, refl, c .before .before .before .pre .3)
+loop-holds c = let s = c .before .before in
+    (search needs, search (needs, unmapped), s .pre .2, omega (arith, s .pre .0 .atoms), refl, refl, s .pre .3)
 
 mul-context : tie.Need-mul-context Inv-loop μ-loop
-mul-context c = omega (arith, c .before .before .before .before .before .pre .0 .contexts)
+mul-context c = omega (arith, c .before .before .before .before .pre .0 .contexts)
 
 element-copy-out-context : tie.Need-element-copy-out-context Inv-loop μ-loop
-element-copy-out-context c = omega (arith, c .before .before .before .before .before .pre .0 .contexts)
+element-copy-out-context c = omega (arith, c .before .before .before .before .pre .0 .contexts)
 
 part-of-requires : tie.Need-part-of-requires Inv-loop μ-loop
-part-of-requires c κs = c .before .before .before .before .before .before .before .pre .1
+part-of-requires c κs = c .before .before .before .before .before .before .pre .1
 
 add-with-ports : tie.Need-add-with-ports Inv-loop μ-loop
 add-with-ports c = search needs
@@ -55,42 +50,43 @@ cast-with-ports c = search needs
 with-ports-requires : tie.Need-with-ports-requires Inv-loop μ-loop
 with-ports-requires c κs = let p = c .before .before .before in
     let l = p .before .before .before .before in
-    let s = l .before .before .before .before in
+    let s = l .before .before .before in
     let x = getD (s .args .t1 .contexts) (l .loop .i) pastContexts in (
       (omega (arith, s .pre .0 .contexts, p .before .before .before .loop-test .taken), s .pre .0 .contextCounts (l .loop .i), l .loop .inv .2),
       λ k. (s .pre .0 .contextLinks (l .loop .i) k, subst (λ (n : Normal). getD (n .marked) k 0 < partRoom) (sym (p .part-of .ensures)) (part-low (s .args .list .now) (x .number) .marked k)),
     )
 
 note-exact-requires : tie.Need-note-exact-requires Inv-loop μ-loop
-note-exact-requires c κs = let p = c .before .before .before .before .before in
+note-exact-requires c κs = let p = c .before .before .before .before .before .before .before in
     let l = p .before .before .before .before in
-    let s = l .before .before .before .before in
+    let s = l .before .before .before in
     let x = getD (s .args .t1 .contexts) (l .loop .i) pastContexts in
-    (subst (λ (n : Normal). n .«mark_count» ≤ sheetMarks) (sym (p .part-of .ensures)) (part-low (s .args .list .now) (x .number) .marks), s .pre .0 .contextNumbers (l .loop .i), s .pre .0 .contextCounts (l .loop .i))
+    (subst (λ (n : Normal). n .«mark_count» ≤ sheetMarks) (sym (p .part-of .ensures)) (part-low (s .args .list .now) (x .number) .marks), subst (λ (n : Normal). length (n .marks) ≡ sheetMarks + 1) (sym (p .part-of .ensures)) (part-marks (s .args .list .now) (x .number)), s .pre .0 .contextNumbers (l .loop .i), s .pre .0 .contextCounts (l .loop .i))
 
 add-with-part : tie.Need-add-with-part Inv-loop μ-loop
 add-with-part c = search needs
 
-with-part-requires-2 : tie.Need-with-part-requires-2 Inv-loop μ-loop
-with-part-requires-2 c κs = let p = c .before .before .before .before .before .before in
+with-part-requires : tie.Need-with-part-requires Inv-loop μ-loop
+with-part-requires c κs = let p = c .before .before .before .before .before .before .before .before .before in
     let l = p .before .before .before .before in
-    let s = l .before .before .before .before in
+    let s = l .before .before .before in
     let x = getD (s .args .t1 .contexts) (l .loop .i) pastContexts in
-    (l .loop .inv .3, omega (arith, s .pre .0 .contexts, p .before .before .before .loop-test .taken), subst Low (sym (p .part-of .ensures)) (part-low (s .args .list .now) (x .number)))
+    let low : Low (p .part-of .result) = subst Low (sym (p .part-of .ensures)) (part-low (s .args .list .now) (x .number)) in
+    (l .loop .inv .3, omega (arith, s .pre .0 .contexts, p .before .before .before .loop-test .taken), low .atoms, low .atomLinks)
 
 add-i : tie.Need-add-i Inv-loop μ-loop
-add-i c = let t = c .before .before .before .before .before .before .before .before .before .before in
-    omega (arith, t .loop-test .taken, t .before .before .before .before .before .pre .0 .contexts)
+add-i c = let t = c .before .before .before .before .before .before .before .before .before .before .before .before .before in
+    omega (arith, t .loop-test .taken, t .before .before .before .before .pre .0 .contexts)
 
 loop-less : tie.Need-loop-less Inv-loop μ-loop
 loop-less c = search needs
 
 loop-again : tie.Need-loop-again Inv-loop μ-loop
-loop-again c = let note = c .before in
-    let w = note .before .before in
+loop-again c = let note = c .before .before in
+    let w = note .before .before .before .before in
     let p = w .before .before .before .before in
     let l = p .before .before .before .before in
-    let s = l .before .before .before .before in
+    let s = l .before .before .before in
     let a = s .args in
     let x = getD (a .t1 .contexts) (l .loop .i) pastContexts in
     let left = drop (l .loop .i + 1) (take (a .t1 .«context_count») (a .t1 .contexts)) in
@@ -100,31 +96,28 @@ loop-again c = let note = c .before in
     let rest = contextAtoms (a .list .now) (l .loop .i + 1 + 1) left in
     let W = wholeAtoms (l .loop .whole) in
     let P = partAtoms (l .loop .i + 1) (partNormal (a .list .now) (x .number)) in
-    let g : wholeAtoms (c .with-part2 .result) ≡ roomFor (W ++ P) = c .with-part2 .ensures .atoms ∙ ap (λ (n : Normal). roomFor (W ++ partAtoms (l .loop .i + 1) n)) (p .part-of .ensures) in (
+    let g : wholeAtoms (c .with-part .result) ≡ roomFor (W ++ P) = c .with-part .ensures .atoms ∙ ap (λ (n : Normal). roomFor (W ++ partAtoms (l .loop .i + 1) n)) (p .part-of .ensures) in (
       search needs,
       l .loop .inv .1,
       ap length (w .with-ports .ensures) ∙ all-length (portPairs (l .loop .i + 1) (take (x .count) (x .links)) (take (x .count) (p .part-of .result .marked))) (l .loop .labels) ∙ l .loop .inv .2,
-      c .with-part2 .ensures .few,
+      c .with-part .ensures .few,
       ap (λ (m : List ℕ). joinedAll m pairs) (w .with-ports .ensures ∙ ap (λ (n : Normal). joinedAll (l .loop .labels) (portPairs (l .loop .i + 1) (take (x .count) (x .links)) (take (x .count) (n .marked)))) (p .part-of .ensures))
           ∙ sym (pairs-next (a .list .now) (a .t1 .contexts) (a .t1 .«context_count») (l .loop .i) pastContexts (l .loop .labels) (l .loop .i + 1) many in-loop) ∙ l .loop .inv .4,
       ap (λ (w : List Atom). roomFor (w ++ rest)) g ∙ room-twice (W ++ P) rest ∙ ap roomFor (append-assoc W P rest)
           ∙ ap (λ (t : List Atom). roomFor (W ++ t)) (sym (atoms-next (a .list .now) (a .t1 .contexts) (a .t1 .«context_count») (l .loop .i) pastContexts (l .loop .i + 1) many in-loop)) ∙ l .loop .inv .5,
-      note .note-exact .ensures (a .list .now) (p .part-of .ensures) (l .loop .inv .6),
+      note .note-exact .ensures (a .list .now) (ap (λ (n : Normal). take (n .«mark_count») (n .marks)) (p .part-of .ensures)) (l .loop .inv .6),
     )
 
 returns : tie.Need-returns Inv-loop μ-loop
 returns c = let l = c .before in
-    let w = l .before in
-    let a = w .before .before .before .args in
+    let a = l .before .before .before .args in
     let W = wholeAtoms (l .loop .whole) in
-    let P = partAtoms 0 (a .t1) in
-    let rest = contextAtoms (a .list .now) 1 (take (a .t1 .«context_count») (a .t1 .contexts)) in
-    let g : wholeAtoms (w .with-part .result) ≡ roomFor P = w .with-part .ensures .atoms ∙ ap (λ (t : List Atom). roomFor (t ++ P)) (w .before .none .ensures .0) in (
+    let rest = contextAtoms (a .list .now) 1 (take (a .t1 .«context_count») (a .t1 .contexts)) in (
       l .loop .inv .6,
       record {
         atoms = sym (room-all W (omega (arith, length-take (l .loop .whole .count) (l .loop .whole .atoms), l .loop .inv .3))) ∙ ap roomFor (sym (append-nil W))
             ∙ ap (λ (t : List Atom). roomFor (W ++ t)) (sym (atoms-end (a .list .now) (a .t1 .contexts) (a .t1 .«context_count») (l .loop .i) pastContexts (l .loop .i + 1) (c .loop-test .left)))
-            ∙ l .loop .inv .5 ∙ ap (λ (t : List Atom). roomFor (t ++ rest)) g ∙ room-twice P rest;
+            ∙ l .loop .inv .5 ∙ ap (λ (t : List Atom). roomFor (t ++ rest)) (sym (own-places (take (a .t1 .«atom_count») (a .t1 .atoms))));
         few = l .loop .inv .3;
         labels = sym (pairs-end (a .list .now) (a .t1 .contexts) (a .t1 .«context_count») (l .loop .i) pastContexts (l .loop .labels) (l .loop .i + 1) (c .loop-test .left)) ∙ l .loop .inv .4;
       },
@@ -136,8 +129,6 @@ whole-of-spec =
     (tie.spec
     Inv-loop
     μ-loop
-    none-requires
-    with-part-requires
     loop-holds
     mul-context
     element-copy-out-context
@@ -147,7 +138,7 @@ whole-of-spec =
     with-ports-requires
     note-exact-requires
     add-with-part
-    with-part-requires-2
+    with-part-requires
     add-i
     loop-less
     loop-again

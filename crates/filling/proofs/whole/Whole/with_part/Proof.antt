@@ -17,33 +17,33 @@ use Rattle.filling.proofs.whole.Whole.with_part.Statement.{statement}
 use Rattle.filling.proofs.whole.Whole.with_part.Tie as tie
 
 abbrev Inv-loop : tie.InvT-loop
-Inv-loop p part whole₀ i₀ whole i = (i ≤ part .«atom_count») × (length (part .atoms) ≡ sheetAtoms + 1) × (length (whole .atoms) ≡ sheetAtoms + 1) × Grown whole₀ whole (map (placedAtom p) (take i (part .atoms)))
+Inv-loop p count self₀ atoms i₀ self i = (i ≤ count) × (length atoms ≡ sheetAtoms + 1) × (length (self .atoms) ≡ sheetAtoms + 1) × Grown self₀ self (map (placedAtom p) (take i atoms))
 
 abbrev μ-loop : tie.MeasureT-loop
-μ-loop p part whole₀ i₀ whole i = part .«atom_count» - i
+μ-loop p count self₀ atoms i₀ self i = count - i
 
 loop-holds : tie.Need-loop-holds Inv-loop μ-loop
-loop-holds c = (search needs, search (needs, unmapped), search (needs, unmapped), grown-none (c .args .self) (c .pre .0))
+loop-holds c = (search needs, search (needs, unmapped), search (needs, unmapped), grown-none (c .args .t1) (c .pre .0))
 
 mul-atom : tie.Need-mul-atom Inv-loop μ-loop
-mul-atom c = omega (arith, c .before .before .pre .2 .atoms)
+mul-atom c = omega (arith, c .before .before .pre .2)
 
-element-copy-out-atom : tie.Need-element-copy-out-atom Inv-loop μ-loop
-element-copy-out-atom c = omega (arith, c .before .before .pre .2 .atoms)
+array-copy-out-atom : tie.Need-array-copy-out-atom Inv-loop μ-loop
+array-copy-out-atom c = omega (arith, c .before .before .pre .2)
 
 placed-requires : tie.Need-placed-requires Inv-loop μ-loop
 placed-requires c κs = let l = c .before .before .before in
     let h = l .before .pre in
-    (h .1, λ k. h .2 .atomLinks (l .loop .i) k)
+    (h .1, λ k. h .3 (l .loop .i) k)
 
-mul-t17 : tie.Need-mul-t17 Inv-loop μ-loop
-mul-t17 c = search needs
+mul-t18 : tie.Need-mul-t18 Inv-loop μ-loop
+mul-t18 c = search needs
 
-element-set-from-whole : tie.Need-element-set-from-whole Inv-loop μ-loop
-element-set-from-whole c = search needs
+element-set-from-self : tie.Need-element-set-from-self Inv-loop μ-loop
+element-set-from-self c = search needs
 
-add-whole : tie.Need-add-whole Inv-loop μ-loop
-add-whole c = search needs
+add-self : tie.Need-add-self Inv-loop μ-loop
+add-self c = search needs
 
 add-i : tie.Need-add-i Inv-loop μ-loop
 add-i c = search needs
@@ -54,11 +54,11 @@ loop-less c = search needs
 loop-again : tie.Need-loop-again Inv-loop μ-loop
 loop-again c = let l = c .before .before .before .before .before in
     let a = l .before .args in
-    let x = getD (a .t3 .atoms) (l .loop .i) pastAtoms in
+    let x = getD (a .t3) (l .loop .i) pastAtoms in
     let f = placedAtom (a .p) in
     let y : Atom = record { name = x .name; count = x .count; links = c .before .placed .result } in
-    let w = l .loop .whole in
-    let r = c .if1 .whole in
+    let w = l .loop .self in
+    let r = c .if1 .self in
     let n = l .loop .inv .2 in
     let g : (length (r .atoms) ≡ sheetAtoms + 1) × Grown w r (y ∷ []) = ⊎-elim
     (λ t. (ap (λ (u : Whole). length (u .atoms)) (t .1) ∙ simp length-set n, grown-one w r y n (t .0 .taken) (t .1)))
@@ -68,14 +68,14 @@ loop-again c = let l = c .before .before .before .before .before in
       search needs,
       l .loop .inv .1,
       g .0,
-      subst (λ (k : List Atom). Grown (a .self) r k) (mapped-next f (a .t3 .atoms) (l .loop .i) pastAtoms (omega (arith, l .loop .inv .1, l .before .pre .2 .atoms)))
-          (grown-then (a .self) w r (map f (take (l .loop .i) (a .t3 .atoms))) (f x ∷ []) (l .loop .inv .3) h),
+      subst (λ (k : List Atom). Grown (a .t1) r k) (mapped-next f (a .t3) (l .loop .i) pastAtoms (omega (arith, l .loop .inv .1, l .before .pre .2)))
+          (grown-then (a .t1) w r (map f (take (l .loop .i) (a .t3))) (f x ∷ []) (l .loop .inv .3) h),
     )
 
 returns : tie.Need-returns Inv-loop μ-loop
 returns c = let l = c .before in
     let a = l .before .args in
-    let e : l .loop .i ≡ a .t3 .«atom_count» = omega arith in
+    let e : l .loop .i ≡ a .count = omega arith in
     rw e at (l .loop .inv .3)
 
 pub with-part-spec : {M : Type 1} → statement M
@@ -86,11 +86,11 @@ with-part-spec =
     μ-loop
     loop-holds
     mul-atom
-    element-copy-out-atom
+    array-copy-out-atom
     placed-requires
-    mul-t17
-    element-set-from-whole
-    add-whole
+    mul-t18
+    element-set-from-self
+    add-self
     add-i
     loop-less
     loop-again
