@@ -1,6 +1,6 @@
 -- One turn of the search's loop, on the arrays that the code holds.
 use Prim.Native.Nat.{ℕ, zero, suc, _+_, _-_, _*_, _≤_, _<_}
-use mathlib.Core.Path.{_≡_, refl, ap, ap₂, sym, _∙_, subst, subst₂}
+use mathlib.Core.Path.{_≡_, refl, ap, ap₂, sym, _∙_, subst}
 use mathlib.Core.Logic.{_≢_, _⊎_, inl, inr}
 use mathlib.Core.List.{List, [], _∷_, _++_, append-assoc}
 use mathlib.Core.Bool.{Bool, true, false}
@@ -20,13 +20,13 @@ use Rattle.network.specs.NetIn.{netIn}
 use Rattle.network.specs.Begun.{Begun, testAfter, leastAfter}
 use Rattle.network.proofs.NetIn.{atoms-length}
 use Rattle.network.specs.Ready.{Ready, AtomsIn}
-use Rattle.matching.specs.Search.{mayIn, KeepsIn, Kept, behind, searchFrom, foundList, foundIn, Skipped, Excuses, Only, Onward}
+use Rattle.matching.specs.Search.{mayIn, KeepsIn, Kept, behind, searchFrom, foundList, foundIn, Skipped, Only, Onward}
 use Rattle.narrowing.specs.Sets.{Keeps}
 use Rattle.narrowing.specs.Tables.{mayAtom, mayLink, Blank}
 use Rattle.narrowing.specs.Laid.{LaidOut}
 use Rattle.narrowing.specs.Steps.{NarrowedBy}
 use Rattle.narrowing.proofs.Passes.{atom-hopeless}
-use Rattle.symmetry.specs.Follows.{Follows}
+use Rattle.symmetry.specs.Follows.{Follows, Excuses}
 use Rattle.matching.specs.declared.search.Found.{Found}
 use Rattle.matching.proofs.SearchLaws.{nothing-found, none-found, some-found, none-begun, begun-none, restBounds, tried-start, tried-next, tried-end, tried-found}
 use Rattle.rows.proofs.Padding.{getD-filled}
@@ -191,6 +191,3 @@ module _ (sheet figure : form.Normal) (laid : List ℕ) (n : ℕ) (parts : List 
 
       lost : r ≡ true → ¬ Begun (netIn sheet) (netIn figure) pre
       lost e = let w = empty e in atom-hopeless sheet figure (os .fit) (of .fit) (os .normal) (of .normal) pre b k still (w .0) (omega (arith, w .1, of .count)) (λ t h. w .2 t (omega (arith, h, os .count)))
-
-pub follows-suc : (sheet : form.Normal) (pre : List ℕ) (t u : ℕ) → Follows (netIn sheet) pre (t + 1) (u + 1) → Follows (netIn sheet) pre (suc t) (suc u)
-follows-suc sheet pre t u f = subst₂ (Follows (netIn sheet) pre) (add-one t) (add-one u) f

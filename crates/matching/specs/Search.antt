@@ -17,7 +17,6 @@ use Rattle.network.specs.Begun.{Begun, leastAfter}
 use Rattle.network.specs.Ready.{Ready, AtomsIn}
 use Rattle.narrowing.specs.Sets.{Keeps}
 use Rattle.narrowing.specs.Tables.{mayAtom, mayLink}
-use Rattle.symmetry.specs.Follows.{Follows}
 use Rattle.matching.specs.declared.search.Found.{Found}
 
 -- what was found behind the beginning of a list
@@ -48,10 +47,6 @@ mayIn atoms k t = eqb (getD atoms (k * sheetAtoms + t) 0) 1
 -- a candidate that is known to fail, or is not in the sets
 abbrev pub Skipped : List ℕ → List ℕ → ℕ → ℕ → Type 0
 Skipped atoms failed k t = (getD failed t 0 ≡ 1) ⊎ (mayIn atoms k t ≡ false)
-
--- After the choices pre, what has a 1 in the second list has one in the first, or fails as surely as t.
-abbrev pub Excuses : form.Normal → List ℕ → ℕ → List ℕ → List ℕ → Type 0
-Excuses sheet pre t failed next = (u : ℕ) → getD next u 0 ≡ 1 → (getD failed u 0 ≡ 1) ⊎ Follows (netIn sheet) pre (suc t) (suc u)
 
 -- Sheet atom r, counted from 1, is the only one of the first n that figure atom k may go to, or r is 0.
 abbrev pub Only : List ℕ → ℕ → ℕ → ℕ → Type 0

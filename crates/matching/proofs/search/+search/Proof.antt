@@ -17,7 +17,7 @@ use Rattle.matching.proofs.SearchTurns.{Tries, tries-same, pre-length, 
 use Rattle.matching.proofs.search.search.Reads as search′
 use Rattle.matching.proofs.search.search.Kinds as search-kinds
 use Rattle.matching.proofs.search.+search.Lts-search as search-lts
-use Rattle.matching.proofs.excuse.excuse.Reads as excuse-reads
+use Rattle.symmetry.proofs.excuse.excuse.Reads as excuse-reads
 use Rattle.matching.proofs.forced.advance.Reads as advance-reads
 use Rattle.matching.proofs.search.Found.nothing.Reads as nothing-reads
 use Rattle.matching.proofs.search.leaf.Reads as leaf-reads
