@@ -1,7 +1,7 @@
 // One filling of a list, and the refusals over whole texts.
 use rows::Context;
 use rows::Sheet;
-use sheet::filling::filling_in;
+use sheet::filling::part_for;
 use sheet::normal::Normal;
 use sheet::normal::normal_of;
 use sheet::read::read_list;
@@ -21,7 +21,7 @@ pub(crate) fn part_of(list: &[u8], number: u16) -> Normal
     requires { ⌜ Passes (now list) ⌝ }
     ensures { λ r. ⌜ r ≡ partNormal (now (list .entry)) number ⌝ }
 {
-    let reading = read_list(filling_in(list, number));
+    let reading = read_list(part_for(list, number));
     let context = Context::none();
     let contexts = [context; Sheet::CONTEXT_ROOM];
     let ports = [0u16; Sheet::NUMBERS];

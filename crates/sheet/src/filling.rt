@@ -49,7 +49,7 @@ fn rows_end(list: &[u8], from: usize) -> usize
 
 // The filling of one context, its head first, as a part of a list that passed; empty where the context
 // has no filling there.
-pub fn filling_in(list: &[u8], number: u16) -> &[u8]
+pub fn part_for(list: &[u8], number: u16) -> &[u8]
     requires { ⌜ Passes (now list) ⌝ }
     ensures { λ r. ⌜ now r ≡ fillingOf (now (list .entry)) number ⌝ }
 {
@@ -68,7 +68,7 @@ pub fn filling_of(list: &[u8], number: u16) -> &[u8]
     let reading = read_list(list);
     let answer = reading.answer;
     match answer {
-        Answer::Passed => filling_in(list, number),
+        Answer::Passed => part_for(list, number),
         Answer::Refused(_, _) => &list[0..0],
     }
 }

@@ -13,8 +13,8 @@ use Rattle.filling.proofs.Parts.{heads-gone, part-agrees, part-numberab
 use Rattle.filling.proofs.part.part_of.Statement.{statement}
 use Rattle.filling.proofs.part.part_of.Tie as tie
 
-filling-in-requires : tie.Need-filling-in-requires
-filling-in-requires c κs = c .before .pre
+part-for-requires : tie.Need-part-for-requires
+part-for-requires c κs = c .before .pre
 
 read-list-requires : tie.Need-read-list-requires
 read-list-requires c κs = search needs
@@ -27,7 +27,7 @@ normal-of-requires c κs = let r = c .before .before in
     let f = r .before in
     let a = f .before .before .args in
     let h = partHeld (a .list .now) (a .number) in
-    let e = heads-gone (r .read-list .result .sheet) (c .before .none .result) h (c .before .none .ensures) (ap (λ (x : Reading). x .sheet) (r .read-list .ensures ∙ ap (λ (t : List ℕ). readingOf (outcomeOf Fillings noPorts t)) (f .filling-in .ensures))) in
+    let e = heads-gone (r .read-list .result .sheet) (c .before .none .result) h (c .before .none .ensures) (ap (λ (x : Reading). x .sheet) (r .read-list .ensures ∙ ap (λ (t : List ℕ). readingOf (outcomeOf Fillings noPorts t)) (f .part-for .ensures))) in
     subst Numberable (sym e) (part-numberable (a .list .now) (a .number))
 
 returns : tie.Need-returns
@@ -36,14 +36,14 @@ returns c = let n = c .before .before in
     let f = r .before in
     let a = f .before .before .args in
     let h = partHeld (a .list .now) (a .number) in
-    let e = heads-gone (r .read-list .result .sheet) (n .none .result) h (n .none .ensures) (ap (λ (x : Reading). x .sheet) (r .read-list .ensures ∙ ap (λ (t : List ℕ). readingOf (outcomeOf Fillings noPorts t)) (f .filling-in .ensures))) in
+    let e = heads-gone (r .read-list .result .sheet) (n .none .result) h (n .none .ensures) (ap (λ (x : Reading). x .sheet) (r .read-list .ensures ∙ ap (λ (t : List ℕ). readingOf (outcomeOf Fillings noPorts t)) (f .part-for .ensures))) in
     c .normal-of .ensures (withoutHeads h) (part-agrees (a .list .now) (a .number)) e
 
 pub part-of-spec : {M : Type 1} → statement M
 part-of-spec =
     tie.close
     (tie.spec
-    filling-in-requires
+    part-for-requires
     read-list-requires
     none-requires
     normal-of-requires

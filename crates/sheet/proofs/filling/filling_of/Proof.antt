@@ -14,8 +14,8 @@ read-list-requires c κs = search needs
 enum-told : tie.Need-enum-told
 enum-told c = search needs
 
-filling-in-requires : tie.Need-filling-in-requires
-filling-in-requires c κs = let r = c .before .before in
+part-for-requires : tie.Need-part-for-requires
+part-for-requires c κs = let r = c .before .before in
     ap isPassed (sym (ap (λ (x : Reading). x .answer) (r .read-list .ensures)) ∙ c .enum-told .given .1)
 
 enum-told-2 : tie.Need-enum-told-2
@@ -44,7 +44,7 @@ filling-of-spec =
     (tie.spec
     read-list-requires
     enum-told
-    filling-in-requires
+    part-for-requires
     enum-told-2
     sub-result
     part-result-start

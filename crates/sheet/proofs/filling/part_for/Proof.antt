@@ -3,8 +3,8 @@ use borrow.Author.Needs.{needs}
 use mathlib.Core.Path.{sym, _∙_}
 use mathlib.Core.Bool.{true}
 use Rattle.sheet.proofs.filling.FillingLaws.{filling-part, filling-none, filling-by}
-use Rattle.sheet.proofs.filling.filling_in.Statement.{statement}
-use Rattle.sheet.proofs.filling.filling_in.Tie as tie
+use Rattle.sheet.proofs.filling.part_for.Statement.{statement}
+use Rattle.sheet.proofs.filling.part_for.Tie as tie
 
 head-at-requires : tie.Need-head-at-requires
 head-at-requires c κs = search needs
@@ -49,8 +49,8 @@ returns-2 c = let h = c .before .before .before in
     let e = c .before .rows-end in
     filling-part (a .list .now) (a .number) (h .head-at .result) (h .head-at .ensures .1) (e .result) (e .ensures .0) (e .ensures .2) ∙ sym (filling-by (a .list .now) (a .number) true (s .pre))
 
-pub filling-in-spec : {M : Type 1} → statement M
-filling-in-spec =
+pub part-for-spec : {M : Type 1} → statement M
+part-for-spec =
     tie.close
     (tie.spec
     head-at-requires
