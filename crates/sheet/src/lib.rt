@@ -1,5 +1,6 @@
 // Sheets, figures and lists of fillings: how they are read, and their normal form.
 pub mod answer;
+mod counts;
 pub mod filling;
 pub mod kind;
 pub mod normal;

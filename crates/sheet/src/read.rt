@@ -1,6 +1,8 @@
 // The readers of texts: one walk over rows, for every kind of text.
 use crate::answer::Answer;
 use crate::answer::Refusal;
+use crate::counts::before;
+use crate::counts::counted;
 use crate::kind::Kind;
 use crate::kind::is_strange;
 use crate::kind::most_atoms;
@@ -20,9 +22,8 @@ use rows::take::add_row_mark;
 ghost use mathlib.Core.Path.{_≡_};
 ghost use mathlib.Core.List.{List};
 ghost use mathlib.Core.Bool.{false};
-ghost use Prim.Native.Nat.{_+_, _-_, _*_, _≤_};
+ghost use Prim.Native.Nat.{_+_, _*_, _≤_};
 ghost use lib.ListN.{length, take, drop};
-ghost use Rattle.rows.specs.Pick.{pick};
 ghost use Rattle.rows.specs.Format.{rowWidth};
 ghost use Rattle.rows.specs.Limits.{rowLimit};
 ghost use Rattle.rows.specs.Row.{rowOf};
@@ -110,25 +111,6 @@ fn next_row(kind: Kind, heads: usize, text: &[u8], k: usize) -> Next
     let row = row_at(text, k * Sheet::ROW, cut);
     let answer = early_answer(kind, heads, cut, row, k);
     Next { answer, row }
-}
-
-// The place of the last of n contexts; where there is none, that of an empty one.
-fn before(n: usize) -> usize
-    ensures { λ r. ⌜ r ≡ n - 1 ⌝ }
-{
-    if n == 0 {
-        return 0;
-    }
-    n - 1
-}
-
-fn counted(more: bool) -> usize
-    ensures { λ r. ⌜ r ≡ pick more 1 0 ⌝ }
-{
-    if more {
-        return 1;
-    }
-    0
 }
 
 // Refusal 8 in a row, after contexts with this table of ports, of which the last has this number.
