@@ -9,11 +9,9 @@ use native.Mathlib.Numerals.{add-one}
 use lib.ListN.{length, getD, set, replicate, length-set, length-replicate}
 use Rattle.rows.specs.Limits.{sheetAtoms, sheetLinks}
 use Rattle.rows.proofs.Padding.{getD-filled}
-use Rattle.sheet.specs.declared.normal.Normal as form
 use Rattle.placing.specs.Net.{Range}
 use Rattle.placing.specs.Placing.{numberAt}
-use Rattle.network.specs.NetIn.{Fit}
-use Rattle.network.specs.Ready.{Flag, AtomsIn}
+use Rattle.network.specs.Ready.{Flag}
 use Rattle.deciding.specs.Flags.{Among, Twice, Different, Opens}
 use Rattle.deciding.specs.Links.{Places}
 use Rattle.deciding.specs.Kinds.{StandingIn}
@@ -25,10 +23,6 @@ among-more l n j t = (t .0, (let h : t .0 < n = t .1 in omega arith), t .2)
 -- a flag that no zero is
 no-flag : {A : Type 0} (n x : ℕ) → _≡_ {A = ℕ} (getD (replicate n 0) x 0) 1 → A
 no-flag n x e = absurd (omega (arith, getD-filled {A = ℕ} 0 n x))
-
--- where a figure atom goes is the number of an atom
-pub atom-range : (sheet figure : form.Normal) → Fit sheet → (l : List ℕ) → AtomsIn sheet (figure .«atom_count») l → (i : ℕ) → i < figure .«atom_count» → Range sheetAtoms (getD l i 0)
-atom-range sheet figure f l a i h = let r = a .within i h in (r .0, omega (arith, r .1, f .atom-count))
 
 -- which atoms are taken
 module _ (l : List ℕ) where

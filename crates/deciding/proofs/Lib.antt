@@ -4,4 +4,5 @@ pub mod Flagged
 pub mod FlagLaws
 pub mod KindLaws
 pub mod Telling
+pub mod LaidTelling
 pub mod MarkLaws

@@ -19,11 +19,10 @@ use Rattle.network.specs.Ready.{Ready, AtomsIn}
 use Rattle.network.proofs.NetIn.{used-length, used-at, used-in, atoms-length, atom-cell, atom-index, atom-used}
 use Rattle.completing.specs.Leaf.{NoneWith}
 use Rattle.completing.proofs.State.{by-atom}
-use Rattle.deciding.specs.Links.{Places, AcrossFrom, PlacesIn, Clash, Tells, Told}
+use Rattle.deciding.specs.Links.{AcrossFrom, PlacesIn, Clash, Tells, Told}
 use Rattle.deciding.specs.Agrees.{AtomAgrees, AtomsAgreeTo}
 use Rattle.deciding.proofs.Sets.{below-cases}
 use Rattle.deciding.proofs.Places.{agree-kept, number-some}
-use Rattle.deciding.proofs.KindLaws.{places-of}
 
 -- nothing is told yet
 pub told-start : (sheet figure : form.Normal) (atoms to : List ℕ) → to ≡ replicate sheetLinks 0 → Told sheet figure atoms to
@@ -70,12 +69,6 @@ module _ (sheet figure : form.Normal) (ready : Ready sheet figure) (atoms : List
 
     sheet-used : Used (sheet .«class_count») (there .count) (there .links)
     sheet-used = atom-used sheet (ready .sheet-fit) (getD atoms i 0) (a .within i less)
-
-    pub mine-places : Places (mine .count) (mine .links)
-    mine-places = places-of (figure .«class_count») (mine .count) (mine .links) (ready .figure-fit .class-count) figure-used
-
-    pub there-places : mine .count ≡ there .count → Places (mine .count) (there .links)
-    there-places e = subst (λ (n : ℕ). Places n (there .links)) (sym e) (places-of (sheet .«class_count») (there .count) (there .links) (ready .sheet-fit .class-count) sheet-used)
 
     -- in a good placing
     good-cell : (p : Placing) → p .atomsTo ≡ l → cellAt (S .atoms) (atomTo p (i + 1)) ≡ atomIn there

@@ -3,17 +3,26 @@ use crate::links::Links;
 use crate::links::put_atoms;
 use crate::marks::marks_back;
 use crate::marks::put_marks;
+use narrowing::LAID;
 use rows::Sheet;
 use sheet::normal::Normal;
 ghost use Rattle.network.specs.Ready.{Ready, AtomsIn};
+ghost use Rattle.narrowing.specs.Laid.{LaidOut};
 ghost use Rattle.deciding.specs.Agrees.{AllPut};
 
-pub fn links_of(sheet: Normal, figure: Normal, atoms_to: [u16; Sheet::ATOMS]) -> Links
-    requires { ⌜ Ready sheet figure × AtomsIn sheet (figure .«atom_count») «atoms_to» ⌝ }
+// `laid` are the sheet's atoms, `parts` the figure's.
+pub fn links_of<'a>(
+    sheet: Normal,
+    figure: Normal,
+    laid: &'a [u16; LAID],
+    parts: &'a [u16; LAID],
+    atoms_to: [u16; Sheet::ATOMS],
+) -> Links
+    requires { ⌜ Ready sheet figure × AtomsIn sheet (figure .«atom_count») «atoms_to» × LaidOut sheet (now laid) (sheet .«atom_count») × LaidOut figure (now parts) (figure .«atom_count») ⌝ }
     ensures { λ r. ⌜ AllPut sheet figure «atoms_to» r ⌝ }
 {
     let mut to = [0u16; Sheet::LINKS];
-    let ok = put_atoms(sheet, figure, &atoms_to, &mut to)
+    let ok = put_atoms(laid, parts, figure.atom_count, &atoms_to, &mut to)
         && marks_back(sheet, figure)
         && put_marks(sheet, figure, &mut to);
     Links { ok, to }

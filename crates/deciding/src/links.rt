@@ -1,11 +1,15 @@
 // The figure links that the placed atoms decide.
+use narrowing::LAID;
+use narrowing::laid::laid_atom;
 use rows::Sheet;
-use sheet::normal::Normal;
-ghost use Prim.Native.Nat.{_<_};
+ghost use Prim.Native.Nat.{ℕ, _<_};
 ghost use mathlib.Core.Path.{_≡_};
-ghost use lib.ListN.{length};
+ghost use lib.ListN.{length, getD};
 ghost use Rattle.rows.specs.Limits.{sheetLinks};
-ghost use Rattle.network.specs.Ready.{Ready, AtomsIn};
+ghost use Rattle.sheet.specs.declared.normal.Normal.{Normal as NormalForm};
+ghost use Rattle.placing.specs.Net.{Range};
+ghost use Rattle.network.specs.Ready.{AtomsIn};
+ghost use Rattle.narrowing.specs.Laid.{Rowed, LaidOut};
 ghost use Rattle.deciding.specs.Links.{Entered, Told, Places, PlacesPut};
 ghost use Rattle.deciding.specs.Agrees.{AtomsPut};
 
@@ -50,21 +54,23 @@ fn put_places(
     true
 }
 
-// The links of the figure atoms, where names and link counts agree too.
-pub(crate) fn put_atoms(
-    sheet: Normal,
-    figure: Normal,
-    atoms_to: &[u16; Sheet::ATOMS],
+// The links of the figure atoms, where names and link counts agree too. `laid` are the sheet's atoms, `parts`
+// the m atoms of the figure.
+pub(crate) fn put_atoms<'a>(
+    laid: &'a [u16; LAID],
+    parts: &'a [u16; LAID],
+    m: usize,
+    atoms_to: &'a [u16; Sheet::ATOMS],
     to: &mut [u16; Sheet::LINKS],
 ) -> bool
-    requires { ⌜ Ready sheet figure × AtomsIn sheet (figure .«atom_count») (now «atoms_to») × Told sheet figure (now «atoms_to») (now to) ⌝ }
-    ensures { λ r. ⌜ AtomsPut sheet figure (now («atoms_to» .entry)) (now (to .exit)) r ⌝ }
+    requires { ⌜ ((n : ℕ) × Rowed (now laid) n × ((i : ℕ) → i < m → Range n (getD (now «atoms_to») i 0))) × Rowed (now parts) m × (length (now to) ≡ sheetLinks) ⌝ }
+    ensures { λ r. ⌜ ((sheet figure : NormalForm) → LaidOut sheet (now (laid .entry)) (sheet .«atom_count») → LaidOut figure (now (parts .entry)) m → AtomsIn sheet (figure .«atom_count») (now («atoms_to» .entry)) → Told sheet figure (now («atoms_to» .entry)) (now (to .entry)) → AtomsPut sheet figure (now («atoms_to» .entry)) (now (to .exit)) r) ⌝ }
 {
     let mut i = 0;
-    while i < figure.atom_count {
+    while i < m {
         let t = (atoms_to[i] - 1) as usize;
-        let a = figure.atoms[i];
-        let b = sheet.atoms[t];
+        let a = laid_atom(parts, i);
+        let b = laid_atom(laid, t);
         if a.name != b.name {
             return false;
         }

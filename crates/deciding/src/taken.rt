@@ -1,8 +1,9 @@
 // Which sheet atoms the figure atoms take.
 use rows::Sheet;
-use sheet::normal::Normal;
-ghost use Rattle.network.specs.Ready.{AtomsIn};
-ghost use Rattle.network.specs.NetIn.{Fit};
+ghost use Prim.Native.Nat.{ℕ, _<_, _≤_};
+ghost use lib.ListN.{getD};
+ghost use Rattle.rows.specs.Limits.{sheetAtoms};
+ghost use Rattle.placing.specs.Net.{Range};
 ghost use Rattle.deciding.specs.Flags.{TakenBy};
 
 // For each sheet atom 1 where a figure atom goes; `ok` is false where two go to one.
@@ -11,13 +12,13 @@ pub struct Taken {
     pub flags: [u8; Sheet::ATOMS],
 }
 
-pub fn taken_by(sheet: Normal, figure: Normal, atoms_to: [u16; Sheet::ATOMS]) -> Taken
-    requires { ⌜ Fit sheet × Fit figure × AtomsIn sheet (figure .«atom_count») «atoms_to» ⌝ }
-    ensures { λ r. ⌜ TakenBy «atoms_to» (figure .«atom_count») r ⌝ }
+pub fn taken_by(count: usize, atoms_to: [u16; Sheet::ATOMS]) -> Taken
+    requires { ⌜ (count ≤ sheetAtoms) × ((i : ℕ) → i < count → Range sheetAtoms (getD «atoms_to» i 0)) ⌝ }
+    ensures { λ r. ⌜ TakenBy «atoms_to» count r ⌝ }
 {
     let mut flags = [0u8; Sheet::ATOMS];
     let mut i = 0;
-    while i < figure.atom_count {
+    while i < count {
         let t = (atoms_to[i] - 1) as usize;
         if flags[t] == 1 {
             return Taken { ok: false, flags };

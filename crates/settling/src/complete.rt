@@ -94,21 +94,23 @@ fn least(
     }
 }
 
-// Links and contexts of the least good placing with these atoms. `laid` are the sheet's atoms.
-pub fn complete(
+// Links and contexts of the least good placing with these atoms. `laid` are the sheet's atoms, `parts` the
+// figure's.
+pub fn complete<'a>(
     sheet: Normal,
     figure: Normal,
-    laid: &[u16; LAID],
+    laid: &'a [u16; LAID],
+    parts: &'a [u16; LAID],
     atoms_to: [u16; Sheet::ATOMS],
 ) -> Completed
-    requires { ⌜ Ready sheet figure × AtomsIn sheet (figure .«atom_count») «atoms_to» × LaidOut sheet (now laid) (sheet .«atom_count») ⌝ }
+    requires { ⌜ Ready sheet figure × AtomsIn sheet (figure .«atom_count») «atoms_to» × LaidOut sheet (now laid) (sheet .«atom_count») × LaidOut figure (now parts) (figure .«atom_count») ⌝ }
     ensures { λ r. ⌜ completedIn sheet figure r ≡ leastAfter (netIn sheet) (netIn figure) (take (figure .«atom_count») «atoms_to») ⌝ }
 {
-    let taken = taken_by(sheet, figure, atoms_to);
+    let taken = taken_by(figure.atom_count, atoms_to);
     if !taken.ok {
         return nothing();
     }
-    let links = links_of(sheet, figure, atoms_to);
+    let links = links_of(sheet, figure, laid, parts, atoms_to);
     if !links.ok {
         return nothing();
     }

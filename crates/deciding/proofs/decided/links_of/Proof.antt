@@ -3,12 +3,13 @@ use borrow.Author.Needs.{needs}
 use mathlib.Core.Path.{refl, sym, _∙_}
 use mathlib.Core.Logic.{⊎-elim}
 use Rattle.placing.proofs.FirstLaws.{both-ways}
+use Rattle.narrowing.proofs.Laying.{laid-rowed}
 use Rattle.deciding.proofs.Telling.{told-start}
 use Rattle.deciding.proofs.decided.links_of.Statement.{statement}
 use Rattle.deciding.proofs.decided.links_of.Tie as tie
 
 put-atoms-requires : tie.Need-put-atoms-requires
-put-atoms-requires c κs = let s = c .before .before in (s .pre .0, s .pre .1, told-start (s .args .sheet) (s .args .figure) (s .args .t3) _ refl)
+put-atoms-requires c κs = let s = c .before .before in ((s .args .sheet .«atom_count», laid-rowed (s .args .sheet) (s .args .laid .now) _ (s .pre .2), s .pre .1 .within), laid-rowed (s .args .figure) (s .args .parts .now) _ (s .pre .3), told-start (s .args .sheet) (s .args .figure) (s .args .t5) _ refl .room)
 
 marks-back-requires : tie.Need-marks-back-requires
 marks-back-requires c κs = search needs
@@ -22,20 +23,20 @@ returns c = let j = c .before .before .before in
     let ok = c .before .before .if2 .taken in
     ⊎-elim
     (λ w.
-    let p = j .before .put-atoms .ensures .passed (w .0 .taken) in
-    let m = c .put-marks .ensures (s .args .t3) (s .pre .1) (p .0) (p .1) in
+    let p = j .before .put-atoms .ensures (s .args .sheet) (s .args .figure) (s .pre .2) (s .pre .3) (s .pre .1) (told-start (s .args .sheet) (s .args .figure) (s .args .t5) _ refl) .passed (w .0 .taken) in
+    let m = c .put-marks .ensures (s .args .t5) (s .pre .1) (p .0) (p .1) in
     record {
-      passed = λ g. let n = m .passed g in record { told = n .0; atoms-agree = n .1; marks-agree = n .2; marks-back = w .1 .ensures (s .args .t3) .passed (sym (w .2) ∙ ok) };
+      passed = λ g. let n = m .passed g in record { told = n .0; atoms-agree = n .1; marks-agree = n .2; marks-back = w .1 .ensures (s .args .t5) .passed (sym (w .2) ∙ ok) };
       refused = m .refused;
     })
     (λ w. both-ways ok (w .1 ∙ w .0 .left))
     (j .if1 .came)
 
 returns-2 : tie.Need-returns-2
-returns-2 c = let a = c .before .before .before .before .before .args in
+returns-2 c = let s = c .before .before .before .before .before in
     record {
       passed = λ g. both-ways g (c .if2 .left);
-      refused = λ g. ⊎-elim (λ w. w .1 .ensures (a .t3) .refused (sym (w .2) ∙ c .if2 .left)) (λ w. c .before .before .put-atoms .ensures .refused (w .0 .left)) (c .before .if1 .came);
+      refused = λ g. ⊎-elim (λ w. w .1 .ensures (s .args .t5) .refused (sym (w .2) ∙ c .if2 .left)) (λ w. c .before .before .put-atoms .ensures (s .args .sheet) (s .args .figure) (s .pre .2) (s .pre .3) (s .pre .1) (told-start (s .args .sheet) (s .args .figure) (s .args .t5) _ refl) .refused (w .0 .left)) (c .before .if1 .came);
     }
 
 pub links-of-spec : {M : Type 1} → statement M

@@ -1,89 +1,96 @@
 -- `links::put_atoms` meets its contract. The loop's invariant: the first i atoms agree, and what stands is told. Assumes nothing.
 use borrow.Author.Needs.{needs}
-use Prim.Native.Nat.{_-_, _≤_}
-use mathlib.Core.Path.{_≡_, refl, subst}
+use Prim.Native.Nat.{ℕ, _-_, _≤_}
+use mathlib.Core.Path.{_≡_, refl, sym, subst}
 use native.Mathlib.Omega.{arith}
 use borrow.Author.Tests.{not-true, not-false}
+use lib.ListN.{length}
+use Rattle.rows.specs.Limits.{sheetLinks}
 use Rattle.placing.proofs.FirstLaws.{both-ways}
-use Rattle.deciding.specs.Links.{Told}
+use Rattle.deciding.specs.Links.{Places}
 use Rattle.deciding.specs.Agrees.{AtomsAgreeTo}
-use Rattle.deciding.proofs.Telling.{mine-places, there-places, good-name, good-count, told-next, clash-none, agree-next}
+use Rattle.deciding.proofs.LaidTelling.{Said, row-places, laid-name, laid-count, laid-clash, said-next}
 use Rattle.deciding.proofs.links.put_atoms.Statement.{statement}
 use Rattle.deciding.proofs.links.put_atoms.Tie as tie
 
 abbrev Inv-loop : tie.InvT-loop
-Inv-loop atoms-to to₀ sheet figure i₀ to i = (i ≤ figure .«atom_count») × Told sheet figure atoms-to to × AtomsAgreeTo sheet figure atoms-to to i
+Inv-loop laid parts m atoms-to to₀ i₀ to i = (i ≤ m) × (length to ≡ sheetLinks) × Said laid parts m atoms-to to₀ to i
 
 abbrev μ-loop : tie.MeasureT-loop
-μ-loop atoms-to to₀ sheet figure i₀ to i = figure .«atom_count» - i
+μ-loop laid parts m atoms-to to₀ i₀ to i = m - i
 
 loop-holds : tie.Need-loop-holds Inv-loop μ-loop
-loop-holds c = (omega arith, c .pre .2, λ i h. absurd (omega arith))
+loop-holds c = (omega arith, c .pre .2, λ sheet figure os of a t. (t, λ i h. absurd (omega arith)))
 
 mul-t : tie.Need-mul-t Inv-loop μ-loop
-mul-t c = omega (arith, c .loop-test .taken, c .before .before .pre .0 .figure-fit .atom-count)
+mul-t c = omega (arith, c .loop-test .taken, c .before .before .pre .1 .few)
 
 element-copy-out-t : tie.Need-element-copy-out-t Inv-loop μ-loop
-element-copy-out-t c = omega (arith, c .loop-test .taken, c .before .before .pre .0 .figure-fit .atom-count)
+element-copy-out-t c = omega (arith, c .loop-test .taken, c .before .before .pre .1 .few)
 
 sub-t : tie.Need-sub-t Inv-loop μ-loop
-sub-t c = omega (arith, c .before .before .before .pre .1 .within (c .before .before .loop .i) (c .before .loop-test .taken))
+sub-t c = omega (arith, c .before .before .before .pre .0 .2 (c .before .before .loop .i) (c .before .loop-test .taken))
 
 cast-t : tie.Need-cast-t Inv-loop μ-loop
-cast-t c = search (needs, c .before .before .before .pre .1 .within (c .before .before .loop .i) (c .before .loop-test .taken))
+cast-t c = search (needs, c .before .before .before .pre .0 .2 (c .before .before .loop .i) (c .before .loop-test .taken))
 
-mul-a : tie.Need-mul-a Inv-loop μ-loop
-mul-a c = omega (arith, c .before .loop-test .taken, c .before .before .before .pre .0 .figure-fit .atom-count)
+laid-atom-requires : tie.Need-laid-atom-requires Inv-loop μ-loop
+laid-atom-requires c κs = omega (arith, c .before .loop-test .taken, c .before .before .before .pre .1 .few)
 
-element-copy-out-a : tie.Need-element-copy-out-a Inv-loop μ-loop
-element-copy-out-a c = omega (arith, c .before .loop-test .taken, c .before .before .before .pre .0 .figure-fit .atom-count)
-
-mul-b : tie.Need-mul-b Inv-loop μ-loop
-mul-b c = let s = c .before .before .before .before in
-    omega (arith, s .pre .0 .sheet-fit .atom-count, s .pre .1 .within (c .before .before .before .loop .i) (c .before .before .loop-test .taken))
-
-element-copy-out-b : tie.Need-element-copy-out-b Inv-loop μ-loop
-element-copy-out-b c = let s = c .before .before .before .before in
-    omega (arith, s .pre .0 .sheet-fit .atom-count, s .pre .1 .within (c .before .before .before .loop .i) (c .before .before .loop-test .taken))
+laid-atom-requires-2 : tie.Need-laid-atom-requires-2 Inv-loop μ-loop
+laid-atom-requires-2 c κs = let s = c .before .before .before .before in
+    omega (arith, s .pre .0 .1 .few, s .pre .0 .2 (c .before .before .before .loop .i) (c .before .before .loop-test .taken))
 
 returns : tie.Need-returns Inv-loop μ-loop
 returns c = let s = c .before .before .before .before .before .before .before .before in
     let a = s .args in
     let l = c .before .before .before .before .before .before .before .loop in
     let h = c .before .before .before .before .before .before .loop-test .taken in
-    record { passed = λ g. both-ways g refl; refused = λ g. good-name (a .t1) (a .t2) (s .pre .0) (a .atoms-to .now) (s .pre .1) (l .i) h (c .if1 .taken) }
+    let u = c .before .before .before .before .laid-atom in
+    let v = c .before .before .before .laid-atom2 in
+    λ sheet figure os of w t. record { passed = λ g. both-ways g refl; refused = λ g. laid-name (a .laid .now) (a .parts .now) (a .m) (a .atoms-to .now) (l .i) h (u .result) (v .result) (u .ensures) (v .ensures) sheet figure os of w (c .if1 .taken) }
 
 returns-2 : tie.Need-returns-2 Inv-loop μ-loop
 returns-2 c = let s = c .before .before .before .before .before .before .before .before .before .before .before in
     let a = s .args in
     let l = c .before .before .before .before .before .before .before .before .before .before .loop in
     let h = c .before .before .before .before .before .before .before .before .before .loop-test .taken in
-    record { passed = λ g. both-ways g refl; refused = λ g. good-count (a .t1) (a .t2) (s .pre .0) (a .atoms-to .now) (s .pre .1) (l .i) h (c .if2 .taken) }
+    let u = c .before .before .before .before .before .before .before .laid-atom in
+    let v = c .before .before .before .before .before .before .laid-atom2 in
+    λ sheet figure os of w t. record { passed = λ g. both-ways g refl; refused = λ g. laid-count (a .laid .now) (a .parts .now) (a .m) (a .atoms-to .now) (l .i) h (u .result) (v .result) (u .ensures) (v .ensures) sheet figure os of w (c .if2 .taken) }
 
 cast-put-places : tie.Need-cast-put-places Inv-loop μ-loop
 cast-put-places c = let s = c .before .before .before .before .before .before .before .before .before .before .before .before .before .before .before in
     let a = s .args in
     let l = c .before .before .before .before .before .before .before .before .before .before .before .before .before .before .loop in
     let h = c .before .before .before .before .before .before .before .before .before .before .before .before .before .loop-test .taken in
-    omega (arith, mine-places (a .t1) (a .t2) (s .pre .0) (a .atoms-to .now) (s .pre .1) (l .i) h .few)
+    let u = c .before .before .before .before .before .before .before .before .before .before .before .laid-atom in
+    let v = c .before .before .before .before .before .before .before .before .before .before .laid-atom2 in
+    omega (arith, row-places (a .parts .now) (a .m) (l .i) (u .result) (u .ensures) (s .pre .1) h .few)
 
 put-places-requires : tie.Need-put-places-requires Inv-loop μ-loop
 put-places-requires c κs = let s = c .before .before .before .before .before .before .before .before .before .before .before .before .before .before .before in
     let a = s .args in
     let l = c .before .before .before .before .before .before .before .before .before .before .before .before .before .before .loop in
     let h = c .before .before .before .before .before .before .before .before .before .before .before .before .before .loop-test .taken in
-    (mine-places (a .t1) (a .t2) (s .pre .0) (a .atoms-to .now) (s .pre .1) (l .i) h, there-places (a .t1) (a .t2) (s .pre .0) (a .atoms-to .now) (s .pre .1) (l .i) h (c .before .before .before .before .if2 .left), l .inv .1 .room)
+    let u = c .before .before .before .before .before .before .before .before .before .before .before .laid-atom in
+    let v = c .before .before .before .before .before .before .before .before .before .before .laid-atom2 in
+    let r = s .pre .0 .2 (l .i) h in
+    let same = c .before .before .before .before .if2 .left in
+    (row-places (a .parts .now) (a .m) (l .i) (u .result) (u .ensures) (s .pre .1) h, subst (λ (n : ℕ). Places n (v .result .links)) (sym same) (row-places (a .laid .now) (s .pre .0 .0) _ (v .result) (v .ensures) (s .pre .0 .1) (omega (arith, r))), l .inv .1)
 
 returns-3 : tie.Need-returns-3 Inv-loop μ-loop
 returns-3 c = let s = c .before .before .before .before .before .before .before .before .before .before .before .before .before .before .before .before .before in
     let a = s .args in
     let l = c .before .before .before .before .before .before .before .before .before .before .before .before .before .before .before .before .loop in
     let h = c .before .before .before .before .before .before .before .before .before .before .before .before .before .before .before .loop-test .taken in
+    let u = c .before .before .before .before .before .before .before .before .before .before .before .before .before .laid-atom in
+    let v = c .before .before .before .before .before .before .before .before .before .before .before .before .laid-atom2 in
     let f = not-true _ (c .if3 .taken) in
-    record { passed = λ g. both-ways g refl; refused = λ g. clash-none (a .t1) (a .t2) (s .pre .0) (a .atoms-to .now) (s .pre .1) (l .i) h (c .before .before .before .before .before .before .if2 .left) (l .to) (l .inv .1) (c .before .put-places .ensures .clash f) }
+    λ sheet figure os of w t. record { passed = λ g. both-ways g refl; refused = λ g. laid-clash (a .laid .now) (a .parts .now) (a .m) (a .atoms-to .now) (l .i) h (u .result) (v .result) (u .ensures) (v .ensures) sheet figure os of w (c .before .before .before .before .before .before .if2 .left) (l .to) (l .inv .2 sheet figure os of w t .0) (c .before .put-places .ensures .clash f) }
 
 add-i : tie.Need-add-i Inv-loop μ-loop
-add-i c = omega (arith, c .before .before .before .before .before .before .before .before .before .before .before .before .before .before .before .loop-test .taken, c .before .before .before .before .before .before .before .before .before .before .before .before .before .before .before .before .before .pre .0 .figure-fit .atom-count)
+add-i c = omega (arith, c .before .before .before .before .before .before .before .before .before .before .before .before .before .before .before .loop-test .taken, c .before .before .before .before .before .before .before .before .before .before .before .before .before .before .before .before .before .pre .1 .few)
 
 loop-less : tie.Need-loop-less Inv-loop μ-loop
 loop-less c = omega (arith, c .before .before .before .before .before .before .before .before .before .before .before .before .before .before .before .loop-test .taken)
@@ -93,17 +100,18 @@ loop-again c = let s = c .before .before .before .before .before .before .before
     let a = s .args in
     let l = c .before .before .before .before .before .before .before .before .before .before .before .before .before .before .before .before .loop in
     let h = c .before .before .before .before .before .before .before .before .before .before .before .before .before .before .before .loop-test .taken in
-    let p = c .before .put-places .ensures .done (not-false _ (c .if3 .left)) in (
-      omega (arith, h),
-      told-next (a .t1) (a .t2) (s .pre .0) (a .atoms-to .now) (s .pre .1) (l .i) h (c .before .before .before .before .before .before .if2 .left) (l .to) (l .inv .1) _ p,
-      agree-next (a .t1) (a .t2) (s .pre .0) (a .atoms-to .now) (s .pre .1) (l .i) h (l .to) _ (l .inv .2) (c .before .before .before .before .before .before .before .before .before .if1 .left) (c .before .before .before .before .before .before .if2 .left) p,
-    )
+    let u = c .before .before .before .before .before .before .before .before .before .before .before .before .before .laid-atom in
+    let v = c .before .before .before .before .before .before .before .before .before .before .before .before .laid-atom2 in
+    let p = c .before .put-places .ensures .done (not-false _ (c .if3 .left)) in
+    (omega (arith, h), p .room, said-next (a .laid .now) (a .parts .now) (a .m) (a .atoms-to .now) (l .i) h (u .result) (v .result) (u .ensures) (v .ensures) (a .to .now) (l .to) _ (c .before .before .before .before .before .before .before .before .before .if1 .left) (c .before .before .before .before .before .before .if2 .left) p (l .inv .2))
 
 returns-4 : tie.Need-returns-4 Inv-loop μ-loop
 returns-4 c = let a = c .before .before .args in
     let l = c .before .loop in
-    let e : l .i ≡ a .t2 .«atom_count» = omega arith in
-    record { passed = λ g. (l .inv .1, subst (AtomsAgreeTo (a .t1) (a .t2) (a .atoms-to .now) (l .to)) e (l .inv .2)); refused = λ g. both-ways refl g }
+    λ sheet figure os of w t.
+    let e : l .i ≡ figure .«atom_count» = omega (arith, of .count) in
+    let q = l .inv .2 sheet figure os of w t in
+    record { passed = λ g. (q .0, subst (AtomsAgreeTo sheet figure (a .atoms-to .now) (l .to)) e (q .1)); refused = λ g. both-ways refl g }
 
 pub put-atoms-spec : {M : Type 1} → statement M
 put-atoms-spec =
@@ -116,10 +124,8 @@ put-atoms-spec =
     element-copy-out-t
     sub-t
     cast-t
-    mul-a
-    element-copy-out-a
-    mul-b
-    element-copy-out-b
+    laid-atom-requires
+    laid-atom-requires-2
     returns
     returns-2
     cast-put-places

@@ -5,15 +5,15 @@ use mathlib.Core.Path.{_≡_, refl, subst}
 use native.Mathlib.Omega.{arith}
 use Rattle.placing.proofs.FirstLaws.{both-ways}
 use Rattle.deciding.specs.Flags.{Different}
-use Rattle.deciding.proofs.FlagLaws.{atom-range, different-start, taken-twice, different-next}
+use Rattle.deciding.proofs.FlagLaws.{different-start, taken-twice, different-next}
 use Rattle.deciding.proofs.taken.taken_by.Statement.{statement}
 use Rattle.deciding.proofs.taken.taken_by.Tie as tie
 
 abbrev Inv-loop : tie.InvT-loop
-Inv-loop figure atoms-to flags₀ i₀ flags i = (i ≤ figure .«atom_count») × Different atoms-to i flags
+Inv-loop count atoms-to flags₀ i₀ flags i = (i ≤ count) × Different atoms-to i flags
 
 abbrev μ-loop : tie.MeasureT-loop
-μ-loop figure atoms-to flags₀ i₀ flags i = figure .«atom_count» - i
+μ-loop count atoms-to flags₀ i₀ flags i = count - i
 
 loop-holds : tie.Need-loop-holds Inv-loop μ-loop
 loop-holds c = (omega arith, different-start _ _ refl)
@@ -22,28 +22,28 @@ mul-t : tie.Need-mul-t Inv-loop μ-loop
 mul-t c = search needs
 
 array-read-t : tie.Need-array-read-t Inv-loop μ-loop
-array-read-t c = omega (arith, c .if1 .taken, c .before .before .before .pre .1 .atom-count)
+array-read-t c = omega (arith, c .loop-test .taken, c .before .before .pre .0)
 
 sub-t : tie.Need-sub-t Inv-loop μ-loop
-sub-t c = omega (arith, c .before .before .before .pre .2 .within (c .before .before .loop .i) (c .if1 .taken))
+sub-t c = omega (arith, c .before .before .pre .1 (c .before .loop .i) (c .loop-test .taken))
 
 cast-t : tie.Need-cast-t Inv-loop μ-loop
-cast-t c = search (needs, c .before .before .before .pre .2 .within (c .before .before .loop .i) (c .if1 .taken))
+cast-t c = search (needs, c .before .before .pre .1 (c .before .loop .i) (c .loop-test .taken))
 
-array-read-if2 : tie.Need-array-read-if2 Inv-loop μ-loop
-array-read-if2 c = omega (arith, c .before .before .before .pre .0 .atom-count, c .before .before .before .pre .2 .within (c .before .before .loop .i) (c .if1 .taken))
+array-read-if1 : tie.Need-array-read-if1 Inv-loop μ-loop
+array-read-if1 c = omega (arith, c .before .before .pre .1 (c .before .loop .i) (c .loop-test .taken))
 
 returns : tie.Need-returns Inv-loop μ-loop
-returns c = let b = c .before .before .before .before in
-    let l = c .before .before .before .loop in
-    let h = c .before .if1 .taken in
+returns c = let b = c .before .before .before in
+    let l = c .before .before .loop in
+    let h = c .before .loop-test .taken in
     record {
       different = λ g. both-ways g refl;
-      twice = λ g. taken-twice (b .args .t3) (l .i) (l .flags) (l .inv .1) (atom-range (b .args .sheet) (b .args .figure) (b .pre .0) (b .args .t3) (b .pre .2) (l .i) h) (b .args .figure .«atom_count») h (c .if2 .taken);
+      twice = λ g. taken-twice (b .args .t2) (l .i) (l .flags) (l .inv .1) (b .pre .1 (l .i) h) (b .args .count) h (c .if1 .taken);
     }
 
 array-write-flags : tie.Need-array-write-flags Inv-loop μ-loop
-array-write-flags c = omega (arith, c .before .before .before .before .pre .0 .atom-count, c .before .before .before .before .pre .2 .within (c .before .before .before .loop .i) (c .before .if1 .taken))
+array-write-flags c = omega (arith, c .before .before .before .pre .1 (c .before .before .loop .i) (c .before .loop-test .taken))
 
 add-i : tie.Need-add-i Inv-loop μ-loop
 add-i c = search needs
@@ -52,16 +52,16 @@ loop-less : tie.Need-loop-less Inv-loop μ-loop
 loop-less c = search needs
 
 loop-again : tie.Need-loop-again Inv-loop μ-loop
-loop-again c = let b = c .before .before .before .before in
-    let l = c .before .before .before .loop in
-    let h = c .before .if1 .taken in
-    (omega arith, different-next (b .args .t3) (l .i) (l .flags) (l .inv .1) (atom-range (b .args .sheet) (b .args .figure) (b .pre .0) (b .args .t3) (b .pre .2) (l .i) h) (c .if2 .left))
+loop-again c = let b = c .before .before .before in
+    let l = c .before .before .loop in
+    let h = c .before .loop-test .taken in
+    (omega arith, different-next (b .args .t2) (l .i) (l .flags) (l .inv .1) (b .pre .1 (l .i) h) (c .if1 .left))
 
 returns-2 : tie.Need-returns-2 Inv-loop μ-loop
-returns-2 c = let b = c .before .before .before in
-    let l = c .before .before .loop in
-    let e : l .i ≡ b .args .figure .«atom_count» = omega (arith, c .if1 .left) in
-    record { different = λ g. subst (λ (n : ℕ). Different (b .args .t3) n (l .flags)) e (l .inv .1); twice = λ g. both-ways refl g }
+returns-2 c = let b = c .before .before in
+    let l = c .before .loop in
+    let e : l .i ≡ b .args .count = omega arith in
+    record { different = λ g. subst (λ (n : ℕ). Different (b .args .t2) n (l .flags)) e (l .inv .1); twice = λ g. both-ways refl g }
 
 pub taken-by-spec : {M : Type 1} → statement M
 taken-by-spec =
@@ -74,7 +74,7 @@ taken-by-spec =
     array-read-t
     sub-t
     cast-t
-    array-read-if2
+    array-read-if1
     returns
     array-write-flags
     add-i

@@ -89,7 +89,7 @@ module _ (n : ℕ) where
   leaf-requires c κs =
       let d = c .before in
       let b = d .before .before .before in
-      (b .pre .1 .0, subst (λ (i : ℕ). AtomsIn (b .args .sheet) i (d .advance .last .1 .0)) (c .if2 .taken) (onward d .atoms-in), b .pre .1 .4)
+      (b .pre .1 .0, subst (λ (i : ℕ). AtomsIn (b .args .sheet) i (d .advance .last .1 .0)) (c .if2 .taken) (onward d .atoms-in), b .pre .1 .4, b .pre .1 .5)
 
   returns-2 : search-lts.Need-returns-2 (claims n) (search-at n) search′.Post Inv-loop μ-loop
   returns-2 c =

@@ -1,5 +1,6 @@
 -- `complete::complete` meets its contract. Assumes nothing.
 use borrow.Author.Needs.{needs}
+use native.Mathlib.Omega.{arith}
 use borrow.Author.Tests.{not-true, not-false}
 use Rattle.settling.proofs.Starting.{twice-none, links-in}
 use Rattle.settling.proofs.Whole.{complete-none, complete-least}
@@ -8,7 +9,7 @@ use Rattle.settling.proofs.complete.complete.Statement.{statement}
 use Rattle.settling.proofs.complete.complete.Tie as tie
 
 taken-by-requires : tie.Need-taken-by-requires
-taken-by-requires c κs = search needs
+taken-by-requires c κs = (c .pre .0 .figure-fit .atom-count, λ i h. let r = c .pre .1 .within i h in (r .0, omega (arith, r .1, c .pre .0 .sheet-fit .atom-count)))
 
 nothing-requires : tie.Need-nothing-requires
 nothing-requires c κs = search needs
