@@ -22,7 +22,7 @@ use Rattle.sheet.proofs.read.ReadingLaws.{read-none}
 use Rattle.sheet.proofs.read.Taken.{rowAt, Taken, tests-none}
 use Rattle.texts.proofs.OneFilling.{headless-row}
 use Rattle.filling.specs.Read.{partHeld}
-use Rattle.sheet.proofs.filling.FillingLaws.{before-nil}
+use Rattle.sheet.proofs.part.FillingLaws.{before-nil}
 
 other-letter : (b : ℕ) → eqb b 72 ≡ false → letterOf b ≡ 4 → ⊥
 unfolding letterOf

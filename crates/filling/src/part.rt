@@ -1,9 +1,9 @@
 // One filling of a list, and the refusals over whole texts.
 use rows::Context;
 use rows::Sheet;
-use sheet::filling::part_for;
 use sheet::normal::Normal;
 use sheet::normal::normal_of;
+use sheet::part::part_for;
 use sheet::read::read_list;
 ghost use mathlib.Core.Path.{_≡_};
 ghost use mathlib.Core.List.{List};

@@ -25,7 +25,7 @@ use Rattle.placing.specs.ListText.{rowText, rowsText, headText, listText
 use Rattle.placing.proofs.Names.{symbolsIn}
 use Rattle.placing.proofs.ListRows.{pointsIn, edgesIn}
 use Rattle.placing.proofs.ListBack.{listAtoms, listRows, Ascends, FillingFits, ListFits, list-passes, list-atoms, list-points, list-edges}
-use Rattle.sheet.proofs.filling.FillingLaws.{before-nil}
+use Rattle.sheet.proofs.part.FillingLaws.{before-nil}
 
 -- A text that begins with a row.
 module _ (b : ℕ) (nums rest : List ℕ) where

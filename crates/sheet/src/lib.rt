@@ -1,9 +1,9 @@
 // Sheets, figures and lists of fillings: how they are read, and their normal form.
 pub mod answer;
 mod counts;
-pub mod filling;
 pub mod kind;
 pub mod normal;
 pub mod normal_text;
 pub mod normalise;
+pub mod part;
 pub mod read;

@@ -20,7 +20,7 @@ use Rattle.sheet.specs.Reading.{Verdict, taken, refused, firstOf, tests,
 use Rattle.sheet.specs.declared.kind.Kind.the-variants.{Fillings}
 use Rattle.sheet.proofs.read.Taken.{rowAt, tests-none}
 use Rattle.sheet.proofs.read.Walk.{Read, read-start, opened, row-fits, read-next}
-use Rattle.sheet.proofs.filling.FillingLaws.{head-row}
+use Rattle.sheet.proofs.part.FillingLaws.{head-row}
 
 -- the rows before `at` are taken in
 abbrev pub Walked : List ℕ → ℕ → Type 0

@@ -10,10 +10,10 @@ use borrow.Author.Tests.{eq-eqb, ne-eqb}
 use lib.ListN.{length, drop}
 use Rattle.rows.specs.Format.{rowWidth}
 use Rattle.sheet.specs.Filling.{fromHead}
-use Rattle.sheet.proofs.filling.FillingLaws.{head-none, head-other}
-use Rattle.sheet.proofs.filling.Heads.{Walked, walked-start, walked-next, digit-low, head-found}
-use Rattle.sheet.proofs.filling.head_at.Statement.{statement}
-use Rattle.sheet.proofs.filling.head_at.Tie as tie
+use Rattle.sheet.proofs.part.FillingLaws.{head-none, head-other}
+use Rattle.sheet.proofs.part.Heads.{Walked, walked-start, walked-next, digit-low, head-found}
+use Rattle.sheet.proofs.part.head_at.Statement.{statement}
+use Rattle.sheet.proofs.part.head_at.Tie as tie
 
 abbrev Inv-loop : tie.InvT-loop
 Inv-loop list number at₀ at = (at ≤ length list) × (fromHead (length list) number list ≡ fromHead (length list) number (drop at list)) × Walked list at

@@ -6,9 +6,9 @@ use mathlib.Core.Bool.{true}
 use native.Mathlib.Omega.{arith}
 use borrow.Author.Tests.{eq-eqb}
 use lib.ListN.{length}
-use Rattle.sheet.proofs.filling.FillingLaws.{before-short, before-row, Parted, parted-start, parted-row, parted-end}
-use Rattle.sheet.proofs.filling.rows_end.Statement.{statement}
-use Rattle.sheet.proofs.filling.rows_end.Tie as tie
+use Rattle.sheet.proofs.part.FillingLaws.{before-short, before-row, Parted, parted-start, parted-row, parted-end}
+use Rattle.sheet.proofs.part.rows_end.Statement.{statement}
+use Rattle.sheet.proofs.part.rows_end.Tie as tie
 
 abbrev Inv-loop : tie.InvT-loop
 Inv-loop list from at₀ at = Parted list from at

@@ -4,9 +4,9 @@ use mathlib.Core.Path.{sym, _∙_, ap}
 use mathlib.Core.Bool.{false}
 use Rattle.sheet.specs.Filling.{isPassed}
 use Rattle.sheet.specs.declared.read.Reading.{Reading}
-use Rattle.sheet.proofs.filling.FillingLaws.{filling-by}
-use Rattle.sheet.proofs.filling.filling_of.Statement.{statement}
-use Rattle.sheet.proofs.filling.filling_of.Tie as tie
+use Rattle.sheet.proofs.part.FillingLaws.{filling-by}
+use Rattle.sheet.proofs.part.filling_of.Statement.{statement}
+use Rattle.sheet.proofs.part.filling_of.Tie as tie
 
 read-list-requires : tie.Need-read-list-requires
 read-list-requires c κs = search needs

@@ -2,9 +2,9 @@
 use borrow.Author.Needs.{needs}
 use mathlib.Core.Path.{sym, _∙_}
 use mathlib.Core.Bool.{true}
-use Rattle.sheet.proofs.filling.FillingLaws.{filling-part, filling-none, filling-by}
-use Rattle.sheet.proofs.filling.part_for.Statement.{statement}
-use Rattle.sheet.proofs.filling.part_for.Tie as tie
+use Rattle.sheet.proofs.part.FillingLaws.{filling-part, filling-none, filling-by}
+use Rattle.sheet.proofs.part.part_for.Statement.{statement}
+use Rattle.sheet.proofs.part.part_for.Tie as tie
 
 head-at-requires : tie.Need-head-at-requires
 head-at-requires c κs = search needs
