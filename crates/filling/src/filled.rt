@@ -2,6 +2,7 @@
 use crate::classes::KNOWN;
 use crate::classes::numbered_atoms;
 use crate::classes::numbered_marks;
+use crate::glue::PLACES;
 use crate::glue::own_labels;
 use crate::whole::whole_of;
 use rows::Context;
@@ -26,7 +27,8 @@ fn filled(figure: Normal, list: &[u8], exact: &mut [u16; Sheet::NUMBERS]) -> Nor
     ensures { λ _. ⌜ Exacts (now (list .entry)) (now (exact .exit)) ⌝ }
     ensures { λ r. ⌜ ((labels : List ℕ) × (Glues (now (list .entry)) figure labels × Made (now (list .entry)) labels figure r)) ⌝ }
 {
-    let mut labels = own_labels();
+    let mut labels = [0u16; PLACES];
+    own_labels(&mut labels);
     let whole = whole_of(figure, list, &mut labels, exact);
     let mut known = [0u16; KNOWN];
     let mut class_count: usize = 0;

@@ -15,17 +15,16 @@ pub(crate) const PART: usize = Sheet::LINK_ROOM;
 
 pub(crate) const PLACES: usize = (Sheet::FIGURE_CONTEXTS + 1) * PART;
 
-// Each place has a label of its own.
-pub(crate) fn own_labels() -> [u16; PLACES]
-    ensures { λ r. ⌜ Own r ⌝ }
+// Gives each place a label of its own.
+pub(crate) fn own_labels(labels: &mut [u16; PLACES])
+    requires { ⌜ length (now labels) ≡ places ⌝ }
+    ensures { λ _. ⌜ Own (now (labels .exit)) ⌝ }
 {
-    let mut labels = [0u16; PLACES];
     let mut k = 0;
     while k < PLACES {
         labels[k] = k as u16;
         k += 1;
     }
-    labels
 }
 
 // Makes the labels of two places one.

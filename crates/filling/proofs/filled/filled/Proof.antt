@@ -11,7 +11,7 @@ own-labels-requires c κs = search needs
 
 whole-of-requires : tie.Need-whole-of-requires
 whole-of-requires c κs = let o = c .before .before in
-    let s = o .before .before in
+    let s = o .before .before .before in
     (s .pre .0, s .pre .1, o .own-labels .ensures .size, s .pre .2)
 
 slice-aggregate-numbered-atoms : tie.Need-slice-aggregate-numbered-atoms
@@ -19,7 +19,7 @@ slice-aggregate-numbered-atoms c = search needs
 
 numbered-atoms-requires : tie.Need-numbered-atoms-requires
 numbered-atoms-requires c κs = let w = c .before .before .before .before in
-    let s = w .before .before .before .before .before in
+    let s = w .before .before .before .before .before .before in
     let P = w .whole-of .ensures .1 in
     ((search needs, search needs), P .few, put-linked (s .args .list .now) (s .args .figure) _ _ (w .whole-of .result) P (s .pre .0))
 
@@ -29,7 +29,7 @@ slice-aggregate-numbered-marks c = search needs
 numbered-marks-requires : tie.Need-numbered-marks-requires
 numbered-marks-requires c κs = let t = c .before .before .before .before .before in
     let w = t .before .before .before .before .before in
-    let s = w .before .before .before .before .before in
+    let s = w .before .before .before .before .before .before in
     (t .numbered-atoms .ensures .0 .room, s .pre .0 .marks, λ k. omega (arith, s .pre .0 .marked k))
 
 none-requires : tie.Need-none-requires
@@ -40,7 +40,7 @@ returns c = let k = c .before .before .before in
     let t = k .before .before .before .before .before .before in
     let w = t .before .before .before .before .before in
     let o = w .before .before .before in
-    let s = o .before .before in (
+    let s = o .before .before .before in (
       w .whole-of .ensures .0,
       made-of (s .args .list .now) (s .args .figure) _ _ (w .whole-of .result) (w .whole-of .ensures .1) _ (t .numbered-atoms .last .1 .0) (k .numbered-marks .last .1 .0) (t .numbered-atoms .last .1 .1 .0) (k .numbered-marks .last .1 .1 .0)
           (t .numbered-atoms .ensures .0) (k .numbered-marks .ensures .0) (o .own-labels .ensures) (t .numbered-atoms .ensures .1 .1) _ (t .numbered-atoms .ensures .1 .0) refl refl refl (k .numbered-marks .ensures .1) refl refl,

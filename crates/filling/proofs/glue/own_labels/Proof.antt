@@ -16,7 +16,7 @@ abbrev μ-loop : tie.MeasureT-loop
 μ-loop labels₀ k₀ labels k = places - k
 
 loop-holds : tie.Need-loop-holds Inv-loop μ-loop
-loop-holds c = (search needs, search needs, λ j h. absurd (omega arith))
+loop-holds c = (search needs, c .pre, λ j h. absurd (omega arith))
 
 cast-labels : tie.Need-cast-labels Inv-loop μ-loop
 cast-labels c = search needs
@@ -24,8 +24,8 @@ cast-labels c = search needs
 mul-labels : tie.Need-mul-labels Inv-loop μ-loop
 mul-labels c = search needs
 
-array-write-labels : tie.Need-array-write-labels Inv-loop μ-loop
-array-write-labels c = search needs
+element-write-labels : tie.Need-element-write-labels Inv-loop μ-loop
+element-write-labels c = search needs
 
 add-k : tie.Need-add-k Inv-loop μ-loop
 add-k c = search needs
@@ -50,7 +50,7 @@ own-labels-spec =
     loop-holds
     cast-labels
     mul-labels
-    array-write-labels
+    element-write-labels
     add-k
     loop-less
     loop-again
