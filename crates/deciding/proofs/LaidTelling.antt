@@ -8,7 +8,6 @@ use lib.ListN.{take, getD}
 use Rattle.rows.specs.Limits.{sheetLinks}
 use Rattle.rows.specs.declared.Atom.{Atom}
 use Rattle.sheet.specs.declared.normal.Normal as form
-use Rattle.placing.specs.Net.{Range}
 use Rattle.network.specs.NetIn.{netIn, atomAt}
 use Rattle.network.specs.Ready.{Ready, AtomsIn}
 use Rattle.narrowing.specs.Laid.{laidAtom, Rowed, LaidOut}

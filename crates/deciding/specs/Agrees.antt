@@ -9,6 +9,7 @@ use Rattle.sheet.specs.declared.normal.Normal as form
 use Rattle.placing.specs.Placing.{numberAt}
 use Rattle.network.specs.NetIn.{netIn, atomAt}
 use Rattle.completing.specs.Leaf.{NoneWith}
+use Rattle.deciding.specs.Flags.{Among}
 use Rattle.deciding.specs.Links.{PlacesAgree, Told}
 use Rattle.deciding.specs.declared.links.Links.{Links}
 
@@ -17,6 +18,11 @@ pub record PlaceOf (l : List ℕ) (n m r : ℕ) : Type 0 where
   pub within : r ≤ n
   pub found : r < n → getD l r 0 ≡ m
   pub missing : r ≡ n → (i : ℕ) → i < n → getD l i 0 ≢ m
+
+-- r says that each of the first n of a list is among the first m of another
+pub record AllAmong (l : List ℕ) (n : ℕ) (k : List ℕ) (m : ℕ) (r : Bool) : Type 0 where
+  pub passed : r ≡ true → (i : ℕ) → i < n → Among k m (getD l i 0)
+  pub refused : r ≡ false → (i : ℕ) × (i < n) × ((j : ℕ) → j < m → getD k j 0 ≢ getD l i 0)
 
 -- figure atom i and sheet atom t, both from 0
 pub record AtomAgrees (sheet figure : form.Normal) (to : List ℕ) (i t : ℕ) : Type 0 where

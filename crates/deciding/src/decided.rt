@@ -23,7 +23,20 @@ pub fn links_of<'a>(
 {
     let mut to = [0u16; Sheet::LINKS];
     let ok = put_atoms(laid, parts, figure.atom_count, &atoms_to, &mut to)
-        && marks_back(sheet, figure)
-        && put_marks(sheet, figure, &mut to);
+        && marks_back(
+            &sheet.marks,
+            sheet.mark_count,
+            &figure.marks,
+            figure.mark_count,
+        )
+        && put_marks(
+            &sheet.marks,
+            &sheet.marked,
+            sheet.mark_count,
+            &figure.marks,
+            &figure.marked,
+            figure.mark_count,
+            &mut to,
+        );
     Links { ok, to }
 }

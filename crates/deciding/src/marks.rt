@@ -1,13 +1,14 @@
 // The figure links that the marks decide.
 use crate::links::enter;
 use rows::Sheet;
-use sheet::normal::Normal;
 ghost use Prim.Native.Nat.{ℕ, _≤_};
 ghost use mathlib.Core.List.{List};
 ghost use Rattle.rows.specs.Limits.{sheetMarks};
-ghost use Rattle.network.specs.Ready.{Ready, AtomsIn};
+ghost use Rattle.sheet.specs.declared.normal.Normal.{Normal as NormalForm};
+ghost use Rattle.network.specs.Ready.{AtomsIn};
+ghost use Rattle.narrowing.specs.Marks.{MarkLinks, MarksIn};
 ghost use Rattle.deciding.specs.Links.{Told};
-ghost use Rattle.deciding.specs.Agrees.{PlaceOf, AtomsAgree, MarksBack, Judges, MarksPut};
+ghost use Rattle.deciding.specs.Agrees.{PlaceOf, AllAmong, AtomsAgree, MarksPut};
 
 // The index of a mark among the first `count`, or `count`.
 fn place_of(marks: &[u16; Sheet::MARK_ROOM], count: usize, mark: u16) -> usize
@@ -24,18 +25,26 @@ fn place_of(marks: &[u16; Sheet::MARK_ROOM], count: usize, mark: u16) -> usize
     i
 }
 
-// The figure's marks are on the sheet, and their links go to those of the sheet's marks.
-pub(crate) fn put_marks(sheet: Normal, figure: Normal, to: &mut [u16; Sheet::LINKS]) -> bool
-    requires { ⌜ Ready sheet figure ⌝ }
-    ensures { λ r. ⌜ ((atoms : List ℕ) → AtomsIn sheet (figure .«atom_count») atoms → Told sheet figure atoms (now (to .entry)) → AtomsAgree sheet figure atoms (now (to .entry)) → MarksPut sheet figure atoms (now (to .exit)) r) ⌝ }
+// The figure's m marks are among the sheet's n marks, and their links go to those of the sheet's marks.
+pub(crate) fn put_marks<'a>(
+    marks: &'a [u16; Sheet::MARK_ROOM],
+    marked: &'a [u16; Sheet::MARK_ROOM],
+    n: usize,
+    figure_marks: &'a [u16; Sheet::MARK_ROOM],
+    figure_marked: &'a [u16; Sheet::MARK_ROOM],
+    m: usize,
+    to: &mut [u16; Sheet::LINKS],
+) -> bool
+    requires { ⌜ (n ≤ sheetMarks) × MarkLinks (now «figure_marked») m ⌝ }
+    ensures { λ r. ⌜ ((sheet figure : NormalForm) → MarksIn sheet (now (marks .entry)) (now (marked .entry)) n → MarksIn figure (now («figure_marks» .entry)) (now («figure_marked» .entry)) m → (atoms : List ℕ) → AtomsIn sheet (figure .«atom_count») atoms → Told sheet figure atoms (now (to .entry)) → AtomsAgree sheet figure atoms (now (to .entry)) → MarksPut sheet figure atoms (now (to .exit)) r) ⌝ }
 {
     let mut i = 0;
-    while i < figure.mark_count {
-        let j = place_of(&sheet.marks, sheet.mark_count, figure.marks[i]);
-        if j == sheet.mark_count {
+    while i < m {
+        let j = place_of(marks, n, figure_marks[i]);
+        if j == n {
             return false;
         }
-        if !enter(&mut *to, (figure.marked[i] - 1) as usize, sheet.marked[j]) {
+        if !enter(&mut *to, (figure_marked[i] - 1) as usize, marked[j]) {
             return false;
         }
         i += 1;
@@ -43,15 +52,20 @@ pub(crate) fn put_marks(sheet: Normal, figure: Normal, to: &mut [u16; Sheet::LIN
     true
 }
 
-// The sheet's marks are in the figure.
-pub(crate) fn marks_back(sheet: Normal, figure: Normal) -> bool
-    requires { ⌜ Ready sheet figure ⌝ }
-    ensures { λ r. ⌜ ((atoms : List ℕ) → Judges sheet figure atoms (MarksBack sheet figure) r) ⌝ }
+// The sheet's n marks are among the figure's m marks.
+pub(crate) fn marks_back<'a>(
+    marks: &'a [u16; Sheet::MARK_ROOM],
+    n: usize,
+    figure_marks: &'a [u16; Sheet::MARK_ROOM],
+    m: usize,
+) -> bool
+    requires { ⌜ (n ≤ sheetMarks) × (m ≤ sheetMarks) ⌝ }
+    ensures { λ r. ⌜ AllAmong (now (marks .entry)) n (now («figure_marks» .entry)) m r ⌝ }
 {
     let mut i = 0;
-    while i < sheet.mark_count {
-        let j = place_of(&figure.marks, figure.mark_count, sheet.marks[i]);
-        if j == figure.mark_count {
+    while i < n {
+        let j = place_of(figure_marks, m, marks[i]);
+        if j == m {
             return false;
         }
         i += 1;
