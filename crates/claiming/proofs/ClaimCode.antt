@@ -12,6 +12,7 @@ use Rattle.rows.specs.Pick.{pick}
 use Rattle.rows.specs.Limits.{sheetAtoms, sheetLinks}
 use Rattle.rows.specs.Packed.{packed}
 use Rattle.rows.specs.declared.Sheet.{Sheet}
+use Rattle.sheet.specs.NormalSheet.{packedNormal}
 use Rattle.sheet.specs.Reading.{outcomeOf, noPorts}
 use Rattle.sheet.specs.declared.normal.Normal as form
 use Rattle.sheet.specs.declared.kind.Kind.the-variants.{Plain, Figure, Fillings}
@@ -27,9 +28,9 @@ use Rattle.matching.specs.Search.{placedIn}
 use Rattle.matching.specs.declared.search.Found.{Found}
 use Rattle.filling.specs.Read.{listHeld}
 use Rattle.filling.specs.Fill.{figureHeld, firstLacking, firstDiffering, filledBy, tooLarge}
-use Rattle.filling.specs.Parts.{Counted, firstUnported}
+use Rattle.filling.specs.Parts.{Counted, Low, firstUnported}
 use Rattle.filling.specs.Filled.{FilledIs}
-use Rattle.filling.proofs.Parts.{figure-within, list-within, counted}
+use Rattle.filling.proofs.Parts.{figure-within, figure-agrees, list-within, normal-low, low-counted, counted}
 use Rattle.filling.proofs.Answers.{lacking-made, differing-made}
 use Rattle.filling.proofs.ResultNet.{result-sheet}
 use Rattle.finding.specs.Place.{sheetHeld}
@@ -73,17 +74,17 @@ module _ (s f list : List ℕ) where
   unfolding claimedAnswer
   answer-sized z y b t = rw (nought lack z, nought differ y) (ap (λ c. pick c Differs (placedClaim (smallest (normalNet (sheetHeld s)) (filledNet f list)))) (sym t))
 
-pub figure-counted : (sheet : form.Normal) (figure : Sheet) (s f : List ℕ) → ClaimInputs sheet figure s f → Counted figure
-figure-counted sheet figure s f I = subst Counted (sym (I .of-figure)) (counted Figure (figureHeld f) (figure-within f))
+pub figure-counted : (sheet figure : form.Normal) (s f : List ℕ) → ClaimInputs sheet figure s f → Counted (figure .contexts) (figure .«context_count»)
+figure-counted sheet figure s f I = low-counted figure (subst Low (sym (I .of-figure)) (normal-low Figure (figureHeld f) (figure-within f) (figure-agrees f)))
 
-pub heads-counted : (heads : Sheet) (list : List ℕ) → heads ≡ packed (listHeld list) → Counted heads
-heads-counted heads list H = subst Counted (sym H) (counted Fillings (listHeld list) (list-within list))
+pub heads-counted : (heads : Sheet) (list : List ℕ) → heads ≡ packed (listHeld list) → Counted (heads .contexts) (heads .«context_count»)
+heads-counted heads list H = subst (λ (h : Sheet). Counted (h .contexts) (h .«context_count»)) (sym H) (counted Fillings (listHeld list) (list-within list))
 
 -- What the code finds.
-module _ (sheet : form.Normal) (figure heads : Sheet) (list : List ℕ) (H : heads ≡ packed (listHeld list)) (s f : List ℕ) (I : ClaimInputs sheet figure s f)
+module _ (sheet figure : form.Normal) (heads : Sheet) (list : List ℕ) (H : heads ≡ packed (listHeld list)) (s f : List ℕ) (I : ClaimInputs sheet figure s f)
     (clash : ℕ) (L : clash ≡ firstUnported (heads .ports) (take (figure .«context_count») (figure .contexts))) where
   lacks : clash ≡ lack s f list
-  lacks = L ∙ ap₂ (λ (x y : Sheet). firstUnported (x .ports) (take (y .«context_count») (y .contexts))) H (I .of-figure) ∙ lacking-made f list
+  lacks = L ∙ ap₂ (λ (x : Sheet) (y : form.Normal). firstUnported (x .ports) (take (y .«context_count») (y .contexts))) H (I .of-figure) ∙ lacking-made f list
 
   pub says-lacking : (clash ≡ 0 → ⊥) → BlankClash 2 clash ≡ claimedAnswer s f list
   says-lacking h = answer-lacking s f list clash lacks h
@@ -96,7 +97,7 @@ module _ (sheet : form.Normal) (figure heads : Sheet) (list : List ℕ) (H : hea
     says-differing h = answer-differing s f list (sym lacks ∙ z) other differs h
 
     module _ (y : other ≡ 0) (r : form.Normal)
-        (M : (text : List ℕ) → figure ≡ packed (figureHeld text) → firstLacking (listHeld list .contexts) (figureHeld text .contexts) ≡ 0 → firstDiffering list (listHeld list .contexts) ≡ 0 → FilledIs text list r) where
+        (M : (text : List ℕ) → figure ≡ packedNormal (figureHeld text) → firstLacking (listHeld list .contexts) (figureHeld text .contexts) ≡ 0 → firstDiffering list (listHeld list .contexts) ≡ 0 → FilledIs text list r) where
       filled : FilledIs f list r
       filled = M f (I .of-figure) (sym lacks ∙ z) (sym differs ∙ y)
 

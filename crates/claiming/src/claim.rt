@@ -41,17 +41,20 @@ fn claim_filled(sheet: Normal, filled: Normal) -> Claimed
 }
 
 // Texts that passed row by row. Too large a filled figure is no sheet.
-fn claim_read(sheet: Normal, figure: Sheet, heads: Sheet, list: &[u8]) -> Claimed
+fn claim_read(sheet: Normal, figure: Normal, heads: Sheet, list: &[u8]) -> Claimed
     requires { ⌜ ((s : List ℕ) × ((f : List ℕ) × ClaimInputs sheet figure s f)) × (heads ≡ packed (listHeld (now list))) × Passes (now list) ⌝ }
     ensures { λ r. ⌜ ((s f : List ℕ) → ClaimInputs sheet figure s f → r ≡ claimedAnswer s f (now (list .entry))) ⌝ }
 {
-    let clash = first_lacking(figure, heads);
+    let contexts = figure.contexts;
+    let ports = heads.ports;
+    let clash = first_lacking(contexts, figure.context_count, ports);
     if clash != 0 {
         return Claimed::BlankClash(2, clash);
     }
     let mut exact = [0u16; Sheet::NUMBERS];
     let filled = normal_filled(figure, list, &mut exact);
-    let other = first_differing(heads, list, &exact);
+    let rows = heads.contexts;
+    let other = first_differing(rows, heads.context_count, list, &exact);
     if other != 0 {
         return Claimed::EdgeDiffers(3, other);
     }
@@ -70,23 +73,28 @@ pub fn claim(sheet: &[u8], figure: &[u8], list: &[u8]) -> Claimed
 {
     let first = read_sheet(sheet);
     let one = first.answer;
-    let second = read_figure(figure);
-    let two = second.answer;
-    let third = read_list(list);
-    let three = third.answer;
     match one {
         Answer::Refused(why, row) => Claimed::Refused(1, why, row),
-        Answer::Passed => match two {
-            Answer::Refused(why, row) => Claimed::Refused(2, why, row),
-            Answer::Passed => match three {
-                Answer::Refused(why, row) => Claimed::Refused(3, why, row),
+        Answer::Passed => {
+            let second = read_figure(figure);
+            let two = second.answer;
+            match two {
+                Answer::Refused(why, row) => Claimed::Refused(2, why, row),
                 Answer::Passed => {
-                    let whole = first.sheet;
-                    let part = second.sheet;
-                    let heads = third.sheet;
-                    claim_read(normal_of(whole), part, heads, list)
+                    let third = read_list(list);
+                    let three = third.answer;
+                    match three {
+                        Answer::Refused(why, row) => Claimed::Refused(3, why, row),
+                        Answer::Passed => {
+                            let whole = first.sheet;
+                            let part = second.sheet;
+                            let heads = third.sheet;
+                            let normal = normal_of(whole);
+                            claim_read(normal, normal_of(part), heads, list)
+                        }
+                    }
                 }
-            },
-        },
+            }
+        }
     }
 }

@@ -8,10 +8,11 @@ use lib.ListN.{length, getD, take, set, replicate, length-set, length-replicate}
 use Rattle.hyperlmntal.specs.Link.{_∈_}
 use Rattle.rows.specs.Limits.{sheetLinks, figureContexts}
 use Rattle.rows.proofs.Padding.{getD-filled}
+use Rattle.rows.specs.declared.Context.{Context}
 use Rattle.sheet.specs.declared.normal.Normal as form
 use Rattle.placing.specs.Net.{NetCell}
 use Rattle.placing.proofs.Lists.{member-at, getD-of}
-use Rattle.network.specs.NetIn.{contextIn, contextAt, Used, Fit}
+use Rattle.network.specs.NetIn.{contextIn, rowAt, contextAt, Used, Fit, Ports}
 use Rattle.network.proofs.NetIn.{used-length, used-at, used-in, context-of}
 use Rattle.deciding.specs.Flags.{Among}
 use Rattle.deciding.specs.Links.{Places}
@@ -53,22 +54,22 @@ two-more c (suc d) h = go (decLt c (suc d)) (λ k. two-more c d k)
 pub places-of : (n count : ℕ) (links : List ℕ) → n ≤ sheetLinks → Used n count links → Places count links
 places-of n count links few u = record { few = u .few; numbered = λ k h. let r = u .numbered k h in (r .0, omega (arith, r .1)) }
 
-module _ (figure : form.Normal) (fit : Fit figure) where
-  pub kinds-start : (l : List ℕ) → l ≡ replicate sheetLinks 0 → KindsTo figure 0 l
+module _ (contexts : List Context) where
+  pub kinds-start : (l : List ℕ) → l ≡ replicate sheetLinks 0 → KindsTo contexts 0 l
   kinds-start l e = record {
     room = ap length e ∙ length-replicate {A = ℕ} sheetLinks 0;
     small = λ x h. omega (arith, ap (λ (k : List ℕ). getD k x 0) e, getD-filled {A = ℕ} 0 sheetLinks x);
     same = λ x z i h k f u. absurd (omega arith);
   }
 
-  pub row-places : (c : ℕ) → c < figure .«context_count» → Places (contextAt figure c .count) (contextAt figure c .links)
-  row-places c h = places-of (figure .«class_count») (contextAt figure c .count) (contextAt figure c .links) (fit .class-count) (fit .contexts c h)
+  pub row-places : (rows links : ℕ) → Ports contexts rows links → (c : ℕ) → c < rows → Places (rowAt contexts c .count) (rowAt contexts c .links)
+  row-places rows links p c h = places-of links (rowAt contexts c .count) (rowAt contexts c .links) (p .links-few) (p .used c h)
 
-  module _ (c : ℕ) (l flags : List ℕ) (k : KindsTo figure c l) (s : StandingIn (contextAt figure c .links) (contextAt figure c .count) flags) (less : c < figure .«context_count») where
+  module _ (c : ℕ) (l flags : List ℕ) (k : KindsTo contexts c l) (s : StandingIn (rowAt contexts c .links) (rowAt contexts c .count) flags) (less : c < figureContexts) where
     pub kinds-small : (x : ℕ) → x < sheetLinks → (getD l x 0 < 256) × (getD flags x 0 ≤ 1)
-    kinds-small x h = (omega (arith, k .small x h, two-more c figureContexts (omega (arith, fit .context-count))), s .small x)
+    kinds-small x h = (omega (arith, k .small x h, two-more c figureContexts (omega arith)), s .small x)
 
-    pub kinds-next : (r : List ℕ) → Doubled l flags r → KindsTo figure (suc c) r
+    pub kinds-next : (r : List ℕ) → Doubled l flags r → KindsTo contexts (suc c) r
     kinds-next r d = record {
       room = d .room;
       small = λ x h. omega (arith, d .each x h, k .small x h, s .small x);
@@ -79,14 +80,15 @@ module _ (figure : form.Normal) (fit : Fit figure) where
         parts x z h u e = let a = d .each x h in let b = d .each z u in let v = s .small x in let w = s .small z in (omega arith, omega arith)
 
         go : (x z i : ℕ) → x < sheetLinks → z < sheetLinks → getD r x 0 ≡ getD r z 0
-            → Among (contextAt figure i .links) (contextAt figure i .count) (suc x) → Dec (i < c) → i < suc c → Among (contextAt figure i .links) (contextAt figure i .count) (suc z)
+            → Among (rowAt contexts i .links) (rowAt contexts i .count) (suc x) → Dec (i < c) → i < suc c → Among (rowAt contexts i .links) (rowAt contexts i .count) (suc z)
         go x z i h u e m (yes b) w = k .same x z i h u (parts x z h u e .0) b m
         go x z i h u e m (no b) w =
             let q : c ≡ i = omega arith in
-            let t = subst (λ (j : ℕ). Among (contextAt figure j .links) (contextAt figure j .count) (suc x)) (sym q) m in
-            subst (λ (j : ℕ). Among (contextAt figure j .links) (contextAt figure j .count) (suc z)) q
+            let t = subst (λ (j : ℕ). Among (rowAt contexts j .links) (rowAt contexts j .count) (suc x)) (sym q) m in
+            subst (λ (j : ℕ). Among (rowAt contexts j .links) (rowAt contexts j .count) (suc z)) q
             (s .of-flag z (sym (parts x z h u e .1) ∙ s .flag-of (t .0) x (t .1) (t .2)))
 
+module _ (figure : form.Normal) (fit : Fit figure) where
   -- a link of a context, by its place
   among-in : (i : ℕ) → i < figure .«context_count» → (y : ℕ) → Among (contextAt figure i .links) (contextAt figure i .count) y → y ∈ contextIn (contextAt figure i) .1
   among-in i h y t = subst (λ (z : ℕ). z ∈ contextIn (contextAt figure i) .1) (t .2) (used-in (figure .«class_count») (contextAt figure i .count) (contextAt figure i .links) (fit .contexts i h) (t .0) (t .1))
@@ -100,7 +102,7 @@ module _ (figure : form.Normal) (fit : Fit figure) where
       let k : t .0 < count = omega (arith, t .1, used-length (figure .«class_count») count links u) in
       (t .0, k, sym (used-at (figure .«class_count») count links u (t .0) k) ∙ getD-of (take count links) (t .0) 0 y (t .2))
 
-  pub kinds-end : (l : List ℕ) → KindsTo figure (figure .«context_count») l → KindsIn figure l
+  pub kinds-end : (l : List ℕ) → KindsTo (figure .contexts) (figure .«context_count») l → KindsIn figure l
   kinds-end l k = record { room = k .room; same = λ x z h u e row m. (one x z h u e row (context-of figure fit row m), one z x u h (sym e) row (context-of figure fit row m)) }
     where
       one : (x z : ℕ) → x < sheetLinks → z < sheetLinks → getD l x 0 ≡ getD l z 0 → (row : NetCell) → (i : ℕ) × (i < figure .«context_count») × (contextIn (contextAt figure i) ≡ row) → suc x ∈ row .1 → suc z ∈ row .1

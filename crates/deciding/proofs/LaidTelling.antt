@@ -10,7 +10,7 @@ use Rattle.rows.specs.declared.Atom.{Atom}
 use Rattle.sheet.specs.declared.normal.Normal as form
 use Rattle.network.specs.NetIn.{netIn, atomAt}
 use Rattle.network.specs.Ready.{Ready, AtomsIn}
-use Rattle.narrowing.specs.Laid.{laidAtom, Rowed, LaidOut}
+use Rattle.candidates.specs.Laid.{laidAtom, Rowed, LaidOut}
 use Rattle.completing.specs.Leaf.{NoneWith}
 use Rattle.deciding.specs.Links.{Places, PlacesIn, Clash, Told}
 use Rattle.deciding.specs.Agrees.{AtomsAgreeTo}

@@ -13,7 +13,7 @@ use Rattle.placing.specs.Net.{Net}
 use Rattle.network.specs.NetIn.{netIn}
 use Rattle.network.specs.Ready.{Ready, AtomsIn}
 use Rattle.network.proofs.NetIn.{mark-in, mark-of}
-use Rattle.narrowing.specs.Marks.{MarksIn}
+use Rattle.candidates.specs.Marks.{MarksIn}
 use Rattle.completing.specs.Leaf.{NoneWith}
 use Rattle.completing.proofs.State.{by-mark}
 use Rattle.deciding.specs.Links.{Enters, Tells, Told}

@@ -4,8 +4,9 @@ use mathlib.Core.Path.{_≡_}
 use mathlib.Core.List.{List}
 use lib.ListN.{length, getD}
 use Rattle.rows.specs.Limits.{sheetLinks}
+use Rattle.rows.specs.declared.Context.{Context}
 use Rattle.sheet.specs.declared.normal.Normal as form
-use Rattle.network.specs.NetIn.{netIn, contextAt}
+use Rattle.network.specs.NetIn.{netIn, rowAt}
 use Rattle.completing.specs.Completion.{SameContexts}
 use Rattle.deciding.specs.Flags.{Among}
 
@@ -29,11 +30,11 @@ twoTo zero = 1
 twoTo (suc c) = twoTo c + twoTo c
 
 -- the numbers by the first c contexts
-pub record KindsTo (figure : form.Normal) (c : ℕ) (l : List ℕ) : Type 0 where
+pub record KindsTo (contexts : List Context) (c : ℕ) (l : List ℕ) : Type 0 where
   pub room : length l ≡ sheetLinks
   pub small : (x : ℕ) → x < sheetLinks → getD l x 0 < twoTo c
   pub same : (x z i : ℕ) → x < sheetLinks → z < sheetLinks → getD l x 0 ≡ getD l z 0 → i < c
-      → Among (contextAt figure i .links) (contextAt figure i .count) (suc x) → Among (contextAt figure i .links) (contextAt figure i .count) (suc z)
+      → Among (rowAt contexts i .links) (rowAt contexts i .count) (suc x) → Among (rowAt contexts i .links) (rowAt contexts i .count) (suc z)
 
 pub record KindsIn (figure : form.Normal) (l : List ℕ) : Type 0 where
   pub room : length l ≡ sheetLinks

@@ -3,23 +3,24 @@ use crate::links::Links;
 use crate::links::put_atoms;
 use crate::marks::marks_back;
 use crate::marks::put_marks;
-use narrowing::LAID;
+use candidates::LAID;
+use candidates::frame::Frame;
 use rows::Sheet;
-use sheet::normal::Normal;
 ghost use Rattle.network.specs.Ready.{Ready, AtomsIn};
-ghost use Rattle.narrowing.specs.Laid.{LaidOut};
+ghost use Rattle.candidates.specs.Laid.{LaidOut};
+ghost use Rattle.candidates.specs.Frames.{whole};
 ghost use Rattle.deciding.specs.Agrees.{AllPut};
 
 // `laid` are the sheet's atoms, `parts` the figure's.
 pub fn links_of<'a>(
-    sheet: Normal,
-    figure: Normal,
+    sheet: Frame,
+    figure: Frame,
     laid: &'a [u16; LAID],
     parts: &'a [u16; LAID],
     atoms_to: [u16; Sheet::ATOMS],
 ) -> Links
-    requires { ⌜ Ready sheet figure × AtomsIn sheet (figure .«atom_count») «atoms_to» × LaidOut sheet (now laid) (sheet .«atom_count») × LaidOut figure (now parts) (figure .«atom_count») ⌝ }
-    ensures { λ r. ⌜ AllPut sheet figure «atoms_to» r ⌝ }
+    requires { ⌜ Ready (whole sheet (now laid)) (whole figure (now parts)) × AtomsIn (whole sheet (now laid)) (figure .«atom_count») «atoms_to» × LaidOut (whole sheet (now laid)) (now laid) (sheet .«atom_count») × LaidOut (whole figure (now parts)) (now parts) (figure .«atom_count») ⌝ }
+    ensures { λ r. ⌜ AllPut (whole sheet (now (laid .entry))) (whole figure (now (parts .entry))) «atoms_to» r ⌝ }
 {
     let mut to = [0u16; Sheet::LINKS];
     let ok = put_atoms(laid, parts, figure.atom_count, &atoms_to, &mut to)

@@ -1,11 +1,12 @@
 // Links of one kind stand on the same contexts.
+use rows::Context;
 use rows::Sheet;
-use sheet::normal::Normal;
 ghost use Prim.Native.Nat.{ℕ, _<_, _≤_};
 ghost use mathlib.Core.Path.{_≡_};
 ghost use lib.ListN.{length, getD, replicate};
 ghost use Rattle.rows.specs.Limits.{sheetLinks};
-ghost use Rattle.network.specs.NetIn.{Fit};
+ghost use Rattle.sheet.specs.declared.normal.Normal.{Normal as NormalForm};
+ghost use Rattle.network.specs.NetIn.{Ports, ContextsIn};
 ghost use Rattle.deciding.specs.Links.{Places};
 ghost use Rattle.deciding.specs.Kinds.{StandingIn, Doubled, KindsIn};
 
@@ -41,14 +42,14 @@ fn double(kinds: &mut [u16; Sheet::LINKS], flags: &[u8; Sheet::LINKS])
 }
 
 // For each figure link the contexts on which it stands, as a sum of powers of two.
-pub fn kinds(figure: Normal) -> [u16; Sheet::LINKS]
-    requires { ⌜ Fit figure ⌝ }
-    ensures { λ r. ⌜ KindsIn figure r ⌝ }
+pub fn kinds(contexts: [Context; Sheet::CONTEXT_ROOM], rows: usize) -> [u16; Sheet::LINKS]
+    requires { ⌜ ((links : ℕ) × Ports contexts rows links) ⌝ }
+    ensures { λ r. ⌜ ((figure : NormalForm) (links : ℕ) → ContextsIn figure contexts rows links → KindsIn figure r) ⌝ }
 {
     let mut k = [0u16; Sheet::LINKS];
     let mut c = 0;
-    while c < figure.context_count {
-        let row = figure.contexts[c];
+    while c < rows {
+        let row = contexts[c];
         let links = row.links;
         let mut flags = [0u8; Sheet::LINKS];
         flag_links(&mut flags, links, row.count as usize);

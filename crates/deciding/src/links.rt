@@ -1,6 +1,6 @@
 // The figure links that the placed atoms decide.
-use narrowing::LAID;
-use narrowing::laid::laid_atom;
+use candidates::LAID;
+use candidates::laid::laid_atom;
 use rows::Sheet;
 ghost use Prim.Native.Nat.{ℕ, _<_};
 ghost use mathlib.Core.Path.{_≡_};
@@ -9,7 +9,7 @@ ghost use Rattle.rows.specs.Limits.{sheetLinks};
 ghost use Rattle.sheet.specs.declared.normal.Normal.{Normal as NormalForm};
 ghost use Rattle.placing.specs.Net.{Range};
 ghost use Rattle.network.specs.Ready.{AtomsIn};
-ghost use Rattle.narrowing.specs.Laid.{Rowed, LaidOut};
+ghost use Rattle.candidates.specs.Laid.{Rowed, LaidOut};
 ghost use Rattle.deciding.specs.Links.{Entered, Told, Places, PlacesPut};
 ghost use Rattle.deciding.specs.Agrees.{AtomsPut};
 

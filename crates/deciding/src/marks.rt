@@ -6,7 +6,7 @@ ghost use mathlib.Core.List.{List};
 ghost use Rattle.rows.specs.Limits.{sheetMarks};
 ghost use Rattle.sheet.specs.declared.normal.Normal.{Normal as NormalForm};
 ghost use Rattle.network.specs.Ready.{AtomsIn};
-ghost use Rattle.narrowing.specs.Marks.{MarkLinks, MarksIn};
+ghost use Rattle.candidates.specs.Marks.{MarkLinks, MarksIn};
 ghost use Rattle.deciding.specs.Links.{Told};
 ghost use Rattle.deciding.specs.Agrees.{PlaceOf, AllAmong, AtomsAgree, MarksPut};
 

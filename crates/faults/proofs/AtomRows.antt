@@ -1,11 +1,11 @@
 -- The rows of atoms that are laid out, as atoms of a net.
-use Prim.Native.Nat.{ℕ, suc, _≤_, _<_}
-use mathlib.Core.Path.{_≡_, sym, _∙_, subst}
+use Prim.Native.Nat.{ℕ, zero, suc, _+_, _*_, _≤_, _<_}
+use mathlib.Core.Path.{_≡_, refl, sym, _∙_, ap, subst}
 use native.Mathlib.Omega.{arith}
 use mathlib.Core.List.{List}
 use lib.ListN.{getD}
 use Rattle.hyperlmntal.specs.Link.{_∈_}
-use Rattle.rows.specs.Format.{mostLinks}
+use Rattle.rows.specs.Format.{mostLinks, fieldCount}
 use Rattle.rows.specs.Limits.{sheetLinks}
 use Rattle.rows.specs.declared.Atom.{Atom}
 use Rattle.sheet.proofs.normal.Merging.{getD-in}
@@ -13,14 +13,12 @@ use Rattle.placing.specs.Net.{Net, Range, Normal}
 use Rattle.placing.specs.Placing.{cellAt}
 use Rattle.placing.proofs.Lists.{member-at, getD-of}
 use Rattle.placing.proofs.Standing.{place-link}
-use Rattle.narrowing.specs.Laid.{laidAtom, Rowed}
-use Rattle.stepping.specs.Flags.{Within}
+use Rattle.candidates.specs.Laid.{laidAt, laidAtom, Rowed}
 use Rattle.stepping.specs.Chains.{RowIn}
-use Rattle.faults.specs.Grows.{RowsIn}
-use Rattle.faults.specs.Parts.{LinksOf}
+use Rattle.faults.specs.Parts.{StandsOn}
 
 module _ (S : Net) (j : ℕ) (links : List ℕ) (count : ℕ) (r : RowIn S j links count) where
-  pub row-on : LinksOf S j links count
+  pub row-on : (k : ℕ) → k < count → getD links k 0 ∈ (cellAt (S .atoms) (suc j)) .1
   row-on k h = subst (λ (y : ℕ). y ∈ (cellAt (S .atoms) (suc j)) .1) (r .same k h) (getD-in ((cellAt (S .atoms) (suc j)) .1) k 0 (let w = r .width in omega arith))
 
   pub row-numbered : Normal S → (k : ℕ) → k < count → Range (S .links) (getD links k 0)
@@ -34,8 +32,30 @@ module _ (S : Net) (j : ℕ) (links : List ℕ) (count : ℕ) (r : RowIn S j lin
 
 -- Atom j as it is read.
 module _ (laid : List ℕ) (atoms j : ℕ) (h : j < atoms) (a : Atom) (e : a ≡ laidAtom laid j) where
-  pub read-links : Rowed laid atoms → (a .count ≤ mostLinks) × Within sheetLinks (a .count) (a .links)
-  read-links r = subst (λ (b : Atom). (b .count ≤ mostLinks) × Within sheetLinks (b .count) (b .links)) (sym e) (let u = r .atoms j h in (u .few, u .numbered))
+  pub read-few : Rowed laid atoms → a .count ≤ mostLinks
+  read-few r = subst (λ (b : Atom). b .count ≤ mostLinks) (sym e) (r .atoms j h .few)
 
-  pub read-on : (S : Net) → RowsIn S laid atoms → LinksOf S j (a .links) (a .count)
-  read-on S rows = subst (λ (b : Atom). LinksOf S j (b .links) (b .count)) (sym e) (row-on S j (laidAtom laid j .links) (laidAtom laid j .count) (rows j h))
+  pub read-stands : (k : ℕ) → k < a .count → StandsOn laid atoms j (getD (a .links) k 0)
+  read-stands = subst (λ (b : Atom). (k : ℕ) → k < b .count → StandsOn laid atoms j (getD (b .links) k 0)) (sym e) (λ k l S rows. row-on S j (laidAtom laid j .links) (laidAtom laid j .count) (rows j h) k l)
+
+-- What stands in row j of those laid out.
+pub laid-count : (laid : List ℕ) (j : ℕ) → laidAt laid j 1 ≡ laidAtom laid j .count
+unfolding laidAtom
+laid-count laid j = refl
+
+pub laid-link : (laid : List ℕ) (j k : ℕ) → k < mostLinks → getD laid (j * fieldCount + 2 + k) 0 ≡ getD (laidAtom laid j .links) k 0
+unfolding laidAtom
+laid-link laid j zero h = ap (λ (n : ℕ). getD laid n 0) (omega arith)
+laid-link laid j (suc zero) h = ap (λ (n : ℕ). getD laid n 0) (omega arith)
+laid-link laid j (suc (suc zero)) h = ap (λ (n : ℕ). getD laid n 0) (omega arith)
+laid-link laid j (suc (suc (suc zero))) h = ap (λ (n : ℕ). getD laid n 0) (omega arith)
+laid-link laid j (suc (suc (suc (suc zero)))) h = ap (λ (n : ℕ). getD laid n 0) (omega arith)
+laid-link laid j (suc (suc (suc (suc (suc zero))))) h = ap (λ (n : ℕ). getD laid n 0) (omega arith)
+laid-link laid j (suc (suc (suc (suc (suc (suc k)))))) h = absurd (omega arith)
+
+module _ (laid : List ℕ) (atoms j : ℕ) (r : Rowed laid atoms) (h : j < atoms) where
+  pub laid-few : laidAt laid j 1 ≤ mostLinks
+  laid-few = subst (λ (n : ℕ). n ≤ mostLinks) (sym (laid-count laid j)) (r .atoms j h .few)
+
+  pub laid-range : (k : ℕ) → k < laidAt laid j 1 → Range sheetLinks (getD laid (j * fieldCount + 2 + k) 0)
+  laid-range k l = subst (Range sheetLinks) (sym (laid-link laid j k (let f = laid-few in omega arith))) (r .atoms j h .numbered k (let e = laid-count laid j in omega arith))

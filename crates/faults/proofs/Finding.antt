@@ -1,6 +1,6 @@
 -- What is found, over the nets.
 use Prim.Native.Nat.{ℕ, suc, _+_, _-_, _≤_, _<_}
-use mathlib.Core.Path.{_≡_, refl, sym, _∙_, ap, subst}
+use mathlib.Core.Path.{_≡_, sym, _∙_, ap, subst}
 use mathlib.Core.Logic.{_↔_, _≢_}
 use mathlib.Core.List.{List, [], _∷_, List·Memᴰ·eq-of-singleton}
 use mathlib.Core.Bool.{true}
@@ -8,52 +8,77 @@ use native.Mathlib.Omega.{arith}
 use lib.ListN.{length, take, getD, set, replicate}
 use lib.Seq.{getD-take, getD-set-same, length-take-le}
 use Rattle.rows.specs.Limits.{sheetLinks}
-use Rattle.rows.specs.declared.Atom.{Atom}
 use Rattle.sheet.specs.declared.normal.Normal as form
 use Rattle.placing.specs.Net.{NetCell, Net, Range}
-use Rattle.placing.specs.Placing.{Placing, numberAt}
+use Rattle.placing.specs.Placing.{Placing, numberAt, cellAt}
 use Rattle.network.specs.NetIn.{netIn}
-use Rattle.network.specs.Ready.{Ready, LinksIn, TakenIn, stateIn}
-use Rattle.network.proofs.NetIn.{atoms-length, contexts-length}
-use Rattle.narrowing.specs.Laid.{LaidOut}
+use Rattle.network.specs.Ready.{Ready, TakenIn, stateIn}
+use Rattle.network.proofs.NetIn.{atoms-length, contexts-length, of-net, to-net}
+use Rattle.candidates.specs.Laid.{Rowed}
+use Rattle.candidates.proofs.Laying.{laid-rowed}
 use Rattle.completing.specs.Completion.{Partial}
 use Rattle.completing.specs.Fault as faults
 use Rattle.faults.specs.declared.fault.Fault.{Fault}
 use Rattle.stepping.specs.Flags.{Within, goesTo, portOfNumber}
-use Rattle.stepping.specs.Chains.{ChainsIn, RowIn}
+use Rattle.stepping.specs.Chains.{nodeOf, Falls, Chained}
+use Rattle.stepping.specs.Contexts.{numberOf}
 use Rattle.stepping.specs.Labels.{Apart}
 use Rattle.faults.specs.Grows.{Tables}
 use Rattle.faults.specs.Gives.{GivesAt, TakenFlags, HeldIn}
-use Rattle.faults.specs.Finds.{Finds}
+use Rattle.faults.specs.declared.nets.Nets.{Nets}
+use Rattle.faults.specs.Finds.{Over, Finds}
 use Rattle.stepping.proofs.Reading.{context-cell, used-read, port-read}
-use Rattle.stepping.proofs.Chaining.{row-in}
-use Rattle.stepping.proofs.Linking.{all-linked, two-apart}
+use Rattle.stepping.proofs.Chaining.{laid-in}
+use Rattle.stepping.proofs.Linking.{ApartIn, all-linked, two-apart}
 
-module _ (sheet figure : form.Normal) (ready : Ready sheet figure) (to : List ℕ) (links : LinksIn sheet figure to) where
+module _ {sheet figure : form.Normal} {nets : Nets} {laid chains to : List ℕ} (over : Over sheet figure nets laid chains to) where
   abbrev S : Net
   S = netIn sheet
 
   abbrev F : Net
   F = netIn figure
 
-  abbrev none : ℕ
-  none = sheet .«class_count» + 1
+  abbrev ready : Ready sheet figure
+  ready = over .nets-in .ready
 
-  pub to-within : Within none (figure .«class_count») to
-  to-within x h = let r = links .within x h in (r .0, omega (arith, r .1))
+  abbrev none : ℕ
+  none = nets .links + 1
+
+  last : none ≡ S .links + 1
+  last = ap (λ (n : ℕ). n + 1) (sym (over .nets-in .sheet-links))
+
+  within : Within none (figure .«class_count») to
+  within x h = let r = over .links-in .within x h in (r .0, omega (arith, r .1, over .nets-in .sheet-links))
+
+  pub to-within : Within none (nets .count) to
+  to-within = of-net (over .nets-in .contexts-in) (λ contexts rows links. Within none links to) within
 
   pub none-room : none ≤ sheetLinks + 1
-  none-room = let h = ready .sheet-fit .class-count in omega arith
+  none-room = omega (arith, ready .sheet-fit .class-count, over .nets-in .sheet-links)
 
-  pub held-in : (laid : List ℕ) → LaidOut sheet laid (sheet .«atom_count») → HeldIn S F laid (sheet .«atom_count») (sheet .«class_count») (figure .contexts) (figure .«context_count»)
-  held-in laid o = record {
-    link-count = refl;
-    atom-rows = λ j h. subst (λ (a : Atom). RowIn S j (a .links) (a .count)) (sym (o .atoms j h)) (row-in sheet (ready .sheet-fit) j h);
-    choice-count = contexts-length figure (ready .figure-fit);
-    choice-number = λ c h. ap (λ (r : NetCell). r .0) (context-cell figure (ready .figure-fit) c h);
-  }
+  pub links-few : nets .links ≤ sheetLinks
+  links-few = omega (arith, ready .sheet-fit .class-count, over .nets-in .sheet-links)
 
-  pub apart-room : (y : ℕ) → y ≢ 0 → Apart figure to none y → y - 1 < sheetLinks
+  pub rowed : Rowed laid (nets .atoms)
+  rowed = laid-rowed sheet laid (nets .atoms) (over .nets-in .laid-out)
+
+  chained : Chained S (nodeOf (nets .atoms) 0) chains
+  chained = subst (λ (n : ℕ). Chained S (nodeOf n 0) chains) (over .nets-in .laid-out .count) (over .chains-in)
+
+  pub falls : Falls (nodeOf (nets .atoms) 0) chains
+  falls = chained .nodes
+
+  pub held-in : HeldIn S F laid (nets .atoms) (nets .links) (numberOf (nets .contexts)) (nets .rows)
+  held-in = let c = of-net (over .nets-in .contexts-in) (λ contexts rows links. (length (F .contexts) ≡ rows) × ((c : ℕ) → c < rows → (cellAt (F .contexts) (suc c)) .0 ≡ numberOf contexts c))
+      (contexts-length figure (ready .figure-fit), λ c h. ap (λ (r : NetCell). r .0) (context-cell figure (ready .figure-fit) c h)) in
+      record {
+        link-count = over .nets-in .sheet-links;
+        atom-rows = laid-in sheet laid (nets .atoms) (over .nets-in .laid-out);
+        choice-count = c .0;
+        choice-number = c .1;
+      }
+
+  pub apart-room : (y : ℕ) → y ≢ 0 → Apart (nets .contexts) (nets .rows) (nets .count) to none y → y - 1 < sheetLinks
   apart-room y n w =
       let t = w .two-apart n in
       let r = to-within (t .0) (t .2 .first-in) in
@@ -62,47 +87,51 @@ module _ (sheet figure : form.Normal) (ready : Ready sheet figure) (to : List �
       let h = none-room in
       omega (arith, r .0, r .1)
 
+  apart-in : (y : ℕ) → Apart (nets .contexts) (nets .rows) (nets .count) to none y → ApartIn figure to none y
+  apart-in y w = to-net (over .nets-in .contexts-in) (λ contexts rows links. Apart contexts rows links to none y) w
+
   module _ (atoms un : List ℕ) where
     abbrev q : Placing
     q = stateIn figure atoms to
 
-    pub apart-found : (y : ℕ) (given : List ℕ) → y ≢ 0 → Apart figure to none y → Finds sheet figure q (record { found = true; links = set (replicate 96 0) (y - 1) 1; given = given })
+    pub apart-found : (y : ℕ) (given : List ℕ) → y ≢ 0 → Apart (nets .contexts) (nets .rows) (nets .count) to none y → Finds sheet figure q (record { found = true; links = set (replicate 96 0) (y - 1) 1; given = given })
     apart-found y given n w = record {
       none-found = λ e. absurd (let z : _≡_ {A = ℕ} 0 1 = cc in omega arith);
       some-found = λ e. (
         y ∷ [],
-        faults.apart y (two-apart S figure (ready .figure-fit) atoms to none refl to-within y n w),
+        faults.apart y (two-apart S figure (ready .figure-fit) atoms to none last within y n (apart-in y w)),
         λ z m.
             subst (λ (i : ℕ). _≡_ {A = ℕ} (getD (set (replicate 96 0) (y - 1) 1) (i - 1) 0) 1) (sym (List·Memᴰ·eq-of-singleton m)) (getD-set-same (replicate 96 0) (y - 1) 1 0 (apart-room y n w)),
       );
     }
 
-    pub tables-in : (chains used ports : List ℕ) → ChainsIn sheet chains → Partial S F q un
-        → ((y : ℕ) → (getD used y 0 ≡ 1) ↔ ((x : ℕ) × (x < figure .«class_count») × goesTo to none x y))
-        → ((p : ℕ) → (getD ports p 0 ≡ 1) ↔ ((c : ℕ) × (c < figure .«context_count») × portOfNumber figure to none c p))
-        → Tables S F q chains used ports (sheet .«atom_count») (figure .«context_count»)
-    tables-in chains used ports t p u v = record {
+    pub tables-in : (used ports : List ℕ) → Partial S F q un
+        → ((y : ℕ) → (getD used y 0 ≡ 1) ↔ ((x : ℕ) × (x < nets .count) × goesTo to none x y))
+        → ((p : ℕ) → (getD ports p 0 ≡ 1) ↔ ((c : ℕ) × (c < nets .rows) × portOfNumber (nets .contexts) (nets .rows) to none c p))
+        → Tables S F q chains used ports (nets .atoms) (nets .rows)
+    tables-in used ports p u v = record {
       around = record {
         sheet-normal = ready .sheet-normal;
         normal = ready .figure-normal;
         across = p .across;
-        atom-count = atoms-length sheet (ready .sheet-fit);
-        narrow = λ j h. let w = row-in sheet (ready .sheet-fit) j h .width in let k = ready .sheet-fit .atoms j h .few in omega arith;
+        atom-count = atoms-length sheet (ready .sheet-fit) ∙ over .nets-in .laid-out .count;
+        narrow = λ j h. let w = held-in .atom-rows j h .width in let k = rowed .atoms j h .few in omega arith;
       };
-      chained = t;
-      used-flag = λ y h. used-read figure (ready .figure-fit) S atoms to none y (omega arith) used u;
-      port-flag = λ c y i h. port-read figure (ready .figure-fit) S atoms to none c y i (omega arith) none-room to-within ports v;
+      chained = chained;
+      used-flag = λ y h. used-read figure (ready .figure-fit) S atoms to none y (omega (arith, over .nets-in .sheet-links)) used (to-net (over .nets-in .contexts-in) (λ contexts rows links. (z : ℕ) → (getD used z 0 ≡ 1) ↔ ((x : ℕ) × (x < links) × goesTo to none x z)) u);
+      port-flag = λ c y i h. port-read figure (ready .figure-fit) S atoms to none c y (omega (arith, i, over .nets-in .contexts-in .row-count)) (omega (arith, over .nets-in .sheet-links)) none-room within ports
+          (to-net (over .nets-in .contexts-in) (λ contexts rows links. (p : ℕ) → (getD ports p 0 ≡ 1) ↔ ((c : ℕ) × (c < rows) × portOfNumber contexts rows to none c p)) v);
     }
 
-    pub taken-flags : (taken : List ℕ) → TakenIn sheet figure q taken → TakenFlags S F q (sheet .«atom_count») taken
-    taken-flags taken t j h = let w = t .flags (suc j) (omega arith, omega arith) in
+    pub taken-flags : (taken : List ℕ) → TakenIn sheet figure q taken → TakenFlags S F q (nets .atoms) taken
+    taken-flags taken t j h = let w = t .flags (suc j) (omega arith, omega (arith, over .nets-in .laid-out .count)) in
         let e : suc j - 1 ≡ j = omega arith in
         ((λ i. w .0 (ap (λ (n : ℕ). getD taken n 0) e ∙ i)), (λ k. ap (λ (n : ℕ). getD taken n 0) (sym e) ∙ w .1 k))
 
-    pub served-found : (r : Fault) → Apart figure to none 0 → GivesAt S F q r → Finds sheet figure q r
+    pub served-found : (r : Fault) → Apart (nets .contexts) (nets .rows) (nets .count) to none 0 → GivesAt S F q r → Finds sheet figure q r
     served-found r w g = record {
       none-found = λ e. let k = g .none-found e in (
-        record { linked = all-linked S figure (ready .figure-fit) atoms to none refl to-within w; served = λ j o. let l = k .0 j o in (numberAt (r .given) j, l .number, l .allowed) },
+        record { linked = all-linked S figure (ready .figure-fit) atoms to none last within (apart-in 0 w); served = λ j o. let l = k .0 j o in (numberAt (r .given) j, l .number, l .allowed) },
         record {
           atoms-given = length-take-le (sheet .«atom_count») (r .given) (let h = ready .sheet-fit .atom-count in let room = g .room in omega arith) ∙ sym (atoms-length sheet (ready .sheet-fit));
           not-given = λ j o t. same j o ∙ k .1 j o t;

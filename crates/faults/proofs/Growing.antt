@@ -19,7 +19,7 @@ use Rattle.completing.proofs.Growing.{part-link, part-atom, serves-more, serves
 use Rattle.stepping.specs.Chains.{nodeOf, NodeOn, LastOn}
 use Rattle.faults.specs.Grows.{Growth, Sized, added, atomsOf, Longer, Kept, Around, Holds, WithAtoms, WithLink, WithLinks}
 use Rattle.stepping.proofs.Tables.{store-flag, below-next}
-use Rattle.faults.proofs.Ones.{ones-set, ones-room}
+use Rattle.faults.proofs.Marks.{marks-set, marks-room, store-mark}
 use Rattle.rows.proofs.RowRange.{le-or-lt}
 use Rattle.sheet.proofs.normal.Merging.{getD-in}
 
@@ -53,11 +53,11 @@ atoms-longer g r atoms a s j m =
 
 -- An atom joins, or a link is looked at.
 module _ (S F : Net) (q : Placing) (root : ℕ) (part members flags seen : List ℕ) (w : Holds S F q root part members flags seen) where
-  pub holds-atom : (atoms y i : ℕ) → i < length members → i < atoms → Around S F q atoms → suc y ∈ seen → ¬ Used S F q (suc y) → suc y ∈ (cellAt (S .atoms) (suc i)) .1
-      → Holds S F q root (part ++ (suc i ∷ [])) (set members i 1) flags seen
-  holds-atom atoms y i room h a m u on = record {
+  pub holds-atom : (atoms y i v : ℕ) → i < atoms → Around S F q atoms → suc y ∈ seen → ¬ Used S F q (suc y) → suc y ∈ (cellAt (S .atoms) (suc i)) .1
+      → Holds S F q root (part ++ (suc i ∷ [])) (set members i v) flags seen
+  holds-atom atoms y i v h a m u on = record {
     connected = part-atom S F q root part seen (w .connected) (a .normal) (a .across) (suc y) (suc i) m u (omega arith, (let e = a .atom-count in omega arith)) on;
-    flagged = λ j e. ⊎-elim (λ b. Memᴰ·append-left (suc i ∷ []) (w .flagged j b)) (λ b. Memᴰ·append-right part (List·Memᴰ·head (ap suc b))) (store-flag members i room j .0 e);
+    flagged = λ j e. ⊎-elim (λ b. Memᴰ·append-left (suc i ∷ []) (w .flagged j b)) (λ b. Memᴰ·append-right part (List·Memᴰ·head (ap suc b))) (store-mark members i v j e);
     looked = w .looked;
     flagged-seen = w .flagged-seen;
   }
@@ -80,15 +80,15 @@ Joins atoms i g r =
     → Holds S F q root (atomsOf g) (g .members) flags seen → Holds S F q root (atomsOf r) (r .members) flags seen × ((j : ℕ) → j ∈ atomsOf g → j ∈ atomsOf r) × (suc i ∈ atomsOf r)
 
 -- One more atom.
-module _ (atoms : ℕ) (g : Growth) (i : ℕ) (few : atoms ≤ sheetAtoms) (s : Sized atoms g) (h : i < atoms) (new : getD (g .members) i 0 ≢ 1) where
+module _ (atoms : ℕ) (g : Growth) (i v : ℕ) (few : atoms ≤ sheetAtoms) (s : Sized atoms g) (h : i < atoms) (new : getD (g .members) i 0 ≡ 0) (mark : 1 ≤ v) where
   pub added-room : g .count < sheetAtoms
-  added-room = let e = s .counted in let r = s .members-room in let o = ones-room (g .members) i (omega arith) new in omega arith
+  added-room = let e = s .counted in let r = s .members-room in let o = marks-room (g .members) i (omega arith) new in omega arith
 
-  pub sized-added : Sized atoms (added g i)
+  pub sized-added : Sized atoms (added g i v)
   sized-added = record {
     order-room = simp length-set (s .order-room);
     members-room = simp length-set (s .members-room);
-    counted = (let e = ones-set (g .members) i (let r = s .members-room in omega arith) new in let c = s .counted in omega arith);
+    counted = (let e = marks-set (g .members) i v (let r = s .members-room in omega arith) new (λ z. omega arith) in let c = s .counted in omega arith);
     most = let m = added-room in omega arith;
     listed = λ k l. at k l (ℕ-discrete k (g .count));
   }
@@ -98,28 +98,28 @@ module _ (atoms : ℕ) (g : Growth) (i : ℕ) (few : atoms ≤ sheetAtoms) (s : 
           (subst (λ (n : ℕ). n < atoms) (sym (getD-set-same (g .order) (g .count) i 0 (let r = s .order-room in let m = added-room in omega arith))) h)
       at k l (no e) = subst (λ (n : ℕ). n < atoms) (sym (getD-set-other (g .order) (g .count) k i 0 e)) (s .listed k (omega arith))
 
-  pub longer-added : Longer g (added g i)
+  pub longer-added : Longer g (added g i v)
   longer-added = record { count-kept = omega arith; order-kept = λ k l. getD-set-other (g .order) (g .count) k i 0 (λ e. omega arith) }
 
-  atoms-added : atomsOf (added g i) ≡ atomsOf g ++ (suc i ∷ [])
+  atoms-added : atomsOf (added g i v) ≡ atomsOf g ++ (suc i ∷ [])
   atoms-added =
       ap (λ (n : ℕ). map suc (take n (set (g .order) (g .count) i))) (let e : g .count + 1 ≡ suc (g .count) = omega arith in e)
       ∙ ap (map suc) (take-suc-set (g .order) (g .count) i (let r = s .order-room in let m = added-room in omega arith))
       ∙ map-append suc (take (g .count) (g .order)) (i ∷ [])
 
-  atom-added : suc i ∈ atomsOf (added g i)
+  atom-added : suc i ∈ atomsOf (added g i v)
   atom-added = subst (λ (l : List ℕ). suc i ∈ l) (sym atoms-added) (Memᴰ·append-right (atomsOf g) (List·Memᴰ·head refl))
 
-  pub joins : Joins atoms i g (added g i)
+  pub joins : Joins atoms i g (added g i v)
   joins S F q root y flags seen a m u on w = (
-    subst (λ (l : List ℕ). Holds S F q root l (set (g .members) i 1) flags seen) (sym atoms-added)
-        (holds-atom S F q root (atomsOf g) (g .members) flags seen w atoms y i (let r = s .members-room in omega arith) h a m u on),
-    atoms-longer g (added g i) atoms longer-added sized-added,
+    subst (λ (l : List ℕ). Holds S F q root l (set (g .members) i v) flags seen) (sym atoms-added)
+        (holds-atom S F q root (atomsOf g) (g .members) flags seen w atoms y i v h a m u on),
+    atoms-longer g (added g i v) atoms longer-added sized-added,
     atom-added,
   )
 
 -- An atom that is a member is there.
-pub stays : (atoms i : ℕ) (g : Growth) → getD (g .members) i 0 ≡ 1 → Joins atoms i g g
+pub stays : (atoms i : ℕ) (g : Growth) → getD (g .members) i 0 ≢ 0 → Joins atoms i g g
 stays atoms i g e S F q root y flags seen a m u on w = (w, (λ j k. k), w .flagged i e)
 
 -- Along the chain of a link.
@@ -154,12 +154,12 @@ module _ (chains : List ℕ) (y atoms : ℕ) (hy : y < sheetLinks) where
       go z b p (no f) = ⊎-elim (λ n. absurd (l .none z b (omega arith) p)) (λ n. d .1 (suc (p .atom)) (t .2 z n p)) (le-or-lt z v)
 
 -- A link of a member is looked at.
-module _ (chains used ports : List ℕ) (y atoms contexts : ℕ) (g : Growth) (flags left : List ℕ) (room : y < length flags) where
+module _ (chains used ports : List ℕ) (y atoms contexts : ℕ) (g : Growth) (flags cuts : List ℕ) (room : y < length flags) where
   -- a figure link goes there: contexts with no port there leave
-  pub grows-used : (leftNow : List ℕ) → getD used y 0 ≡ 1
-      → ((c : ℕ) → c < contexts → (getD leftNow c 0 ≡ 1) ↔ ((getD left c 0 ≡ 1) × (getD ports (c * sheetLinks + y) 0 ≡ 1)))
-      → WithLink chains used ports y atoms contexts g flags left g (set flags y 1) leftNow
-  grows-used leftNow e f S F q root j t hy m on w = record {
+  pub grows-used : (cutsNow : List ℕ) → getD used y 0 ≡ 1
+      → ((c : ℕ) → c < contexts → (getD cutsNow c 0 ≡ 0) ↔ ((getD cuts c 0 ≡ 0) × (getD ports (c * sheetLinks + y) 0 ≡ 1)))
+      → WithLink chains used ports y atoms contexts g flags cuts g (set flags y 1) cutsNow
+  grows-used cutsNow e f S F q root j t hy m on w = record {
     seen = seen ++ (suc y ∷ []);
     holds = holds-looked S F q root (atomsOf g) (g .members) flags seen (w .holds) y j room m on;
     serves = λ c l. (onward c l, back c l);
@@ -175,14 +175,14 @@ module _ (chains used ports : List ℕ) (y atoms contexts : ℕ) (g : Growth) (f
       number : ℕ → ℕ
       number c = (cellAt (F .contexts) (suc c)) .0
 
-      onward : (c : ℕ) → c < contexts → getD leftNow c 0 ≡ 1 → Serves S F q (seen ++ (suc y ∷ [])) (number c)
+      onward : (c : ℕ) → c < contexts → getD cutsNow c 0 ≡ 0 → Serves S F q (seen ++ (suc y ∷ [])) (number c)
       onward c l k = serves-more S F q (number c) seen (suc y) (w .serves c l .0 (f c l .0 k .0)) (λ u. t .port-flag c y l hy .0 (f c l .0 k .1))
 
-      back : (c : ℕ) → c < contexts → Serves S F q (seen ++ (suc y ∷ [])) (number c) → getD leftNow c 0 ≡ 1
+      back : (c : ℕ) → c < contexts → Serves S F q (seen ++ (suc y ∷ [])) (number c) → getD cutsNow c 0 ≡ 0
       back c l k = f c l .1 (w .serves c l .1 (serves-before S F q (number c) seen (suc y) k), t .port-flag c y l hy .1 (k (suc y) (Memᴰ·append-right seen (List·Memᴰ·head refl)) is-used))
 
   -- no figure link goes there: its atoms join
-  pub grows-unused : (r : Growth) → Sized atoms r → Longer g r → getD used y 0 ≢ 1 → WithAtoms chains y atoms 0 g r → WithLink chains used ports y atoms contexts g flags left r (set flags y 1) left
+  pub grows-unused : (r : Growth) → Sized atoms r → Longer g r → getD used y 0 ≢ 1 → WithAtoms chains y atoms 0 g r → WithLink chains used ports y atoms contexts g flags cuts r (set flags y 1) cuts
   grows-unused r sr longer e f S F q root j t hy m on w = record {
     seen = seen ++ (suc y ∷ []);
     holds = v .0;
@@ -217,15 +217,15 @@ module _ (chains used ports : List ℕ) (y atoms contexts : ℕ) (g : Growth) (f
           Memᴰ·cast d (v .2 (nodeOf (i - 1) (p .0)) (omega arith) (record { atom = i - 1; place = p .0; atom-in = omega arith; place-in = p .1; place-few = few; link = getD-of cell (p .0) 0 (suc y) (p .2); node = refl }))
 
 -- One link of an atom more.
-module _ (chains used ports links : List ℕ) (atoms contexts : ℕ) (g : Growth) (flags left : List ℕ) where
-  pub links-start : WithLinks chains used ports links 0 atoms contexts g flags left g flags left
+module _ (chains used ports links : List ℕ) (atoms contexts : ℕ) (g : Growth) (flags cuts : List ℕ) where
+  pub links-start : WithLinks chains used ports links 0 atoms contexts g flags cuts g flags cuts
   links-start = record { looked = λ k l. absurd (omega arith); grows = λ S F q root j t m on w. w }
 
-  pub links-next : (k : ℕ) (next : Growth) (flagsNext leftNext : List ℕ) (r : Growth) (flagsNow leftNow : List ℕ) → 1 ≤ getD links k 0 → Longer g next → Sized atoms next → Kept flagsNext flagsNow
-      → WithLinks chains used ports links k atoms contexts g flags left next flagsNext leftNext
-      → getD flagsNow (getD links k 0 - 1) 0 ≡ 1 → WithLink chains used ports (getD links k 0 - 1) atoms contexts next flagsNext leftNext r flagsNow leftNow
-      → WithLinks chains used ports links (k + 1) atoms contexts g flags left r flagsNow leftNow
-  links-next k next flagsNext leftNext r flagsNow leftNow low a s b w now v = record {
+  pub links-next : (k : ℕ) (next : Growth) (flagsNext cutsNext : List ℕ) (r : Growth) (flagsNow cutsNow : List ℕ) → 1 ≤ getD links k 0 → Longer g next → Sized atoms next → Kept flagsNext flagsNow
+      → WithLinks chains used ports links k atoms contexts g flags cuts next flagsNext cutsNext
+      → getD flagsNow (getD links k 0 - 1) 0 ≡ 1 → WithLink chains used ports (getD links k 0 - 1) atoms contexts next flagsNext cutsNext r flagsNow cutsNow
+      → WithLinks chains used ports links (k + 1) atoms contexts g flags cuts r flagsNow cutsNow
+  links-next k next flagsNext cutsNext r flagsNow cutsNow low a s b w now v = record {
     looked = below-next (λ i. getD flagsNow (getD links i 0 - 1) 0 ≡ 1) k (λ i l. b (getD links i 0 - 1) (w .looked i l)) now;
     grows = λ S F q root j t m on x.
         let o = on k (omega arith) in

@@ -1,5 +1,5 @@
 -- A component.
-pub mod Ones
+pub mod Marks
 pub mod AtomRows
 pub mod Growing
 pub mod Whole

@@ -1,49 +1,74 @@
 -- The laws of a small part that no context serves.
 use Prim.Native.Nat.{ℕ, suc, _+_, _-_, _≤_, _<_}
 use mathlib.Core.Path.{_≡_, refl, sym, subst}
-use mathlib.Core.Logic.{_≢_}
-use mathlib.Core.List.{List, [], _∷_, _++_, List·Memᴰ·head, Memᴰ·cast, Memᴰ·append-right}
+use mathlib.Core.Logic.{inl, _≢_}
+use mathlib.Core.List.{List, [], _∷_, _++_, List·Memᴰ·head, Memᴰ·append-right}
 use native.Mathlib.Omega.{arith}
-use lib.ListN.{length, getD, set}
+use lib.ListN.{length, getD, set, length-set}
 use Rattle.hyperlmntal.specs.Link.{_∈_}
 use Rattle.rows.specs.Limits.{sheetAtoms, sheetLinks}
 use Rattle.placing.specs.Net.{Net}
 use Rattle.placing.specs.Placing.{Placing, cellAt, PortAt}
 use Rattle.completing.proofs.Growing.{part-cut-off}
-use Rattle.faults.specs.Grows.{Tables}
-use Rattle.faults.specs.Parts.{HoldsSome, LinksOf, WithStep, WithEnds, Cut, CutLinks, Rows}
+use Rattle.faults.specs.Grows.{Kept, Tables, Holds, RowsIn}
+use Rattle.faults.specs.Parts.{HoldsSome, StandsOn, MemberOn, Stepped, Cut, CutLinks, Rows}
+use Rattle.stepping.proofs.Tables.{store-flag}
 use Rattle.faults.proofs.Growing.{holds-looked, holds-atom}
 
--- Atom j joins over link y, on which member a stands too.
-module _ (used from here members flags : List ℕ) (a width y j count atoms links : ℕ) (few : atoms ≤ sheetAtoms) (room : links ≤ sheetLinks) (rm : length members ≡ sheetAtoms) (rf : length flags ≡ sheetLinks)
-    (ha : a < atoms) (hy : y < links) (hj : j < atoms) where
-  -- a place at the link
-  abbrev At : List ℕ → ℕ → Type 0
-  At row n = (k : ℕ) × (k < n) × (getD row k 0 ≡ y + 1)
+module _ (laid : List ℕ) (atoms links : ℕ) (used : List ℕ) where
+  pub stepped-same : (members flags : List ℕ) → length members ≡ sheetAtoms → length flags ≡ sheetLinks → Stepped laid atoms links used members flags members flags
+  stepped-same members flags a b = record { members-room = a; flags-room = b; kept = λ y e. e; holds = λ S F q root e rows around used-flags h. h }
 
-  pub step-joined : getD members a 0 ≡ 1 → getD used y 0 ≢ 1 → At from width → At here count → WithStep used a from width j here count atoms links members flags (set members j 1) (set flags y 1)
-  step-joined member unused on-a on-j S F q root e around used-flags of-a of-j h =
-      let k : y < S .links = omega arith in
-      let seen = h .1 ++ (suc y ∷ []) in (
+  pub stepped-then : (m₀ f₀ m₁ f₁ m₂ f₂ : List ℕ) → Stepped laid atoms links used m₀ f₀ m₁ f₁ → Stepped laid atoms links used m₁ f₁ m₂ f₂ → Stepped laid atoms links used m₀ f₀ m₂ f₂
+  stepped-then m₀ f₀ m₁ f₁ m₂ f₂ a b = record {
+    members-room = b .members-room;
+    flags-room = b .flags-room;
+    kept = λ y e. b .kept y (a .kept y e);
+    holds = λ S F q root e rows around used-flags h. b .holds S F q root e rows around used-flags (a .holds S F q root e rows around used-flags h);
+  }
+
+  -- Link z of member a is looked at, and atom j joins over it.
+  module _ (members flags : List ℕ) (a z : ℕ) (room : links ≤ sheetLinks) (rm : length members ≡ sheetAtoms) (rf : length flags ≡ sheetLinks) (m : MemberOn members laid atoms links a z) where
+    up : z ≡ suc (z - 1)
+    up = let r : 1 ≤ z = m .link-in .0 in omega arith
+
+    here : z - 1 < links
+    here = let r : 1 ≤ z = m .link-in .0 in let k : z ≤ links = m .link-in .1 in omega arith
+
+    -- on that link
+    on : (S : Net) (i : ℕ) → z ∈ (cellAt (S .atoms) (suc i)) .1 → suc (z - 1) ∈ (cellAt (S .atoms) (suc i)) .1
+    on S i = subst (λ (n : ℕ). n ∈ (cellAt (S .atoms) (suc i)) .1) up
+
+    looked : (S F : Net) (q : Placing) (root : ℕ) → RowsIn S laid atoms → (h : HoldsSome S F q root members flags) → Holds S F q root (h .0) members (set flags (z - 1) 1) (h .1 ++ (suc (z - 1) ∷ []))
+    looked S F q root rows h = holds-looked S F q root (h .0) members flags (h .1) (h .2) (z - 1) (suc a) (let k = here in omega arith) (h .2 .flagged a (λ e. let k = m .member in omega arith)) (on S a (m .stands S rows))
+
+    flags-kept : Kept flags (set flags (z - 1) 1)
+    flags-kept y e = store-flag flags (z - 1) (let k = here in omega arith) y .1 (inl e)
+
+    pub step-looked : Stepped laid atoms links used members flags members (set flags (z - 1) 1)
+    step-looked = record {
+      members-room = rm;
+      flags-room = simp length-set rf;
+      kept = flags-kept;
+      holds = λ S F q root e rows around used-flags h. (h .0, h .1 ++ (suc (z - 1) ∷ []), looked S F q root rows h);
+    }
+
+    pub step-joined : (j : ℕ) → j < atoms → StandsOn laid atoms j z → getD used (z - 1) 0 ≢ 1 → Stepped laid atoms links used members flags (set members j 1) (set flags (z - 1) 1)
+    step-joined j hj s unused = record {
+      members-room = simp length-set rm;
+      flags-room = simp length-set rf;
+      kept = flags-kept;
+      holds = λ S F q root e rows around used-flags h. (
         h .0 ++ (suc j ∷ []),
-        seen,
-        holds-atom S F q root (h .0) members (set flags y 1) seen
-            (holds-looked S F q root (h .0) members flags (h .1) (h .2) y (suc a) (omega arith) (h .2 .flagged a member) (on a from width (of-a ha) on-a))
-            atoms y j (omega arith) hj around (Memᴰ·append-right (h .1) (List·Memᴰ·head refl)) (λ u. unused (used-flags y k .1 u)) (on j here count of-j on-j),
-      )
-    where
-      on : (i : ℕ) (row : List ℕ) (n : ℕ) → LinksOf S i row n → At row n → suc y ∈ (cellAt (S .atoms) (suc i)) .1
-      on i row n f t = Memᴰ·cast (let d : getD row (t .0) 0 ≡ y + 1 = t .2 in let z : suc y ≡ getD row (t .0) 0 = omega arith in z) (f (t .0) (t .1))
+        h .1 ++ (suc (z - 1) ∷ []),
+        holds-atom S F q root (h .0) members (set flags (z - 1) 1) (h .1 ++ (suc (z - 1) ∷ [])) (looked S F q root rows h) atoms (z - 1) j 1 hj around
+            (Memᴰ·append-right (h .1) (List·Memᴰ·head refl)) (λ u. unused (used-flags (z - 1) (let k = here in omega arith) .1 u)) (on S j (s S rows)),
+      );
+    }
 
--- One link more of a member is looked at.
-pub ends-next : (links : List ℕ) (k : ℕ) (flags next : List ℕ) → 1 ≤ getD links k 0 → getD links k 0 - 1 < length next → WithEnds links k flags next
-    → WithEnds links (k + 1) flags (set next (getD links k 0 - 1) 1)
-ends-next links k flags next low room w S F q root j part members seen m on h =
-    let v = w S F q root j part members seen m (λ i l. on i (omega arith)) h in
-    let up : getD links k 0 ≡ suc (getD links k 0 - 1) = omega arith in (
-      v .0 ++ (suc (getD links k 0 - 1) ∷ []),
-      holds-looked S F q root part members next (v .0) (v .1) (getD links k 0 - 1) j room m (subst (λ (z : ℕ). z ∈ (cellAt (S .atoms) j) .1) up (on k (omega arith))),
-    )
+-- A context stays cut.
+pub cut-kept : (flags now used ports : List ℕ) (links c : ℕ) → Kept flags now → Cut flags used ports links c → Cut now used ports links c
+cut-kept flags now used ports links c k w = (w .0, w .1, k (w .0) (w .2), w .3, w .4)
 
 -- Each context is cut.
 pub part-cuts : (S F : Net) (q : Placing) (chains used ports : List ℕ) (atoms contexts root links : ℕ) (members flags : List ℕ) → S .links ≡ links → Tables S F q chains used ports atoms contexts → Rows F contexts

@@ -10,16 +10,15 @@ use lib.ListN.{length, getD, set, length-set, replicate}
 use lib.Seq.{getD-set-same, getD-set-other}
 use Rattle.hyperlmntal.specs.Link.{_∈_}
 use Rattle.rows.specs.Limits.{sheetAtoms}
-use Rattle.rows.specs.declared.Context.{Context}
 use Rattle.placing.specs.Net.{NetCell, Net, Range}
 use Rattle.placing.specs.Placing.{Placing, numberAt, cellAt, Taken}
 use Rattle.placing.proofs.Lists.{member-at, getD-of}
 use Rattle.completing.specs.Fault.{Other, LeastContext}
 use Rattle.completing.specs.Growing.{Serves}
 use Rattle.completing.proofs.Growing.{part-other, part-cut-off, grown-least}
-use Rattle.stepping.specs.Contexts.{numberOf}
 use Rattle.faults.specs.Grows.{Growth, Sized, atomsOf, WholeAt}
 use Rattle.faults.specs.Parts.{CutLinks, Rows}
+use Rattle.faults.specs.declared.fault.Fault.{Fault}
 use Rattle.faults.specs.Gives.{Given, Gave, GivenAt, OneMoreAt, GivesAt, TakenFlags, HeldIn}
 use Rattle.stepping.proofs.Tables.{below-next, store-flag, zeros, zeros-not}
 use Rattle.sheet.proofs.normal.Merging.{getD-in}
@@ -31,6 +30,15 @@ rows-in F count e row m =
     let h : t .0 < length (F .contexts) = t .1 in
     let i : suc (t .0) - 1 ≡ t .0 = omega arith in
     (t .0, omega arith, ap (λ (r : NetCell). r .0) (ap (λ (n : ℕ). getD (F .contexts) n (0, [])) i ∙ getD-of (F .contexts) (t .0) (0, []) row (t .2)))
+
+-- The same numbers, said otherwise.
+pub held-as : (S F : Net) (laid : List ℕ) (atoms links : ℕ) (number other : ℕ → ℕ) (rows : ℕ) → ((c : ℕ) → c < rows → other c ≡ number c) → HeldIn S F laid atoms links number rows → HeldIn S F laid atoms links other rows
+held-as S F laid atoms links number other rows e h = record {
+  link-count = h .link-count;
+  atom-rows = h .atom-rows;
+  choice-count = h .choice-count;
+  choice-number = λ c l. h .choice-number c l ∙ sym (e c l);
+}
 
 -- One atom more has the context.
 pub gave-start : (given : Given) (g : Growth) (number : ℕ) → length (given .contexts) ≡ sheetAtoms → length (given .done) ≡ sheetAtoms → Gave given g number 0 given
@@ -76,48 +84,48 @@ done-more g given r number j v (inr m) =
     let e : getD (g .order) (t .0) 0 ≡ j = (let i : suc (getD (g .order) (t .0) 0) ≡ suc j = t .2 in omega arith) in
     subst (λ (i : ℕ). getD (r .done) i 0 ≡ 1) e (v .all-done (t .0) (t .1))
 
-module _ (S F : Net) (laid : List ℕ) (atoms links : ℕ) (choices : List Context) (rows : ℕ) (held : HeldIn S F laid atoms links choices rows)
-    (q : Placing) (root : ℕ) (g : Growth) (flags left : List ℕ) (w : WholeAt S F q (suc root) rows g flags left) where
+module _ (S F : Net) (laid : List ℕ) (atoms links : ℕ) (number : ℕ → ℕ) (rows : ℕ) (held : HeldIn S F laid atoms links number rows)
+    (q : Placing) (root : ℕ) (g : Growth) (flags cuts : List ℕ) (w : WholeAt S F q (suc root) rows g flags cuts) where
   abbrev seen : List ℕ
   seen = w .grows .seen
 
   -- a context that serves is left
-  is-left : (row : NetCell) → row ∈ F .contexts → Serves S F q seen (row .0) → (c : ℕ) × (c < rows) × (numberOf choices c ≡ row .0) × (getD left c 0 ≡ 1)
+  is-left : (row : NetCell) → row ∈ F .contexts → Serves S F q seen (row .0) → (c : ℕ) × (c < rows) × (number c ≡ row .0) × (getD cuts c 0 ≡ 0)
   is-left row m s =
       let c = rows-in F rows (held .choice-count) row m in
       (c .0, c .1, sym (held .choice-number (c .0) (c .1)) ∙ c .2, w .grows .serves (c .0) (c .1) .1 (subst (Serves S F q seen) (sym (c .2)) s))
 
   -- none is left
-  pub none-left : ((c : ℕ) → c < rows → getD left c 0 ≢ 1) → CutLinks S F q flags
+  pub none-left : ((c : ℕ) → c < rows → getD cuts c 0 ≢ 0) → CutLinks S F q flags
   none-left n = (atomsOf g, seen, part-cut-off S F q (suc root) (atomsOf g) seen (w .grows .holds .connected) (λ row m s. let c = is-left row m s in n (c .0) (c .1) (c .3)), w .grows .holds .looked)
 
   -- the best of those left
-  module _ (best : ℕ) (h : best < rows) (b : getD left best 0 ≡ 1) (low : (c : ℕ) → c < rows → getD left c 0 ≡ 1 → numberOf choices best ≤ numberOf choices c) where
-    best-least : (j : ℕ) → j ∈ atomsOf g → LeastContext S F q j (numberOf choices best)
-    best-least j m = grown-least S F q (suc root) (atomsOf g) seen (w .grows .holds .connected) (w .grown) (numberOf choices best)
+  module _ (best : ℕ) (h : best < rows) (b : getD cuts best 0 ≡ 0) (low : (c : ℕ) → c < rows → getD cuts c 0 ≡ 0 → number best ≤ number c) where
+    best-least : (j : ℕ) → j ∈ atomsOf g → LeastContext S F q j (number best)
+    best-least j m = grown-least S F q (suc root) (atomsOf g) seen (w .grows .holds .connected) (w .grown) (number best)
         (cellAt (F .contexts) (suc best), getD-in (F .contexts) (suc best - 1) (0, []) (omega (arith, held .choice-count)), held .choice-number best h)
         (subst (Serves S F q seen) (held .choice-number best h) (w .grows .serves best h .0 b))
         (λ d n s. let c = is-left (n .0) (n .1) (subst (Serves S F q seen) (sym (n .2)) s) in
-        let e : numberOf choices (c .0) ≡ d = c .2 ∙ n .2 in
+        let e : number (c .0) ≡ d = c .2 ∙ n .2 in
         let k = low (c .0) (c .1) (c .3) in omega arith) j m
 
-    given-more : Sized atoms g → (given r : Given) → Gave given g (numberOf choices best) (g .count) r → GivenAt S F q given → GivenAt S F q r
+    given-more : Sized atoms g → (given r : Given) → Gave given g (number best) (g .count) r → GivenAt S F q given → GivenAt S F q r
     given-more s given r v a = record {
       least = λ j e. ⊎-elim (λ t. hit j t) (λ t. let o = a .least j (sym (t .1) ∙ e) in (o .0, subst (LeastContext S F q (suc j)) (sym (t .0)) (o .1))) (v .each j);
       not-yet = λ j n. ⊎-elim (λ t. absurd (n (subst (λ (i : ℕ). getD (r .done) i 0 ≡ 1) (t .2) (v .all-done (t .0) (t .1))))) (λ t. t .0 ∙ a .not-yet j (λ e. n (t .1 ∙ e))) (v .each j);
     }
       where
-        hit : (j : ℕ) → (i : ℕ) × (i < g .count) × (getD (g .order) i 0 ≡ j) × (getD (r .contexts) j 0 ≡ numberOf choices best) → Other S F q (suc j) × LeastContext S F q (suc j) (getD (r .contexts) j 0)
+        hit : (j : ℕ) → (i : ℕ) × (i < g .count) × (getD (g .order) i 0 ≡ j) × (getD (r .contexts) j 0 ≡ number best) → Other S F q (suc j) × LeastContext S F q (suc j) (getD (r .contexts) j 0)
         hit j t =
             let m : suc j ∈ atomsOf g = subst (λ (i : ℕ). suc i ∈ atomsOf g) (t .2) (listed-in g (t .0) (let o = s .order-room in let k = s .most in omega arith) (t .1)) in
             (part-other S F q (suc root) (atomsOf g) seen (w .grows .holds .connected) (suc j) m, subst (LeastContext S F q (suc j)) (sym (t .3)) (best-least (suc j) m))
 
-    pub one-given : Sized atoms g → (before after : Given) (links : List ℕ) → Gave before g (numberOf choices best) (g .count) after
+    pub one-given : Sized atoms g → (before after : Given) (links : List ℕ) → Gave before g (number best) (g .count) after
         → OneMoreAt S F q root before after (record { fault = false; links = links })
     one-given s before after links v = record {
       none-found = λ e. (
         given-more s before after v,
-        λ j d. done-more g before after (numberOf choices best) j v (⊎-elim (λ k. inl k) (λ k. inr (subst (λ (i : ℕ). suc i ∈ atomsOf g) (sym k) (w .grows .holds .connected .root-member))) d),
+        λ j d. done-more g before after (number best) j v (⊎-elim (λ k. inl k) (λ k. inr (subst (λ (i : ℕ). suc i ∈ atomsOf g) (sym k) (w .grows .holds .connected .root-member))) d),
       );
       some-found = λ e. absurd (let z : _≡_ {A = ℕ} 0 1 = cc in omega arith);
     }
@@ -152,9 +160,9 @@ module _ (S F : Net) (q : Placing) (atoms : ℕ) (size : length (S .atoms) ≡ a
       go j r k (yes e) = absurd (a .least (j - 1) e .0 .1 (subst (Taken S F q) (sym (r .1)) k))
       go j r k (no n) = a .not-yet (j - 1) n
 
-pub cut-gives : (S F : Net) (q : Placing) (links given : List ℕ) → length given ≡ sheetAtoms → CutLinks S F q links → GivesAt S F q (record { found = true; links = links; given = given })
-cut-gives S F q links given room c = record {
-  room = room;
-  none-found = λ e. absurd (let z : _≡_ {A = ℕ} 0 1 = cc in omega arith);
-  some-found = λ e. c;
+pub cut-gives : (S F : Net) (q : Placing) (r : Fault) (links given : List ℕ) → (r .found ≡ true) × (r .links ≡ links) × (r .given ≡ given) → length given ≡ sheetAtoms → CutLinks S F q links → GivesAt S F q r
+cut-gives S F q r links given e room c = record {
+  room = ap length (e .2) ∙ room;
+  none-found = λ n. absurd (let y = e .0 in let z : _≡_ {A = ℕ} 0 1 = cc in omega arith);
+  some-found = λ n. subst (CutLinks S F q) (sym (e .1)) c;
 }

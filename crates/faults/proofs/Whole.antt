@@ -10,12 +10,12 @@ use Rattle.hyperlmntal.specs.Link.{_∈_}
 use Rattle.rows.specs.Limits.{sheetAtoms}
 use Rattle.placing.specs.Net.{Net}
 use Rattle.placing.specs.Placing.{Placing, cellAt}
-use Rattle.narrowing.specs.Laid.{laidAtom}
+use Rattle.candidates.specs.Laid.{laidAtom}
 use Rattle.completing.specs.Fault.{Other}
 use Rattle.completing.proofs.Growing.{part-start, serves-start}
-use Rattle.faults.specs.Grows.{ones, Growth, growth, Sized, atomsOf, Tables, Holds, Grows, WithLinks, Onward, RowsIn, WholeAt}
-use Rattle.stepping.proofs.Tables.{store-flag, zeros-not, below-next}
-use Rattle.faults.proofs.Ones.{ones-set}
+use Rattle.faults.specs.Grows.{marks, Growth, growth, Sized, atomsOf, Tables, Holds, Grows, WithLinks, Enlarged, RowsIn, WholeAt}
+use Rattle.stepping.proofs.Tables.{zeros, zeros-not, below-next}
+use Rattle.faults.proofs.Marks.{marks-set, store-mark}
 use Rattle.faults.proofs.AtomRows.{row-on, row-numbered, row-place}
 use Rattle.faults.proofs.Growing.{listed-in, listed-of}
 
@@ -27,23 +27,18 @@ module _ (atoms root : ℕ) (h : root < atoms) (few : atoms ≤ sheetAtoms) wher
   pub holds-start : (S F : Net) (q : Placing) → Other S F q (suc root) → Holds S F q (suc root) (suc root ∷ []) alone (replicate 96 0) []
   holds-start S F q o = record {
     connected = part-start S F q (suc root) o;
-    flagged = λ j e. ⊎-elim (λ b. absurd (zeros-not 64 j b)) (λ b. List·Memᴰ·head (ap suc b)) (store-flag (replicate 64 0) root (omega arith) j .0 e);
+    flagged = λ j e. ⊎-elim (λ b. absurd (b (zeros 64 j))) (λ b. List·Memᴰ·head (ap suc b)) (store-mark (replicate 64 0) root 1 j e);
     looked = λ y m. absurd (List·Memᴰ·not-nil m);
     flagged-seen = λ y e. absurd (zeros-not 96 y e);
   }
 
-  all-left : (n i : ℕ) → i < n → _≡_ {A = ℕ} (getD (replicate n 1) i 0) 1
-  all-left zero i l = absurd (omega arith)
-  all-left (suc n) zero l = refl
-  all-left (suc n) (suc i) l = all-left n i (omega arith)
-
   module _ (order : List ℕ) (room : length order ≡ sheetAtoms) where
     pub sized-start : Sized atoms (growth (set order 0 root) 1 alone)
-    unfolding ones
+    unfolding marks
     sized-start = record {
       order-room = simp length-set room;
       members-room = simp length-set;
-      counted = sym (ones-set (replicate 64 0) root (omega arith) (zeros-not 64 root));
+      counted = sym (marks-set (replicate 64 0) root 1 (omega arith) (zeros 64 root) (λ z. omega arith));
       most = omega arith;
       listed = λ k l. let e : k ≡ 0 = omega arith in subst (λ (n : ℕ). getD (set order 0 root) n 0 < atoms) (sym e) (subst (λ (n : ℕ). n < atoms) (sym (getD-set-same order 0 root 0 (omega arith))) h);
     }
@@ -51,11 +46,11 @@ module _ (atoms root : ℕ) (h : root < atoms) (few : atoms ≤ sheetAtoms) wher
     atoms-start : atomsOf (growth (set order 0 root) 1 alone) ≡ suc root ∷ []
     atoms-start = ap (map suc) (take-suc-set order 0 root (omega arith))
 
-    pub grows-start : (S F : Net) (q : Placing) (contexts : ℕ) → contexts < 9 → Other S F q (suc root) → Grows S F q (suc root) contexts (growth (set order 0 root) 1 alone) (replicate 96 0) (replicate 9 1)
+    pub grows-start : (S F : Net) (q : Placing) (contexts : ℕ) → contexts < 9 → Other S F q (suc root) → Grows S F q (suc root) contexts (growth (set order 0 root) 1 alone) (replicate 96 0) (replicate 9 0)
     grows-start S F q contexts c o = record {
       seen = [];
       holds = subst (λ (l : List ℕ). Holds S F q (suc root) l alone (replicate 96 0) []) (sym atoms-start) (holds-start S F q o);
-      serves = λ i l. ((λ e. serves-start S F q _), (λ s. all-left 9 i (omega arith)));
+      serves = λ i l. ((λ e. serves-start S F q _), (λ s. zeros 9 i));
       all-atoms = λ y j m. absurd (List·Memᴰ·not-nil m);
     }
 
@@ -65,8 +60,8 @@ LinksSeen laid g flags head = (h k : ℕ) → h < head → k < laidAtom laid (ge
 
 -- The atoms of a sheet, one after the other.
 module _ (laid : List ℕ) (atoms : ℕ) (chains used ports : List ℕ) (contexts : ℕ) where
-  module _ (g : Growth) (flags left : List ℕ) (r : Growth) (flagsNow leftNow : List ℕ) (head : ℕ) (l : head < g .count) (s : Sized atoms g) (a : Onward atoms g flags r flagsNow leftNow)
-      (w : WithLinks chains used ports (laidAtom laid (getD (g .order) head 0) .links) (laidAtom laid (getD (g .order) head 0) .count) atoms contexts g flags left r flagsNow leftNow) where
+  module _ (g : Growth) (flags cuts : List ℕ) (r : Growth) (flagsNow cutsNow : List ℕ) (head : ℕ) (l : head < g .count) (s : Sized atoms g) (a : Enlarged atoms g flags r flagsNow cutsNow)
+      (w : WithLinks chains used ports (laidAtom laid (getD (g .order) head 0) .links) (laidAtom laid (getD (g .order) head 0) .count) atoms contexts g flags cuts r flagsNow cutsNow) where
     pub seen-next : LinksSeen laid g flags head → LinksSeen laid r flagsNow (head + 1)
     seen-next o h k i n = below-next (λ h. (k : ℕ) → k < laidAtom laid (getD (r .order) h 0) .count → Seen (getD (r .order) h 0) k) head
         (λ h i. subst All (sym (a .longer .order-kept h (omega arith))) (λ k n. a .flags-kept (getD (laidAtom laid (getD (g .order) h 0) .links) k 0 - 1) (o h k i n)))
@@ -78,16 +73,16 @@ module _ (laid : List ℕ) (atoms : ℕ) (chains used ports : List ℕ) (context
         All : ℕ → Type 0
         All j = (k : ℕ) → k < laidAtom laid j .count → Seen j k
 
-    pub grows-next : (S F : Net) (q : Placing) (root : ℕ) → RowsIn S laid atoms → Tables S F q chains used ports atoms contexts → Grows S F q root contexts g flags left → Grows S F q root contexts r flagsNow leftNow
+    pub grows-next : (S F : Net) (q : Placing) (root : ℕ) → RowsIn S laid atoms → Tables S F q chains used ports atoms contexts → Grows S F q root contexts g flags cuts → Grows S F q root contexts r flagsNow cutsNow
     grows-next S F q root rows t =
         let j = getD (g .order) head 0 in
         let row = rows j (s .listed head l) in
         w .grows S F q root (suc j) t (listed-in g head (let o = s .order-room in let m = s .most in omega arith) l)
         (λ k n. (row-numbered S j (laidAtom laid j .links) (laidAtom laid j .count) row (t .around .sheet-normal) k n, row-on S j (laidAtom laid j .links) (laidAtom laid j .count) row k n))
 
-  pub whole-at : (g : Growth) (flags left : List ℕ) (S F : Net) (q : Placing) (root : ℕ) → RowsIn S laid atoms → Tables S F q chains used ports atoms contexts → Sized atoms g → LinksSeen laid g flags (g .count)
-      → Grows S F q root contexts g flags left → WholeAt S F q root contexts g flags left
-  whole-at g flags left S F q root rows t s o w = record { grows = w; grown = record { all-links = λ j y m n. links j y m n; all-atoms = w .all-atoms } }
+  pub whole-at : (g : Growth) (flags cuts : List ℕ) (S F : Net) (q : Placing) (root : ℕ) → RowsIn S laid atoms → Tables S F q chains used ports atoms contexts → Sized atoms g → LinksSeen laid g flags (g .count)
+      → Grows S F q root contexts g flags cuts → WholeAt S F q root contexts g flags cuts
+  whole-at g flags cuts S F q root rows t s o w = record { grows = w; grown = record { all-links = λ j y m n. links j y m n; all-atoms = w .all-atoms } }
     where
       links : (j y : ℕ) → j ∈ atomsOf g → y ∈ (cellAt (S .atoms) j) .1 → y ∈ w .seen
       links j y m n =

@@ -55,20 +55,20 @@ pub record GivesAt (S F : Net) (q : Placing) (r : Fault) : Type 0 where
 abbrev pub TakenFlags : Net → Net → Placing → ℕ → List ℕ → Type 0
 TakenFlags S F q atoms taken = (j : ℕ) → j < atoms → (getD taken j 0 ≡ 1) ↔ Taken S F q (suc j)
 
--- The sheet's links and atoms and the figure's contexts are those that the arrays hold.
-pub record HeldIn (S F : Net) (laid : List ℕ) (atoms links : ℕ) (choices : List Context) (rows : ℕ) : Type 0 where
+-- The sheet's links and atoms and the numbers of the figure's contexts are those that the arrays hold.
+pub record HeldIn (S F : Net) (laid : List ℕ) (atoms links : ℕ) (number : ℕ → ℕ) (rows : ℕ) : Type 0 where
   pub link-count : S .links ≡ links
   pub atom-rows : RowsIn S laid atoms
   pub choice-count : length (F .contexts) ≡ rows
-  pub choice-number : (c : ℕ) → c < rows → (cellAt (F .contexts) (suc c)) .0 ≡ numberOf choices c
+  pub choice-number : (c : ℕ) → c < rows → (cellAt (F .contexts) (suc c)) .0 ≡ number c
 
 abbrev pub Gives : List ℕ → ℕ → ℕ → List Context → ℕ → List ℕ → List ℕ → List ℕ → List ℕ → Fault → Type 0
 Gives laid atoms links choices rows chains used ports taken r =
-    (S F : Net) (q : Placing) → HeldIn S F laid atoms links choices rows → Tables S F q chains used ports atoms rows → TakenFlags S F q atoms taken
+    (S F : Net) (q : Placing) → HeldIn S F laid atoms links (numberOf choices) rows → Tables S F q chains used ports atoms rows → TakenFlags S F q atoms taken
     → GivesAt S F q r
 
-pub record OneMore (laid : List ℕ) (atoms links : ℕ) (choices : List Context) (rows : ℕ) (chains used ports : List ℕ) (root : ℕ) (before after : Given) (r : Found) : Type 0 where
+pub record OneMore (laid : List ℕ) (atoms links : ℕ) (numbers : List ℕ) (rows : ℕ) (chains used ports : List ℕ) (root : ℕ) (before after : Given) (r : Found) : Type 0 where
   pub contexts-room : length (after .contexts) ≡ sheetAtoms
   pub done-room : length (after .done) ≡ sheetAtoms
-  pub at : (S F : Net) (q : Placing) → HeldIn S F laid atoms links choices rows → Tables S F q chains used ports atoms rows
+  pub at : (S F : Net) (q : Placing) → HeldIn S F laid atoms links (λ c. getD numbers c 0) rows → Tables S F q chains used ports atoms rows
       → Other S F q (suc root) → OneMoreAt S F q root before after r

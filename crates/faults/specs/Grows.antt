@@ -11,17 +11,17 @@ use Rattle.rows.specs.Format.{mostLinks}
 use Rattle.rows.specs.Limits.{sheetAtoms, sheetLinks, figureContexts}
 use Rattle.placing.specs.Net.{Net, Range, Normal}
 use Rattle.placing.specs.Placing.{Placing, numberAt, cellAt, Across, PortAt}
-use Rattle.narrowing.specs.Laid.{laidAtom}
+use Rattle.candidates.specs.Laid.{laidAtom}
 use Rattle.completing.specs.Fault.{Used, Other}
 use Rattle.completing.specs.Growing.{Part, Serves, Grown}
 use Rattle.stepping.specs.Chains.{nodeOf, NodeOn, Chained, RowIn}
 
--- how many entries are 1
-unfoldable pub ones : List ℕ → ℕ
-ones [] = 0
-ones (x ∷ l) = pick (eqb x 1) (suc (ones l)) (ones l)
+-- how many entries are not 0
+unfoldable pub marks : List ℕ → ℕ
+marks [] = 0
+marks (x ∷ l) = pick (eqb x 0) (marks l) (suc (marks l))
 
--- Atoms in the order in which they were reached, how many, and a 1 for each.
+-- Atoms in the order in which they were reached, how many, and for each of them a mark, which is not 0.
 pub record Growth : Type 0 where
   pub order : List ℕ
   pub count : ℕ
@@ -30,16 +30,17 @@ pub record Growth : Type 0 where
 abbrev pub growth : List ℕ → ℕ → List ℕ → Growth
 growth order count members = record { order = order; count = count; members = members }
 
--- There are as many atoms as flags, and they are numbers of sheet atoms, from 0.
+-- There are as many atoms as marks, and they are numbers of sheet atoms, from 0.
 pub record Sized (atoms : ℕ) (g : Growth) : Type 0 where
   pub order-room : length (g .order) ≡ sheetAtoms
   pub members-room : length (g .members) ≡ sheetAtoms
-  pub counted : g .count ≡ ones (g .members)
+  pub counted : g .count ≡ marks (g .members)
   pub most : g .count ≤ sheetAtoms
   pub listed : (h : ℕ) → h < g .count → getD (g .order) h 0 < atoms
 
-abbrev pub added : Growth → ℕ → Growth
-added g i = record { order = set (g .order) (g .count) i; count = g .count + 1; members = set (g .members) i 1 }
+-- one more atom, with its mark
+abbrev pub added : Growth → ℕ → ℕ → Growth
+added g i v = record { order = set (g .order) (g .count) i; count = g .count + 1; members = set (g .members) i v }
 
 -- the atoms, counted from 1
 abbrev pub atomsOf : Growth → List ℕ
@@ -69,18 +70,18 @@ pub record Tables (S F : Net) (q : Placing) (chains used ports : List ℕ) (atom
   pub port-flag : (c y : ℕ) → c < contexts → y < S .links → (getD ports (c * sheetLinks + y) 0 ≡ 1) ↔ PortAt S F q ((cellAt (F .contexts) (suc c)) .0) (suc y)
 
 module _ (S F : Net) (q : Placing) (root : ℕ) where
-  -- a connected part, and the links looked at; 1s say which atoms are in it, and which links are among these
+  -- a connected part, and the links looked at; marks say which atoms are in it, and 1s which links are among these
   pub record Holds (part members flags seen : List ℕ) : Type 0 where
     pub connected : Part S F q root part seen
-    pub flagged : (j : ℕ) → getD members j 0 ≡ 1 → suc j ∈ part
+    pub flagged : (j : ℕ) → getD members j 0 ≢ 0 → suc j ∈ part
     pub looked : (y : ℕ) → y ∈ seen → numberAt flags y ≡ 1
     pub flagged-seen : (y : ℕ) → getD flags y 0 ≡ 1 → suc y ∈ seen
 
-  -- with the contexts that serve it, those left, and all atoms on the links looked at to which no figure link goes
-  pub record Grows (contexts : ℕ) (g : Growth) (flags left : List ℕ) : Type 0 where
+  -- with the contexts that serve it, those with a 0, and all atoms on the links looked at to which no figure link goes
+  pub record Grows (contexts : ℕ) (g : Growth) (flags cuts : List ℕ) : Type 0 where
     pub seen : List ℕ
     pub holds : Holds (atomsOf g) (g .members) flags seen
-    pub serves : (c : ℕ) → c < contexts → (getD left c 0 ≡ 1) ↔ Serves S F q seen ((cellAt (F .contexts) (suc c)) .0)
+    pub serves : (c : ℕ) → c < contexts → (getD cuts c 0 ≡ 0) ↔ Serves S F q seen ((cellAt (F .contexts) (suc c)) .0)
     pub all-atoms : (y j : ℕ) → y ∈ seen → ¬ Used S F q y → Range (length (S .atoms)) j → y ∈ (cellAt (S .atoms) j) .1 → j ∈ atomsOf g
 
 -- the atoms joined of all nodes on link y after v, which is one of them, or 0 after the last
@@ -92,28 +93,28 @@ WithAtoms chains y atoms v g r =
 
 -- link y of a member was looked at
 abbrev pub WithLink : List ℕ → List ℕ → List ℕ → ℕ → ℕ → ℕ → Growth → List ℕ → List ℕ → Growth → List ℕ → List ℕ → Type 0
-WithLink chains used ports y atoms contexts g flags left r flagsNow leftNow =
+WithLink chains used ports y atoms contexts g flags cuts r flagsNow cutsNow =
     (S F : Net) (q : Placing) (root j : ℕ) → Tables S F q chains used ports atoms contexts → y < S .links → j ∈ atomsOf g → suc y ∈ (cellAt (S .atoms) j) .1
-    → Grows S F q root contexts g flags left → Grows S F q root contexts r flagsNow leftNow
+    → Grows S F q root contexts g flags cuts → Grows S F q root contexts r flagsNow cutsNow
 
 -- the links of a member were looked at
-pub record WithLinks (chains used ports links : List ℕ) (count atoms contexts : ℕ) (g : Growth) (flags left : List ℕ) (r : Growth) (flagsNow leftNow : List ℕ) : Type 0 where
+pub record WithLinks (chains used ports links : List ℕ) (count atoms contexts : ℕ) (g : Growth) (flags cuts : List ℕ) (r : Growth) (flagsNow cutsNow : List ℕ) : Type 0 where
   pub looked : (k : ℕ) → k < count → getD flagsNow (getD links k 0 - 1) 0 ≡ 1
   pub grows : (S F : Net) (q : Placing) (root j : ℕ) → Tables S F q chains used ports atoms contexts → j ∈ atomsOf g
       → ((k : ℕ) → k < count → Range (S .links) (getD links k 0) × (getD links k 0 ∈ (cellAt (S .atoms) j) .1))
-      → Grows S F q root contexts g flags left → Grows S F q root contexts r flagsNow leftNow
+      → Grows S F q root contexts g flags cuts → Grows S F q root contexts r flagsNow cutsNow
 
 -- Rooms, and nothing lost.
-pub record Onward (atoms : ℕ) (g : Growth) (flags : List ℕ) (r : Growth) (flagsNow leftNow : List ℕ) : Type 0 where
+pub record Enlarged (atoms : ℕ) (g : Growth) (flags : List ℕ) (r : Growth) (flagsNow cutsNow : List ℕ) : Type 0 where
   pub sized : Sized atoms r
   pub longer : Longer g r
   pub flags-room : length flagsNow ≡ sheetLinks
   pub flags-kept : Kept flags flagsNow
-  pub left-room : length leftNow ≡ figureContexts + 1
+  pub cuts-room : length cutsNow ≡ figureContexts + 1
 
 -- grown out
-pub record WholeAt (S F : Net) (q : Placing) (root contexts : ℕ) (g : Growth) (flags left : List ℕ) : Type 0 where
-  pub grows : Grows S F q root contexts g flags left
+pub record WholeAt (S F : Net) (q : Placing) (root contexts : ℕ) (g : Growth) (flags cuts : List ℕ) : Type 0 where
+  pub grows : Grows S F q root contexts g flags cuts
   pub grown : Grown S F q (atomsOf g) (grows .seen)
 
 -- the rows laid out are the atoms of the net
@@ -121,6 +122,6 @@ abbrev pub RowsIn : Net → List ℕ → ℕ → Type 0
 RowsIn S laid atoms = (j : ℕ) → j < atoms → RowIn S j (laidAtom laid j .links) (laidAtom laid j .count)
 
 abbrev pub Whole : List ℕ → ℕ → List ℕ → List ℕ → List ℕ → ℕ → ℕ → Growth → List ℕ → List ℕ → Type 0
-Whole laid atoms chains used ports root contexts g flags left =
+Whole laid atoms chains used ports root contexts g flags cuts =
     (S F : Net) (q : Placing) → RowsIn S laid atoms → Tables S F q chains used ports atoms contexts → Other S F q (suc root)
-    → WholeAt S F q (suc root) contexts g flags left
+    → WholeAt S F q (suc root) contexts g flags cuts

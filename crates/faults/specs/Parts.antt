@@ -3,16 +3,16 @@ use Prim.Native.Nat.{ℕ, suc, _+_, _*_, _<_}
 use mathlib.Core.Path.{_≡_}
 use mathlib.Core.Logic.{_↔_, _≢_}
 use mathlib.Core.List.{List}
-use lib.ListN.{getD}
+use lib.ListN.{length, getD}
 use Rattle.hyperlmntal.specs.Link.{_∈_}
-use Rattle.rows.specs.Limits.{sheetLinks}
-use Rattle.placing.specs.Net.{NetCell, Net}
+use Rattle.rows.specs.Limits.{sheetAtoms, sheetLinks}
+use Rattle.placing.specs.Net.{NetCell, Net, Range}
 use Rattle.placing.specs.Placing.{Placing, cellAt}
 use Rattle.network.specs.Ready.{Flag}
 use Rattle.completing.specs.Fault.{Used, Other, CutOff}
-use Rattle.faults.specs.Grows.{Around, Tables, Holds, RowsIn}
+use Rattle.faults.specs.Grows.{Kept, Around, Tables, Holds, RowsIn}
 
--- some atoms and links are a connected part, and the 1s are theirs
+-- some atoms and links are a connected part, and the marks and 1s are theirs
 abbrev pub HoldsSome : Net → Net → Placing → ℕ → List ℕ → List ℕ → Type 0
 HoldsSome S F q root members flags = (part : List ℕ) × (seen : List ℕ) × Holds S F q root part members flags seen
 
@@ -20,25 +20,24 @@ HoldsSome S F q root members flags = (part : List ℕ) × (seen : List ℕ) × H
 abbrev pub UsedFlags : Net → Net → Placing → List ℕ → Type 0
 UsedFlags S F q used = (y : ℕ) → y < S .links → (getD used y 0 ≡ 1) ↔ Used S F q (suc y)
 
--- the first n of these links are links of atom j, from 0
-abbrev pub LinksOf : Net → ℕ → List ℕ → ℕ → Type 0
-LinksOf S j links n = (k : ℕ) → k < n → getD links k 0 ∈ (cellAt (S .atoms) (suc j)) .1
+-- link z, from 1, is one of the links of atom j, from 0
+abbrev pub StandsOn : List ℕ → ℕ → ℕ → ℕ → Type 0
+StandsOn laid atoms j z = (S : Net) → RowsIn S laid atoms → z ∈ (cellAt (S .atoms) (suc j)) .1
 
--- atom j joined from atom a, or nothing is changed
-abbrev pub WithStep : List ℕ → ℕ → List ℕ → ℕ → ℕ → List ℕ → ℕ → ℕ → ℕ → List ℕ → List ℕ → List ℕ → List ℕ → Type 0
-WithStep used a from width j here count atoms links members flags membersNow flagsNow =
-    (S F : Net) (q : Placing) (root : ℕ) → S .links ≡ links → Around S F q atoms → UsedFlags S F q used → (a < atoms → LinksOf S a from width) → LinksOf S j here count
-    → HoldsSome S F q root members flags → HoldsSome S F q root membersNow flagsNow
+-- and the atom has a 1
+pub record MemberOn (members laid : List ℕ) (atoms links a z : ℕ) : Type 0 where
+  pub member : getD members a 0 ≡ 1
+  pub link-in : Range links z
+  pub atom-in : a < atoms
+  pub stands : StandsOn laid atoms a z
 
-abbrev pub WithEnds : List ℕ → ℕ → List ℕ → List ℕ → Type 0
-WithEnds links count flags flagsNow =
-    (S F : Net) (q : Placing) (root j : ℕ) (part members seen : List ℕ) → j ∈ part → ((k : ℕ) → k < count → getD links k 0 ∈ (cellAt (S .atoms) j) .1)
-    → Holds S F q root part members flags seen → (now : List ℕ) × Holds S F q root part members flagsNow now
-
-abbrev pub HoldsPart : List ℕ → ℕ → ℕ → List ℕ → ℕ → List ℕ → List ℕ → Type 0
-HoldsPart laid atoms links used root members flags =
-    (S F : Net) (q : Placing) → S .links ≡ links → RowsIn S laid atoms → Around S F q atoms → UsedFlags S F q used → Other S F q (suc root)
-    → HoldsSome S F q (suc root) members flags
+-- atoms joined a connected part, and links were looked at
+pub record Stepped (laid : List ℕ) (atoms links : ℕ) (used members flags membersNow flagsNow : List ℕ) : Type 0 where
+  pub members-room : length membersNow ≡ sheetAtoms
+  pub flags-room : length flagsNow ≡ sheetLinks
+  pub kept : Kept flags flagsNow
+  pub holds : (S F : Net) (q : Placing) (root : ℕ) → S .links ≡ links → RowsIn S laid atoms → Around S F q atoms → UsedFlags S F q used
+      → HoldsSome S F q root members flags → HoldsSome S F q root membersNow flagsNow
 
 -- the context of row c has no port at some link looked at where a figure link goes
 abbrev pub Cut : List ℕ → List ℕ → List ℕ → ℕ → ℕ → Type 0

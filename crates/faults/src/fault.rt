@@ -1,29 +1,29 @@
 // What stands in the way of completing: sheet links to one of which an open figure link must go.
 use crate::growth::grown;
+use crate::nets::Nets;
 use crate::part::part;
-use narrowing::LAID;
+use candidates::LAID;
 use rows::Context;
 use rows::Sheet;
-use sheet::normal::Normal;
 use stepping::CHAINS;
 use stepping::PORTS;
 use stepping::contexts::least;
+use stepping::contexts::numbers;
 use stepping::lookup::port_table;
 use stepping::lookup::used_links;
 use stepping::steps::apart;
 ghost use mathlib.Core.Path.{_≡_};
+ghost use mathlib.Core.Bool.{true};
 ghost use mathlib.Core.List.{List};
 ghost use Prim.Native.Nat.{ℕ, _+_, _<_, _≤_};
 ghost use lib.ListN.{length, getD};
 ghost use Rattle.rows.specs.Limits.{sheetAtoms, sheetLinks, figureContexts};
-ghost use Rattle.network.specs.NetIn.{netIn};
-ghost use Rattle.network.specs.Ready.{Ready, LinksIn, TakenIn, stateIn};
-ghost use Rattle.narrowing.specs.Laid.{Rowed, LaidOut};
-ghost use Rattle.completing.specs.Completion.{Partial};
-ghost use Rattle.stepping.specs.Chains.{nodeOf, Falls, ChainsIn};
+ghost use Rattle.sheet.specs.declared.normal.Normal.{Normal as NormalForm};
+ghost use Rattle.candidates.specs.Laid.{Rowed};
+ghost use Rattle.stepping.specs.Chains.{nodeOf, Falls};
 ghost use Rattle.faults.specs.Gives.{given, Gave, OneMore, Gives};
 ghost use Rattle.faults.specs.Grows.{growth};
-ghost use Rattle.faults.specs.Finds.{Finds};
+ghost use Rattle.faults.specs.Finds.{Over, FindsAll};
 
 pub struct Fault {
     pub found: bool,
@@ -66,44 +66,41 @@ fn one_more(
     laid: &[u16; LAID],
     atoms: usize,
     links: usize,
-    choices: [Context; Sheet::CONTEXT_ROOM],
+    numbers: &[u16; Sheet::CONTEXT_ROOM],
     rows: usize,
     chains: &[u16; CHAINS],
     used: &[u8; Sheet::LINKS],
     ports: &[u8; PORTS],
     root: usize,
 ) -> Found
-    requires { ⌜ Rowed (now laid) atoms × (links ≤ sheetLinks) × (rows ≤ figureContexts) × (length choices ≡ figureContexts + 1) × (root < atoms) × (length (now contexts) ≡ sheetAtoms) × (length (now done) ≡ sheetAtoms) × Falls (nodeOf atoms 0) (now chains) ⌝ }
-    ensures { λ r. ⌜ OneMore (now (laid .entry)) atoms links choices rows (now (chains .entry)) (now (used .entry)) (now (ports .entry)) root (given (now (contexts .entry)) (now (done .entry))) (given (now (contexts .exit)) (now (done .exit))) r ⌝ }
+    requires { ⌜ Rowed (now laid) atoms × (links ≤ sheetLinks) × (rows ≤ figureContexts) × (root < atoms) × (length (now contexts) ≡ sheetAtoms) × (length (now done) ≡ sheetAtoms) × Falls (nodeOf atoms 0) (now chains) ⌝ }
+    ensures { λ r. ⌜ OneMore (now (laid .entry)) atoms links (now (numbers .entry)) rows (now (chains .entry)) (now (used .entry)) (now (ports .entry)) root (given (now (contexts .entry)) (now (done .entry))) (given (now (contexts .exit)) (now (done .exit))) r ⌝ }
 {
     let mut order = [0u8; Sheet::ATOMS];
-    let mut members = [0u8; Sheet::ATOMS];
     let mut way = [0u16; Sheet::ATOMS];
     let mut seen = [0u8; Sheet::LINKS];
-    let mut left = [1u8; Sheet::CONTEXT_ROOM];
+    let mut cuts = [0u16; Sheet::CONTEXT_ROOM];
     let count = grown(
         &mut order,
-        &mut members,
         &mut way,
         &mut seen,
-        &mut left,
+        &mut cuts,
         laid,
-        atoms,
         chains,
         used,
         ports,
-        root,
+        atoms,
         rows,
+        root,
     );
-    let c = least(choices, rows, left);
+    let c = least(numbers, rows, &cuts);
     if c == rows {
         let links = part(
             laid,
             atoms,
             links,
-            &order,
-            count,
             &way,
+            &cuts,
             seen,
             used,
             ports,
@@ -112,10 +109,20 @@ fn one_more(
         );
         return Found { fault: true, links };
     }
-    give(contexts, done, &order, count, choices[c].number);
+    give(contexts, done, &order, count, numbers[c]);
     Found {
         fault: false,
         links: seen,
+    }
+}
+
+fn faulty(links: [u8; Sheet::LINKS], given: [u16; Sheet::ATOMS]) -> Fault
+    ensures { λ r. ⌜ (r .found ≡ true) × (r .links ≡ links) × (r .given ≡ given) ⌝ }
+{
+    Fault {
+        found: true,
+        links,
+        given,
     }
 }
 
@@ -135,6 +142,7 @@ fn served(
     requires { ⌜ Rowed (now laid) atoms × (links ≤ sheetLinks) × (rows ≤ figureContexts) × (length choices ≡ figureContexts + 1) × Falls (nodeOf atoms 0) (now chains) ⌝ }
     ensures { λ r. ⌜ Gives (now (laid .entry)) atoms links choices rows (now (chains .entry)) (now (used .entry)) (now (ports .entry)) taken r ⌝ }
 {
+    let numbers = numbers(choices, rows);
     let mut contexts = [0u16; Sheet::ATOMS];
     let mut done = [0u8; Sheet::ATOMS];
     let mut j = 0;
@@ -147,7 +155,7 @@ fn served(
                     laid,
                     atoms,
                     links,
-                    choices,
+                    &numbers,
                     rows,
                     chains,
                     used,
@@ -156,11 +164,7 @@ fn served(
                 );
                 if one.fault {
                     let links = one.links;
-                    return Fault {
-                        found: true,
-                        links,
-                        given: contexts,
-                    };
+                    return faulty(links, contexts);
                 }
             }
         }
@@ -175,18 +179,18 @@ fn served(
 
 // A fault, or the least contexts where there is none. `laid` are the sheet's atoms.
 pub fn find(
-    sheet: Normal,
-    figure: Normal,
+    nets: Nets,
     laid: &[u16; LAID],
     chains: &[u16; CHAINS],
-    taken: [u8; Sheet::ATOMS],
-    to: [u16; Sheet::LINKS],
+    taken: &[u8; Sheet::ATOMS],
+    to: &[u16; Sheet::LINKS],
 ) -> Fault
-    requires { ⌜ Ready sheet figure × ChainsIn sheet (now chains) × LinksIn sheet figure to × LaidOut sheet (now laid) (sheet .«atom_count») ⌝ }
-    ensures { λ r. ⌜ ((atoms un : List ℕ) → TakenIn sheet figure (stateIn figure atoms to) taken → Partial (netIn sheet) (netIn figure) (stateIn figure atoms to) un → Finds sheet figure (stateIn figure atoms to) r) ⌝ }
+    requires { ⌜ ((sheet : NormalForm) × (figure : NormalForm) × Over sheet figure nets (now laid) (now chains) (now to)) ⌝ }
+    ensures { λ r. ⌜ ((sheet figure : NormalForm) → Over sheet figure nets (now (laid .entry)) (now (chains .entry)) (now (to .entry)) → FindsAll sheet figure (now (taken .entry)) (now (to .entry)) r) ⌝ }
 {
-    let none = (sheet.class_count + 1) as u16;
-    let y = apart(figure, &to, none);
+    let none = (nets.links + 1) as u16;
+    let contexts = nets.contexts;
+    let y = apart(contexts, nets.rows, nets.count, to, none);
     if y != 0 {
         let mut links = [0u8; Sheet::LINKS];
         links[(y - 1) as usize] = 1;
@@ -196,11 +200,21 @@ pub fn find(
             given: [0; Sheet::ATOMS],
         };
     }
-    let used = used_links(figure.class_count, &to, none);
-    let ports = port_table(figure, &to, none);
-    let choices = figure.contexts;
-    let atoms = sheet.atom_count;
-    let links = sheet.class_count;
-    let n = figure.context_count;
-    served(laid, atoms, links, choices, n, chains, &used, &ports, taken)
+    let used = used_links(nets.count, to, none);
+    let mut ports = [0u8; PORTS];
+    port_table(&mut ports, contexts, nets.rows, to, none);
+    let atoms = nets.atoms;
+    let links = nets.links;
+    let rows = nets.rows;
+    served(
+        laid,
+        atoms,
+        links,
+        contexts,
+        rows,
+        chains,
+        &used,
+        &ports,
+        *taken,
+    )
 }

@@ -1,5 +1,5 @@
 // What keeps placed atoms from being completed to a good placing.
 pub mod fault;
 mod growth;
+pub mod nets;
 mod part;
-mod ways;

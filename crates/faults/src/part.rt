@@ -1,194 +1,168 @@
-// A small connected part of a component that no context may hold: ways from its first atom to links that
-// together leave no context. The ways are guessed; what is made of them is checked.
-use crate::ways::mark_all;
-use crate::ways::wide;
-use narrowing::LAID;
-use narrowing::laid::laid_atom;
+// A small connected part of a component that no context may hold: the ways from its first atom to the links
+// where the contexts were cut off. What the marks of the component say of these is checked.
+use candidates::LAID;
+use candidates::laid::laid_atom;
 use rows::Sheet;
 use stepping::PORTS;
 ghost use mathlib.Core.Path.{_≡_};
 ghost use mathlib.Core.Bool.{true};
 ghost use mathlib.Core.List.{List};
 ghost use Prim.Native.Nat.{ℕ, _<_, _≤_};
-ghost use lib.ListN.{length, getD, replicate};
-ghost use Rattle.rows.specs.Format.{mostLinks};
+ghost use lib.ListN.{length};
 ghost use Rattle.rows.specs.Limits.{sheetAtoms, sheetLinks, figureContexts};
-ghost use Rattle.narrowing.specs.Laid.{Rowed};
-ghost use Rattle.stepping.specs.Flags.{Within};
-ghost use Rattle.faults.specs.Parts.{WithStep, WithEnds, HoldsPart, Cut, Cuts};
+ghost use Rattle.candidates.specs.Laid.{Rowed};
+ghost use Rattle.faults.specs.Parts.{StandsOn, MemberOn, Stepped, Cut, Cuts};
 
-// Link z is among the first `count`.
-fn stands(links: [u16; Sheet::MOST_LINKS], count: usize, z: u16) -> bool
-    ensures { λ r. ⌜ (r ≡ true → (k : ℕ) × (k < count) × (getD links k 0 ≡ z)) ⌝ }
+fn wide(x: u16) -> usize {
+    x as usize
+}
+
+// Link z, from 1, is a link of atom j.
+fn stands(laid: &[u16; LAID], atoms: usize, j: usize, z: usize) -> bool
+    requires { ⌜ Rowed (now laid) atoms ⌝ }
+    ensures { λ r. ⌜ (r ≡ true → (j < atoms) × StandsOn (now (laid .entry)) atoms j z) ⌝ }
 {
-    let mut k = 0;
-    while k < Sheet::MOST_LINKS {
-        if k < count {
-            if links[k] == z {
+    if j < atoms {
+        let a = laid_atom(laid, j);
+        let links = a.links;
+        let count = a.count as usize;
+        let mut k = 0;
+        while k < count {
+            if links[k] as usize == z {
                 return true;
             }
+            k += 1;
         }
-        k += 1;
     }
     false
 }
 
-// Atom j joins the part, over link y from atom a, where both stand on it; `from` and `here` are their links.
-fn with_step(
-    members: &mut [u8; Sheet::ATOMS],
-    seen: &mut [u8; Sheet::LINKS],
-    used: &[u8; Sheet::LINKS],
-    a: usize,
-    from: [u16; Sheet::MOST_LINKS],
-    width: usize,
-    y: usize,
-    j: usize,
-    here: [u16; Sheet::MOST_LINKS],
-    count: usize,
+// Atom a is a member, and link z one of its links.
+fn member_on(
+    members: &[u8; Sheet::ATOMS],
+    laid: &[u16; LAID],
     atoms: usize,
     links: usize,
-)
-    requires { ⌜ (j < atoms) × (atoms ≤ sheetAtoms) × (links ≤ sheetLinks) × (length (now members) ≡ sheetAtoms) × (length (now seen) ≡ sheetLinks) ⌝ }
-    ensures { λ r. ⌜ (length (now (members .exit)) ≡ sheetAtoms) × (length (now (seen .exit)) ≡ sheetLinks) × WithStep (now (used .entry)) a from width j here count atoms links (now (members .entry)) (now (seen .entry)) (now (members .exit)) (now (seen .exit)) ⌝ }
+    a: usize,
+    z: usize,
+) -> bool
+    requires { ⌜ Rowed (now laid) atoms × (a < sheetAtoms) ⌝ }
+    ensures { λ r. ⌜ (r ≡ true → MemberOn (now (members .entry)) (now (laid .entry)) atoms links a z) ⌝ }
 {
-    if a < atoms {
-        if y < links {
-            if members[a] == 1 {
-                if used[y] != 1 {
-                    let z = (y + 1) as u16;
-                    if stands(from, width, z) {
-                        if stands(here, count, z) {
-                            if members[j] != 1 {
-                                seen[y] = 1;
-                                members[j] = 1;
-                                return;
-                            }
-                        }
-                    }
-                }
-            }
-        }
+    if members[a] != 1 {
+        return false;
     }
+    if z == 0 {
+        return false;
+    }
+    if links < z {
+        return false;
+    }
+    stands(laid, atoms, a, z)
 }
 
-// The ends among the links of a member are looked at.
-fn with_ends(
-    seen: &mut [u8; Sheet::LINKS],
-    ends: &[u8; Sheet::LINKS],
-    links: [u16; Sheet::MOST_LINKS],
-    count: usize,
-)
-    requires { ⌜ (count ≤ mostLinks) × Within sheetLinks count links × (length (now seen) ≡ sheetLinks) ⌝ }
-    ensures { λ r. ⌜ (length (now (seen .exit)) ≡ sheetLinks) × WithEnds links count (now (seen .entry)) (now (seen .exit)) ⌝ }
-{
-    let mut k = 0;
-    while k < count {
-        let y = (links[k] - 1) as usize;
-        if ends[y] == 1 {
-            seen[y] = 1;
-        }
-        k += 1;
-    }
-}
-
-// The part that the marks make.
-fn grow_part(
+// Atom j joins the part over the link and from the atom of its mark, where both stand on it and no figure link
+// goes to it.
+fn with_step(
     members: &mut [u8; Sheet::ATOMS],
     seen: &mut [u8; Sheet::LINKS],
     laid: &[u16; LAID],
     atoms: usize,
     links: usize,
-    order: &[u8; Sheet::ATOMS],
-    count: usize,
-    way: &[u16; Sheet::ATOMS],
-    marked: &[u8; Sheet::ATOMS],
-    ends: &[u8; Sheet::LINKS],
     used: &[u8; Sheet::LINKS],
-    root: usize,
+    mark: u16,
+    j: usize,
 )
-    requires { ⌜ Rowed (now laid) atoms × (links ≤ sheetLinks) × (count ≤ sheetAtoms) × ((h : ℕ) → h < count → getD (now order) h 0 < atoms) × (root < atoms) × (now members ≡ replicate 64 0) × (now seen ≡ replicate 96 0) ⌝ }
-    ensures { λ r. ⌜ HoldsPart (now (laid .entry)) atoms links (now (used .entry)) root (now (members .exit)) (now (seen .exit)) ⌝ }
+    requires { ⌜ Rowed (now laid) atoms × (links ≤ sheetLinks) × (length (now members) ≡ sheetAtoms) × (length (now seen) ≡ sheetLinks) ⌝ }
+    ensures { λ r. ⌜ Stepped (now (laid .entry)) atoms links (now (used .entry)) (now (members .entry)) (now (seen .entry)) (now (members .exit)) (now (seen .exit)) ⌝ }
 {
-    members[root] = 1;
-    let mut head = 0;
-    while head < count {
-        let j = order[head] as usize;
-        if marked[j] == 1 {
-            let y = wide(way[j]) / Sheet::ATOMS;
-            let a = wide(way[j]) % Sheet::ATOMS;
-            let t = laid_atom(laid, a);
-            let from = t.links;
-            let width = t.count as usize;
-            let s = laid_atom(laid, j);
-            let here = s.links;
-            let n = s.count as usize;
-            with_step(
-                members,
-                seen,
-                used,
-                a,
-                from,
-                width,
-                y,
-                j,
-                here,
-                n,
-                atoms,
-                links,
-            );
-            if members[j] == 1 {
-                with_ends(seen, ends, here, n);
+    let z = wide(mark) / Sheet::ATOMS;
+    let a = wide(mark) % Sheet::ATOMS;
+    if member_on(members, laid, atoms, links, a, z) {
+        if used[z - 1] != 1 {
+            if stands(laid, atoms, j, z) {
+                seen[z - 1] = 1;
+                members[j] = 1;
+                return;
             }
         }
-        head += 1;
     }
 }
 
-// The context has no port at some link looked at where a figure link goes.
-fn cut_at(
-    seen: &[u8; Sheet::LINKS],
+// The atoms from an atom back to a member, and how many.
+fn way_back(
+    path: &mut [u16; Sheet::ATOMS],
+    members: &[u8; Sheet::ATOMS],
+    way: &[u16; Sheet::ATOMS],
+    from: usize,
+) -> usize
+    requires { ⌜ from < sheetAtoms ⌝ }
+    ensures { λ r. ⌜ r ≤ sheetAtoms ⌝ }
+{
+    let mut j = from;
+    let mut n = 0;
+    while n < Sheet::ATOMS {
+        if members[j] == 1 {
+            return n;
+        }
+        path[n] = j as u16;
+        j = wide(way[j]) % Sheet::ATOMS;
+        n += 1;
+    }
+    n
+}
+
+// The atoms on the way to an atom join.
+fn with_way(
+    members: &mut [u8; Sheet::ATOMS],
+    seen: &mut [u8; Sheet::LINKS],
+    laid: &[u16; LAID],
+    atoms: usize,
+    links: usize,
+    used: &[u8; Sheet::LINKS],
+    way: &[u16; Sheet::ATOMS],
+    from: usize,
+)
+    requires { ⌜ Rowed (now laid) atoms × (links ≤ sheetLinks) × (from < sheetAtoms) × (length (now members) ≡ sheetAtoms) × (length (now seen) ≡ sheetLinks) ⌝ }
+    ensures { λ r. ⌜ Stepped (now (laid .entry)) atoms links (now (used .entry)) (now (members .entry)) (now (seen .entry)) (now (members .exit)) (now (seen .exit)) ⌝ }
+{
+    let mut path = [0u16; Sheet::ATOMS];
+    let mut n = way_back(&mut path, members, way, from);
+    while 0 < n {
+        n -= 1;
+        let j = wide(path[n]) % Sheet::ATOMS;
+        with_step(members, seen, laid, atoms, links, used, way[j], j);
+    }
+}
+
+// The way to the atom of a mark joins, and its link is looked at; false where context c is not cut off there.
+fn with_cut(
+    members: &mut [u8; Sheet::ATOMS],
+    seen: &mut [u8; Sheet::LINKS],
+    laid: &[u16; LAID],
+    atoms: usize,
+    links: usize,
     used: &[u8; Sheet::LINKS],
     ports: &[u8; PORTS],
+    way: &[u16; Sheet::ATOMS],
     c: usize,
-    links: usize,
+    mark: u16,
 ) -> bool
-    requires { ⌜ (c < figureContexts) × (links ≤ sheetLinks) ⌝ }
-    ensures { λ r. ⌜ (r ≡ true → Cut (now (seen .entry)) (now (used .entry)) (now (ports .entry)) links c) ⌝ }
+    requires { ⌜ Rowed (now laid) atoms × (links ≤ sheetLinks) × (c < figureContexts) × (length (now members) ≡ sheetAtoms) × (length (now seen) ≡ sheetLinks) ⌝ }
+    ensures { λ r. ⌜ Stepped (now (laid .entry)) atoms links (now (used .entry)) (now (members .entry)) (now (seen .entry)) (now (members .exit)) (now (seen .exit)) × (r ≡ true → Cut (now (seen .exit)) (now (used .entry)) (now (ports .entry)) links c) ⌝ }
 {
-    let mut y = 0;
-    while y < links {
-        if seen[y] == 1 {
-            if used[y] == 1 {
-                if ports[c * Sheet::LINKS + y] != 1 {
-                    return true;
-                }
+    let z = wide(mark) / Sheet::ATOMS;
+    let j = wide(mark) % Sheet::ATOMS;
+    with_way(members, seen, laid, atoms, links, used, way, j);
+    if member_on(members, laid, atoms, links, j, z) {
+        if used[z - 1] == 1 {
+            if ports[c * Sheet::LINKS + (z - 1)] != 1 {
+                seen[z - 1] = 1;
+                return true;
             }
         }
-        y += 1;
     }
     false
-}
-
-// That is so of every context.
-fn cut(
-    seen: &[u8; Sheet::LINKS],
-    used: &[u8; Sheet::LINKS],
-    ports: &[u8; PORTS],
-    contexts: usize,
-    links: usize,
-) -> bool
-    requires { ⌜ (contexts ≤ figureContexts) × (links ≤ sheetLinks) ⌝ }
-    ensures { λ r. ⌜ (r ≡ true → (c : ℕ) → c < contexts → Cut (now (seen .entry)) (now (used .entry)) (now (ports .entry)) links c) ⌝ }
-{
-    let mut c = 0;
-    while c < contexts {
-        if cut_at(seen, used, ports, c, links) {
-            c += 1;
-        } else {
-            return false;
-        }
-    }
-    true
 }
 
 // The links of a small part, or of the whole component, which are `all`.
@@ -196,50 +170,38 @@ pub(crate) fn part(
     laid: &[u16; LAID],
     atoms: usize,
     links: usize,
-    order: &[u8; Sheet::ATOMS],
-    count: usize,
     way: &[u16; Sheet::ATOMS],
+    cuts: &[u16; Sheet::CONTEXT_ROOM],
     all: [u8; Sheet::LINKS],
     used: &[u8; Sheet::LINKS],
     ports: &[u8; PORTS],
     root: usize,
     contexts: usize,
 ) -> [u8; Sheet::LINKS]
-    requires { ⌜ Rowed (now laid) atoms × (links ≤ sheetLinks) × (count ≤ sheetAtoms) × ((h : ℕ) → h < count → getD (now order) h 0 < atoms) × (root < atoms) × (contexts ≤ figureContexts) ⌝ }
+    requires { ⌜ Rowed (now laid) atoms × (links ≤ sheetLinks) × (root < atoms) × (contexts ≤ figureContexts) ⌝ }
     ensures { λ r. ⌜ ((chains : List ℕ) → Cuts (now (laid .entry)) atoms links chains (now (used .entry)) (now (ports .entry)) root contexts all r) ⌝ }
 {
-    let mut marked = [0u8; Sheet::ATOMS];
-    let mut ends = [0u8; Sheet::LINKS];
-    mark_all(
-        &mut marked,
-        &mut ends,
-        laid,
-        order,
-        count,
-        way,
-        used,
-        ports,
-        root,
-        contexts,
-    );
     let mut members = [0u8; Sheet::ATOMS];
     let mut seen = [0u8; Sheet::LINKS];
-    grow_part(
-        &mut members,
-        &mut seen,
-        laid,
-        atoms,
-        links,
-        order,
-        count,
-        way,
-        &marked,
-        &ends,
-        used,
-        root,
-    );
-    if cut(&seen, used, ports, contexts, links) {
-        return seen;
+    members[root] = 1;
+    let mut c = 0;
+    while c < contexts {
+        if with_cut(
+            &mut members,
+            &mut seen,
+            laid,
+            atoms,
+            links,
+            used,
+            ports,
+            way,
+            c,
+            cuts[c],
+        ) {
+            c += 1;
+        } else {
+            return all;
+        }
     }
-    all
+    seen
 }

@@ -2,20 +2,21 @@
 use Prim.Native.Nat.{ℕ, suc, _+_, _*_, _<_, _≤_}
 use mathlib.Core.Path.{_≡_, refl, ap, ap₂, sym, _∙_, subst}
 use mathlib.Core.Bool.{Bool, true, false}
-use mathlib.Core.List.{List, [], _∷_}
+use mathlib.Core.List.{List, [], _∷_, map}
 use native.Mathlib.Omega.{arith}
 use borrow.Author.Tests.{lt-ltb, le-ltb}
 use lib.Dec.{eqb, ltb}
-use lib.ListN.{length, take, length-take}
+use lib.ListN.{length, getD, take, length-map, length-take}
 use Rattle.rows.specs.Pick.{pick, or}
 use Rattle.rows.specs.Format.{rowWidth}
 use Rattle.rows.specs.Limits.{sheetAtoms, sheetLinks, figureContexts}
-use Rattle.rows.specs.Packed.{noContext, portTable, packed}
+use Rattle.rows.specs.Held.{Held}
+use Rattle.rows.specs.Packed.{padded, noContext, portTable, packed}
 use Rattle.rows.specs.declared.Context.{Context}
 use Rattle.rows.proofs.Padding.{take-padded}
 use Rattle.rows.proofs.Ports.{table-at}
 use Rattle.sheet.specs.Graph.{graphOf}
-use Rattle.sheet.specs.NormalSheet.{packedNormal}
+use Rattle.sheet.specs.NormalSheet.{normalContext, packedNormal}
 use Rattle.sheet.specs.NormalText.{slipLength}
 use Rattle.sheet.specs.NormalRows.{normalRows, Writable}
 use Rattle.sheet.specs.Reading.{outcomeOf, noPorts}
@@ -55,11 +56,21 @@ unported heads [] r = refl
 unported heads (c ∷ l) r =
     ap₂ (λ (n m : ℕ). pick (eqb n (suc (c .count))) m (c .row)) (table-at heads (c .number) (omega (arith, r .0 .number .1))) (unported heads l (r .1))
 
+-- A normal form's contexts have their numbers, counts and rows.
+unported-normal : (ports : List ℕ) (h : Held) (l : List Context) → firstUnported ports (map (normalContext h) l) ≡ firstUnported ports l
+unfolding firstUnported
+unported-normal ports h [] = refl
+unported-normal ports h (c ∷ l) = ap (λ (n : ℕ). pick (eqb (getD ports (c .number) 0) (suc (c .count))) n (c .row)) (unported-normal ports h l)
+
 -- Refusals 8 and 9 as the code finds them.
 module _ (figure list : List ℕ) where
-  pub lacking-made : firstUnported (packed (listHeld list) .ports) (take (packed (figureHeld figure) .«context_count») (packed (figureHeld figure) .contexts)) ≡ firstLacking (listHeld list .contexts) (figureHeld figure .contexts)
+  pub lacking-made : firstUnported (packed (listHeld list) .ports) (take (packedNormal (figureHeld figure) .«context_count») (packedNormal (figureHeld figure) .contexts)) ≡ firstLacking (listHeld list .contexts) (figureHeld figure .contexts)
   lacking-made =
-      ap (firstUnported (portTable (listHeld list .contexts))) (take-padded (figureContexts + 1) noContext (figureHeld figure .contexts))
+      let h = figureHeld figure in
+      let l = map (normalContext h) (h .contexts) in
+      ap (λ (n : ℕ). firstUnported (portTable (listHeld list .contexts)) (take n (padded (figureContexts + 1) noContext l))) (sym (length-map (h .contexts) (normalContext h)))
+      ∙ ap (firstUnported (portTable (listHeld list .contexts))) (take-padded (figureContexts + 1) noContext l)
+      ∙ unported-normal (portTable (listHeld list .contexts)) h (h .contexts)
       ∙ unported (listHeld list .contexts) (figureHeld figure .contexts) (figure-within figure .ranges .contexts)
 
   pub differing-made : firstDiffering list (take (packed (listHeld list) .«context_count») (packed (listHeld list) .contexts)) ≡ firstDiffering list (listHeld list .contexts)

@@ -7,10 +7,6 @@ use native.Mathlib.Decide.{decLe}
 use native.Mathlib.Omega.{arith}
 use lib.ListN.{length}
 use Rattle.rows.specs.Limits.{sheetAtoms, sheetLinks, figureContexts}
-use Rattle.rows.specs.Held.{Held}
-use Rattle.rows.specs.Packed.{packed}
-use Rattle.rows.specs.declared.Sheet.{Sheet}
-use Rattle.sheet.specs.Agrees.{Agrees}
 use Rattle.sheet.specs.NormalSheet.{packedNormal}
 use Rattle.sheet.specs.declared.normal.Normal.{Normal}
 use Rattle.filling.specs.Read.{listHeld}
@@ -18,18 +14,17 @@ use Rattle.filling.specs.Fill.{figureHeld, firstLacking, firstDiffering,
 use Rattle.filling.specs.Glued.{Glues}
 use Rattle.filling.specs.Classes.{Made}
 use Rattle.filling.specs.Filled.{FilledIs}
-use Rattle.filling.proofs.Parts.{figure-agrees}
 use Rattle.filling.proofs.Located.{Right}
 use Rattle.filling.proofs.Answers.{right-fillings, large-atoms, large-classes, not-large, rows-written, rows-writable, net-is, fit-is}
 
-module _ (sheet : Sheet) (list figure : List ℕ) (q : sheet ≡ packed (figureHeld figure))
+module _ (normal : Normal) (list figure : List ℕ) (q : normal ≡ packedNormal (figureHeld figure))
     (a : firstLacking (listHeld list .contexts) (figureHeld figure .contexts) ≡ 0) (b : firstDiffering list (listHeld list .contexts) ≡ 0)
-    (normal r : Normal) (N : (h : Held) → Agrees h → sheet ≡ packed h → normal ≡ packedNormal h) (M : (l : List ℕ) × (Glues list normal l × Made list l normal r)) where
+    (r : Normal) (M : (l : List ℕ) × (Glues list normal l × Made list l normal r)) where
   right : Right figure list
   right = right-fillings figure list a b
 
   made : (l : List ℕ) × (Glues list (packedNormal (figureHeld figure)) l × Made list l (packedNormal (figureHeld figure)) r)
-  made = subst (λ (n : Normal). (l : List ℕ) × (Glues list n l × Made list l n r)) (N (figureHeld figure) (figure-agrees figure) q) M
+  made = subst (λ (n : Normal). (l : List ℕ) × (Glues list n l × Made list l n r)) q M
 
   wide : sheetLinks < r .«class_count» → Dec (r .«atom_count» ≤ sheetAtoms) → tooLarge (filledBy figure list) ≡ true
   wide h (yes few) = large-classes figure list right r made few h

@@ -22,13 +22,8 @@ module _ (labels : List ℕ) (e : ℕ × ℕ) where
   pub joined-length : length (joinedAt labels e) ≡ length labels
   joined-length = length-map labels (relabelled (getD labels (e .1) 0) (getD labels (e .0) 0))
 
-  joined-at : (k : ℕ) → k < length labels → getD (joinedAt labels e) k 0 ≡ relabelled (getD labels (e .1) 0) (getD labels (e .0) 0) (getD labels k 0)
+  pub joined-at : (k : ℕ) → k < length labels → getD (joinedAt labels e) k 0 ≡ relabelled (getD labels (e .1) 0) (getD labels (e .0) 0) (getD labels k 0)
   joined-at k h = getD-mapped (relabelled (getD labels (e .1) 0) (getD labels (e .0) 0)) labels k 0 0 h
-
-pub all-length : (l : List (ℕ × ℕ)) (labels : List ℕ) → length (joinedAll labels l) ≡ length labels
-unfolding joinedAll
-all-length [] labels = refl
-all-length (e ∷ l) labels = all-length l (joinedAt labels e) ∙ joined-length labels e
 
 -- Equal labels stay equal, and the two of a pair become equal.
 pub same-stays : (l : List (ℕ × ℕ)) (labels : List ℕ) (a b : ℕ) → a < length labels → b < length labels → getD labels a 0 ≡ getD labels b 0

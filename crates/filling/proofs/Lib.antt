@@ -3,6 +3,7 @@ pub mod Exact
 pub mod Heads
 pub mod Parts
 pub mod Join
+pub mod Fresh
 pub mod Found
 pub mod Located
 pub mod Labelled

@@ -29,7 +29,7 @@ use Rattle.filling.specs.Fill.{firstDiffering, isExact}
 use Rattle.filling.specs.Parts.{partNormal, exactTo, Exacts, firstUnported}
 use Rattle.filling.specs.Glued.{placeOf, joinedAt, joinedAll, portPairs, contextPairs, allPairs}
 use Rattle.filling.specs.Whole.{placedAtom, partAtoms, contextAtoms, labelsAt, labelledLinks, labelledAtom, roomFor, wholeAtoms, Grown}
-use Rattle.filling.specs.Classes.{Known, Sees, withLabel, withLabels, linksIn, numberIn, numberedLinks, numberedAt}
+use Rattle.filling.specs.Classes.{LabelTable, Sees, withLabel, withLabels, linksIn, numberIn, numberedLinks, numberedAt}
 use Rattle.filling.specs.declared.whole.Whole.{Whole}
 use Rattle.filling.proofs.Join.{all-append}
 use Rattle.filling.proofs.Numbered.{labels-append, label-kept}
@@ -195,7 +195,7 @@ module _ (l : List ℕ) (n x : ℕ) (e : length l ≡ sheetLinks + 1) (h : n ≤
       add-one r ∙ ap suc (q ∙ sym (ap (λ (t : List ℕ). indexOf x (withLabels t later)) (s .labels) ∙ label-kept (take n l) x (omega arith) later))
 
 -- Labels seen one after the other.
-pub sees-none : (known : List ℕ) (n : ℕ) → Known known n → Sees known n known n []
+pub sees-none : (known : List ℕ) (n : ℕ) → LabelTable known n → Sees known n known n []
 unfolding withLabels
 sees-none known n h = record { labels = refl; room = h }
 

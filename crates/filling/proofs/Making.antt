@@ -16,10 +16,11 @@ use Rattle.sheet.specs.NormalRows.{pastAtoms}
 use Rattle.sheet.specs.declared.normal.Normal.{Normal}
 use Rattle.filling.specs.Parts.{partNormal, partRoom, places, Low}
 use Rattle.filling.specs.Glued.{placeOf, Own, Glues}
-use Rattle.filling.specs.Whole.{placedAtom, Linked, partAtoms, contextAtoms, placedAtoms, labelledAtom, roomFor, wholeAtoms, Puts}
+use Rattle.filling.specs.Whole.{placedAtom, Linked, partAtoms, contextAtoms, placedAtoms, labelledAtom, roomFor, wholeAtoms, ContextsRanged, Puts}
 use Rattle.filling.specs.Classes.{withLabels, Sees, linksIn, numberIn, numberedAtom, numberedAt, markLabels, shownAtoms, shownLabels, Made}
 use Rattle.filling.specs.declared.whole.Whole.{Whole}
-use Rattle.filling.proofs.Parts.{list-any, taken-map, part-low}
+use Rattle.filling.proofs.Parts.{list-any, taken-map, part-low, low-counted}
+use Rattle.filling.proofs.Loops.{own-places}
 
 -- An atom of a part.
 abbrev Small : Atom → Type 0
@@ -67,15 +68,25 @@ placed-linked list figure low =
     (taken-linked (sheetAtoms + 1) (placedAtoms list figure)
     (both-linked (partAtoms 0 figure) (contextAtoms list 1 contexts) (part-linked 0 (omega arith) figure low) (contexts-linked list 1 contexts (omega (arith, length-take (figure .«context_count») (figure .contexts), low .contexts)))))
 
+-- What a normal form has of contexts, and its own atoms.
+pub low-ported : (n : Normal) → Low n → ContextsRanged (n .contexts) (n .«context_count»)
+low-ported n l = record { counted = low-counted n l; links = l .contextLinks }
+
+abbrev pub ownWhole : Normal → Whole
+ownWhole n = record { atoms = n .atoms; count = n .«atom_count» }
+
 -- The figure and its fillings put together, with labels, and numbered.
-module _ (list : List ℕ) (figure : Normal) (own labels : List ℕ) (whole : Whole) (P : Puts list figure own labels whole) where
+module _ (list : List ℕ) (figure : Normal) (own labels : List ℕ) (whole : Whole) (P : Puts list (ownWhole figure) (take (figure .«context_count») (figure .contexts)) own labels whole) where
+  all-placed : wholeAtoms whole ≡ roomFor (placedAtoms list figure)
+  all-placed = P .atoms ∙ ap (λ (l : List Atom). roomFor (l ++ contextAtoms list 1 (take (figure .«context_count») (figure .contexts)))) (sym (own-places (take (figure .«atom_count») (figure .atoms))))
+
   pub put-linked : Low figure → (i : ℕ) → Linked (getD (wholeAtoms whole) i pastAtoms)
-  put-linked low i = subst (λ (l : List Atom). Linked (getD l i pastAtoms)) (sym (P .atoms)) (placed-linked list figure low i)
+  put-linked low i = subst (λ (l : List Atom). Linked (getD l i pastAtoms)) (sym all-placed) (placed-linked list figure low i)
 
   -- All labels that are known in the end are those of the atoms and marks in order.
   module _ (none first all : List ℕ) (m n : ℕ) (A : Sees none 0 first m (linksIn (map (labelledAtom labels) (wholeAtoms whole)))) (M : Sees first m all n (markLabels labels figure)) where
     all-shown : map (labelledAtom labels) (wholeAtoms whole) ≡ shownAtoms list labels figure
-    all-shown = ap (map (labelledAtom labels)) (P .atoms) ∙ sym (taken-map (labelledAtom labels) (sheetAtoms + 1) (placedAtoms list figure))
+    all-shown = ap (map (labelledAtom labels)) all-placed ∙ sym (taken-map (labelledAtom labels) (sheetAtoms + 1) (placedAtoms list figure))
 
     in-order : withLabels (take m first) (markLabels labels figure) ≡ shownLabels list labels figure
     in-order = ap (λ (l : List ℕ). withLabels l (markLabels labels figure)) (A .labels ∙ ap (λ (l : List Atom). withLabels [] (linksIn l)) all-shown)

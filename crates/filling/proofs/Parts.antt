@@ -1,6 +1,6 @@
 -- A figure and the fillings of a list as normal forms: what they agree with, and the bounds of their numbers.
 use Prim.Native.Nat.{ℕ, suc, _+_, _-_, _<_, _≤_, zero}
-use mathlib.Core.Path.{_≡_, refl, ap, subst}
+use mathlib.Core.Path.{_≡_, refl, ap, sym, _∙_, subst}
 use mathlib.Core.List.{List, [], _∷_, _++_, map, List·Memᴰ·head, List·Memᴰ·tail, Memᴰ·append-left, Memᴰ·append-right, Memᴰ·map, Memᴰ·of-map}
 use native.Mathlib.Omega.{arith}
 use lib.ListN.{length, getD, take, replicate}
@@ -12,13 +12,14 @@ use Rattle.rows.specs.Held.{Held}
 use Rattle.rows.specs.Packed.{padded, noAtom, noContext, portsOf, packed}
 use Rattle.rows.specs.declared.Context.{Context}
 use Rattle.rows.specs.declared.Sheet.{Sheet}
-use Rattle.rows.proofs.Padding.{length-padded}
+use Rattle.rows.proofs.Padding.{length-padded, take-padded}
 use Rattle.sheet.specs.Graph.{atomCell, contextCell, graphOf}
 use Rattle.sheet.specs.Agrees.{Agrees}
 use Rattle.sheet.specs.Normal.{classOf, markNode, marksOf, shown}
 use Rattle.numbering.specs.Numbering.{Numberable}
 use Rattle.sheet.specs.NormalSheet.{numberIn, normalAtom, normalContext, normalMarks, packedNormal}
 use Rattle.sheet.specs.NormalRows.{pastAtoms, pastContexts}
+use Rattle.sheet.specs.declared.normal.Normal.{Normal}
 use Rattle.sheet.specs.Reading.{noPorts}
 use Rattle.sheet.specs.Filling.{fillingOf}
 use Rattle.sheet.specs.declared.kind.Kind.{Kind}
@@ -29,12 +30,13 @@ use Rattle.sheet.proofs.read.HeldLimits.{held-within}
 use Rattle.sheet.proofs.normal.Connected.{agrees-read, ports-in}
 use Rattle.sheet.proofs.normal.NormalBounds.{number-range, text-links}
 use Rattle.sheet.proofs.normal_text.NormalWritten.{links-known, few-marks}
+use Rattle.sheet.proofs.normal.NormalMade.{sortedMarks, marks-taken}
 use Rattle.sheet.proofs.normal.NormalReady.{numberable-held}
 use Rattle.texts.proofs.OneFilling.{filling-agrees}
 use Rattle.texts.proofs.NormalFits.{every-member}
 use Rattle.filling.specs.Read.{listHeld, partHeld}
 use Rattle.filling.specs.Fill.{figureHeld}
-use Rattle.filling.specs.Parts.{withoutHeads, partNormal, partRoom, Counted, Low}
+use Rattle.filling.specs.Parts.{withoutHeads, partNormal, partMarks, partRoom, Counted, Low}
 use Rattle.filling.proofs.Heads.{part-heads}
 
 -- What a figure, a list and one filling hold is within the limits.
@@ -150,7 +152,11 @@ module _ (kind : Kind) (h : Held) (w : WithinLimits kind h) (A : Agrees h) where
             (map-all (λ n. n < partRoom) (λ m. numberIn h (markNode m)) (normalMarks h) (λ m i. number-low (markNode m) (Memᴰ·append-right (portNodes (graphOf h .atoms)) (Memᴰ·map markNode i)) .1));
       }
 
-pub counted : (kind : Kind) (h : Held) → WithinLimits kind h → Counted (packed h)
+-- A normal form's contexts have the numbers and counts of the figure's.
+pub low-counted : (n : Normal) → Low n → Counted (n .contexts) (n .«context_count»)
+low-counted n l = record { few = l .contexts; number = l .contextNumbers; count = l .contextCounts }
+
+pub counted : (kind : Kind) (h : Held) → WithinLimits kind h → Counted (packed h .contexts) (packed h .«context_count»)
 counted kind h w =
     record {
       few = w .contexts;
@@ -160,6 +166,12 @@ counted kind h w =
 
 pub part-low : (list : List ℕ) (number : ℕ) → Low (partNormal list number)
 part-low list number = normal-low Fillings (withoutHeads (partHeld list number)) (part-within list number) (part-agrees list number)
+
+-- Its marks are those that were read, in ascending order.
+pub marks-read : (list : List ℕ) (number : ℕ) (s : Sheet) → s ≡ packed (partHeld list number) → take (s .«mark_count») (sortedMarks s) ≡ partMarks list number
+marks-read list number s e =
+    let h = withoutHeads (partHeld list number) in
+    rw e (marks-taken h (part-agrees list number) ∙ sym (take-padded (sheetMarks + 1) 0 (normalMarks h)))
 
 pub part-marks : (list : List ℕ) (number : ℕ) → length (partNormal list number .marks) ≡ sheetMarks + 1
 part-marks list number = length-padded (sheetMarks + 1) 0 (normalMarks (withoutHeads (partHeld list number))) (omega (arith, part-low list number .marks))

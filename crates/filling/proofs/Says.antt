@@ -7,6 +7,7 @@ use Rattle.rows.specs.Format.{rowWidth}
 use Rattle.rows.specs.Limits.{sheetAtoms, sheetLinks}
 use Rattle.rows.specs.Packed.{packed}
 use Rattle.rows.specs.declared.Sheet.{Sheet}
+use Rattle.sheet.specs.NormalSheet.{packedNormal}
 use Rattle.sheet.specs.NormalText.{slipLength}
 use Rattle.sheet.specs.NormalRows.{normalRows, Writable}
 use Rattle.sheet.specs.declared.normal.Normal.{Normal}
@@ -17,10 +18,10 @@ use Rattle.filling.specs.Filled.{FilledIs}
 use Rattle.answers.specs.declared.outcome.Done.the-variants as done
 use Rattle.filling.proofs.Answers.{lacking-made, differing-made, answer-lacking, answer-differing, answer-large, answer-written}
 
-module _ (sheet heads : Sheet) (list : List ℕ) (H : heads ≡ packed (listHeld list))
-    (lacking : ℕ) (L : lacking ≡ firstUnported (heads .ports) (take (sheet .«context_count») (sheet .contexts))) (figure : List ℕ) (q : sheet ≡ packed (figureHeld figure)) where
+module _ (normal : Normal) (heads : Sheet) (list : List ℕ) (H : heads ≡ packed (listHeld list))
+    (lacking : ℕ) (L : lacking ≡ firstUnported (heads .ports) (take (normal .«context_count») (normal .contexts))) (figure : List ℕ) (q : normal ≡ packedNormal (figureHeld figure)) where
   lacks : lacking ≡ firstLacking (listHeld list .contexts) (figureHeld figure .contexts)
-  lacks = L ∙ ap₂ (λ (x y : Sheet). firstUnported (x .ports) (take (y .«context_count») (y .contexts))) H q ∙ lacking-made figure list
+  lacks = L ∙ ap₂ (λ (x : Sheet) (y : Normal). firstUnported (x .ports) (take (y .«context_count») (y .contexts))) H q ∙ lacking-made figure list
 
   pub says-lacking : (lacking ≡ 0 → ⊥) → done.BlankClash 1 lacking ≡ filledAnswer figure list
   says-lacking h = answer-lacking figure list lacking lacks h
@@ -33,7 +34,7 @@ module _ (sheet heads : Sheet) (list : List ℕ) (H : heads ≡ packed (listHeld
     says-differing h = answer-differing figure list (sym lacks ∙ z) differing differs h
 
     module _ (y : differing ≡ 0) (r : Normal)
-        (M : (text : List ℕ) → sheet ≡ packed (figureHeld text) → firstLacking (listHeld list .contexts) (figureHeld text .contexts) ≡ 0 → firstDiffering list (listHeld list .contexts) ≡ 0 → FilledIs text list r) where
+        (M : (text : List ℕ) → normal ≡ packedNormal (figureHeld text) → firstLacking (listHeld list .contexts) (figureHeld text .contexts) ≡ 0 → firstDiffering list (listHeld list .contexts) ≡ 0 → FilledIs text list r) where
       filled : FilledIs figure list r
       filled = M figure q (sym lacks ∙ z) (sym differs ∙ y)
 

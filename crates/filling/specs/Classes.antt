@@ -13,8 +13,8 @@ use Rattle.sheet.specs.declared.normal.Normal.{Normal}
 use Rattle.filling.specs.Whole.{labelsAt, labelledAtom, allAtoms, roomFor}
 
 -- a table with room for one label more than a sheet has links, and how many labels are in it
-abbrev pub Known : List ℕ → ℕ → Type 0
-Known known n = (n ≤ sheetLinks + 1) × (length known ≡ sheetLinks + 1)
+abbrev pub LabelTable : List ℕ → ℕ → Type 0
+LabelTable known n = (n ≤ sheetLinks + 1) × (length known ≡ sheetLinks + 1)
 
 -- a label that is new comes last, where there is room
 unfoldable pub withLabel : List ℕ → ℕ → List ℕ
@@ -27,7 +27,7 @@ withLabels l (x ∷ more) = withLabels (withLabel l x) more
 -- the m labels of after are the n labels of before, and these
 pub record Sees (before : List ℕ) (n : ℕ) (after : List ℕ) (m : ℕ) (more : List ℕ) : Type 0 where
   pub labels : take m after ≡ withLabels (take n before) more
-  pub room : Known after m
+  pub room : LabelTable after m
 
 -- the links of atoms, in order
 unfoldable pub linksIn : List Atom → List ℕ

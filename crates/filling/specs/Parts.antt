@@ -10,7 +10,6 @@ use Rattle.rows.specs.Format.{mostLinks}
 use Rattle.rows.specs.Limits.{sheetAtoms, figureContexts, sheetMarks, fillingLinks}
 use Rattle.rows.specs.Held.{Held}
 use Rattle.rows.specs.declared.Context.{Context}
-use Rattle.rows.specs.declared.Sheet.{Sheet}
 use Rattle.sheet.specs.NormalSheet.{packedNormal}
 use Rattle.sheet.specs.NormalRows.{pastAtoms, pastContexts}
 use Rattle.sheet.specs.declared.normal.Normal.{Normal}
@@ -42,11 +41,11 @@ unfoldable pub firstUnported : List ℕ → List Context → ℕ
 firstUnported ports [] = 0
 firstUnported ports (c ∷ l) = pick (eqb (getD ports (c .number) 0) (suc (c .count))) (firstUnported ports l) (c .row)
 
--- the numbers and counts of a text's contexts are in their ranges
-pub record Counted (s : Sheet) : Type 0 where
-  pub few : s .«context_count» ≤ figureContexts
-  pub number : (i : ℕ) → getD (s .contexts) i pastContexts .number < 5
-  pub count : (i : ℕ) → getD (s .contexts) i pastContexts .count ≤ mostLinks
+-- the numbers and counts of a text's n contexts are in their ranges
+pub record Counted (contexts : List Context) (n : ℕ) : Type 0 where
+  pub few : n ≤ figureContexts
+  pub number : (i : ℕ) → getD contexts i pastContexts .number < 5
+  pub count : (i : ℕ) → getD contexts i pastContexts .count ≤ mostLinks
 
 -- the classes of one part, which are counted from 1
 abbrev pub partRoom : ℕ

@@ -8,8 +8,9 @@ use Rattle.rows.specs.Limits.{sheetAtoms}
 use Rattle.rows.specs.Packed.{padded}
 use Rattle.rows.specs.declared.Atom.{Atom}
 use Rattle.rows.specs.declared.Context.{Context}
+use Rattle.sheet.specs.NormalRows.{pastContexts}
 use Rattle.sheet.specs.declared.normal.Normal.{Normal}
-use Rattle.filling.specs.Parts.{partNormal, places}
+use Rattle.filling.specs.Parts.{partNormal, partRoom, places, Counted}
 use Rattle.filling.specs.Glued.{placeOf, joinedAll, allPairs}
 use Rattle.filling.specs.declared.whole.Whole.{Whole}
 
@@ -60,8 +61,13 @@ pub record Grown (w r : Whole) (more : List Atom) : Type 0 where
   pub atoms : wholeAtoms r ≡ roomFor (wholeAtoms w ++ more)
   pub few : r .count ≤ sheetAtoms + 1
 
--- w has these atoms, and the ports of the contexts made labels one
-pub record Puts (list : List ℕ) (figure : Normal) (before after : List ℕ) (w : Whole) : Type 0 where
-  pub atoms : wholeAtoms w ≡ roomFor (placedAtoms list figure)
+-- n contexts whose numbers, counts and links are in their ranges
+pub record ContextsRanged (contexts : List Context) (n : ℕ) : Type 0 where
+  pub counted : Counted contexts n
+  pub links : (i k : ℕ) → getD (getD contexts i pastContexts .links) k 0 < partRoom
+
+-- w has the atoms of own and of the fillings for these contexts, and the ports of the contexts made labels one
+pub record Puts (list : List ℕ) (own : Whole) (contexts : List Context) (before after : List ℕ) (w : Whole) : Type 0 where
+  pub atoms : wholeAtoms w ≡ roomFor (wholeAtoms own ++ contextAtoms list 1 contexts)
   pub few : w .count ≤ sheetAtoms + 1
-  pub labels : after ≡ joinedAll before (allPairs list 1 (take (figure .«context_count») (figure .contexts)))
+  pub labels : after ≡ joinedAll before (allPairs list 1 contexts)

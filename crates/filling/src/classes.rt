@@ -14,7 +14,7 @@ ghost use Rattle.rows.specs.Packed.{padded};
 ghost use Rattle.sheet.specs.NormalRows.{pastAtoms};
 ghost use Rattle.filling.specs.Parts.{places};
 ghost use Rattle.filling.specs.Whole.{labelsAt, labelledLinks, labelledAtom, Linked};
-ghost use Rattle.filling.specs.Classes.{Known, Sees, withLabels, linksIn, numberIn, numberedLinks, numberedAt};
+ghost use Rattle.filling.specs.Classes.{LabelTable, Sees, withLabels, linksIn, numberIn, numberedLinks, numberedAt};
 
 // One label more than a sheet has links says that there are too many.
 pub(crate) const KNOWN: usize = Sheet::LINKS + 1;
@@ -22,7 +22,7 @@ pub(crate) const KNOWN: usize = Sheet::LINKS + 1;
 // The number of a label, which it keeps whatever is numbered later; one that is new gets the next, where
 // there is room.
 fn number_label(known: &mut [u16], n: &mut usize, label: u16) -> u16
-    requires { ⌜ Known (now known) (now n) ⌝ }
+    requires { ⌜ LabelTable (now known) (now n) ⌝ }
     ensures { λ _. ⌜ Sees (now (known .entry)) (now (n .entry)) (now (known .exit)) (now (n .exit)) (label ∷ []) ⌝ }
     ensures { λ r. ⌜ ((later : List ℕ) → r ≡ numberIn (withLabels (take (now (n .exit)) (now (known .exit))) later) label) ⌝ }
 {
@@ -45,7 +45,7 @@ fn numbered_links(
     links: [u16; Sheet::MOST_LINKS],
     count: usize,
 ) -> [u16; Sheet::MOST_LINKS]
-    requires { ⌜ Known (now known) (now n) × (count ≤ mostLinks) × ((k : ℕ) → getD links k 0 < places) ⌝ }
+    requires { ⌜ LabelTable (now known) (now n) × (count ≤ mostLinks) × ((k : ℕ) → getD links k 0 < places) ⌝ }
     ensures { λ _. ⌜ Sees (now (known .entry)) (now (n .entry)) (now (known .exit)) (now (n .exit)) (take count (labelledLinks (now (labels .entry)) count links)) ⌝ }
     ensures { λ r. ⌜ ((later : List ℕ) → r ≡ numberedLinks (withLabels (take (now (n .exit)) (now (known .exit))) later) count (labelledLinks (now (labels .entry)) count links)) ⌝ }
 {
@@ -67,7 +67,7 @@ pub(crate) fn numbered_atoms(
     mut atoms: [Atom; Sheet::ATOM_ROOM],
     count: usize,
 ) -> [Atom; Sheet::ATOM_ROOM]
-    requires { ⌜ Known (now known) (now n) × (count ≤ sheetAtoms + 1) × ((i : ℕ) → Linked (getD (take count atoms) i pastAtoms)) ⌝ }
+    requires { ⌜ LabelTable (now known) (now n) × (count ≤ sheetAtoms + 1) × ((i : ℕ) → Linked (getD (take count atoms) i pastAtoms)) ⌝ }
     ensures { λ _. ⌜ Sees (now (known .entry)) (now (n .entry)) (now (known .exit)) (now (n .exit)) (linksIn (map (labelledAtom (now (labels .entry))) (take count atoms))) ⌝ }
     ensures { λ r. ⌜ ((later : List ℕ) → r ≡ map (numberedAt (withLabels (take (now (n .exit)) (now (known .exit))) later) (now (labels .entry))) (take count atoms) ++ drop count atoms) ⌝ }
     ensures { λ _. ⌜ length (take count atoms) ≡ count ⌝ }
@@ -95,7 +95,7 @@ pub(crate) fn numbered_marks(
     marked: [u16; Sheet::MARK_ROOM],
     count: usize,
 ) -> [u16; Sheet::MARK_ROOM]
-    requires { ⌜ Known (now known) (now n) × (count ≤ sheetMarks) × ((k : ℕ) → getD marked k 0 < places) ⌝ }
+    requires { ⌜ LabelTable (now known) (now n) × (count ≤ sheetMarks) × ((k : ℕ) → getD marked k 0 < places) ⌝ }
     ensures { λ _. ⌜ Sees (now (known .entry)) (now (n .entry)) (now (known .exit)) (now (n .exit)) (labelsAt (now (labels .entry)) count marked) ⌝ }
     ensures { λ r. ⌜ r ≡ padded (sheetMarks + 1) 0 (map (numberIn (take (now (n .exit)) (now (known .exit)))) (labelsAt (now (labels .entry)) count marked)) ⌝ }
 {

@@ -5,6 +5,8 @@ use crate::part::first_lacking;
 use answers::outcome::Done;
 use rows::Sheet;
 use sheet::answer::Answer;
+use sheet::normal::Normal;
+use sheet::normal::normal_of;
 use sheet::normal_text::write_normal;
 use sheet::read::read_figure;
 use sheet::read::read_list;
@@ -14,25 +16,29 @@ ghost use Prim.Native.Nat.{ℕ, _≤_};
 ghost use lib.ListN.{length};
 ghost use Rattle.rows.specs.Packed.{packed};
 ghost use Rattle.sheet.specs.Filling.{Passes};
+ghost use Rattle.sheet.specs.NormalSheet.{packedNormal};
 ghost use Rattle.sheet.specs.NormalText.{slipLength};
 ghost use Rattle.filling.specs.Read.{listHeld};
 ghost use Rattle.answers.specs.Done.{slipAfter};
 ghost use Rattle.filling.specs.Fill.{figureHeld, filledText, filledAnswer, fillAnswer, fillSlip};
 
 // A figure and a list that passed row by row.
-fn fill_read(figure: Sheet, heads: Sheet, list: &[u8], out: &mut [u8]) -> Done
-    requires { ⌜ ((text : List ℕ) × (figure ≡ packed (figureHeld text))) × (heads ≡ packed (listHeld (now list))) × Passes (now list) ⌝ }
+fn fill_read(figure: Normal, heads: Sheet, list: &[u8], out: &mut [u8]) -> Done
+    requires { ⌜ ((text : List ℕ) × (figure ≡ packedNormal (figureHeld text))) × (heads ≡ packed (listHeld (now list))) × Passes (now list) ⌝ }
     requires { ⌜ slipLength ≤ length (now out) ⌝ }
-    ensures { λ r. ⌜ ((text : List ℕ) → figure ≡ packed (figureHeld text) → r ≡ filledAnswer text (now (list .entry))) ⌝ }
-    ensures { λ r. ⌜ ((text : List ℕ) → figure ≡ packed (figureHeld text) → now (out .exit) ≡ slipAfter r (filledText text (now (list .entry))) (now (out .entry))) ⌝ }
+    ensures { λ r. ⌜ ((text : List ℕ) → figure ≡ packedNormal (figureHeld text) → r ≡ filledAnswer text (now (list .entry))) ⌝ }
+    ensures { λ r. ⌜ ((text : List ℕ) → figure ≡ packedNormal (figureHeld text) → now (out .exit) ≡ slipAfter r (filledText text (now (list .entry))) (now (out .entry))) ⌝ }
 {
-    let lacking = first_lacking(figure, heads);
+    let contexts = figure.contexts;
+    let ports = heads.ports;
+    let lacking = first_lacking(contexts, figure.context_count, ports);
     if lacking != 0 {
         return Done::BlankClash(1, lacking);
     }
     let mut exact = [0u16; Sheet::NUMBERS];
     let normal = normal_filled(figure, list, &mut exact);
-    let other = first_differing(heads, list, &exact);
+    let rows = heads.contexts;
+    let other = first_differing(rows, heads.context_count, list, &exact);
     if other != 0 {
         return Done::EdgeDiffers(2, other);
     }
@@ -55,15 +61,19 @@ pub fn fill(figure: &[u8], list: &[u8], out: &mut [u8]) -> Done
     }
     let figure_reading = read_figure(figure);
     let figure_answer = figure_reading.answer;
-    let figure_sheet = figure_reading.sheet;
-    let list_reading = read_list(list);
-    let list_answer = list_reading.answer;
-    let heads = list_reading.sheet;
     match figure_answer {
-        Answer::Passed => match list_answer {
-            Answer::Passed => fill_read(figure_sheet, heads, list, out),
-            Answer::Refused(why, row) => Done::Refused(2, why, row),
-        },
+        Answer::Passed => {
+            let list_reading = read_list(list);
+            let list_answer = list_reading.answer;
+            match list_answer {
+                Answer::Passed => {
+                    let sheet = figure_reading.sheet;
+                    let heads = list_reading.sheet;
+                    fill_read(normal_of(sheet), heads, list, out)
+                }
+                Answer::Refused(why, row) => Done::Refused(2, why, row),
+            }
+        }
         Answer::Refused(why, row) => Done::Refused(1, why, row),
     }
 }

@@ -4,16 +4,16 @@ use crate::classes::numbered_atoms;
 use crate::classes::numbered_marks;
 use crate::glue::PLACES;
 use crate::glue::own_labels;
+use crate::whole::Whole;
 use crate::whole::whole_of;
 use rows::Context;
 use rows::Sheet;
 use sheet::normal::Normal;
-use sheet::normal::normal_of;
 ghost use mathlib.Core.Path.{_≡_};
 ghost use mathlib.Core.List.{List};
 ghost use Prim.Native.Nat.{ℕ};
-ghost use Rattle.rows.specs.Packed.{packed};
 ghost use Rattle.sheet.specs.Filling.{Passes};
+ghost use Rattle.sheet.specs.NormalSheet.{packedNormal};
 ghost use Rattle.filling.specs.Read.{listHeld};
 ghost use Rattle.filling.specs.Fill.{figureHeld, firstLacking, firstDiffering};
 ghost use Rattle.filling.specs.Filled.{FilledIs};
@@ -29,19 +29,21 @@ fn filled(figure: Normal, list: &[u8], exact: &mut [u16; Sheet::NUMBERS]) -> Nor
 {
     let mut labels = [0u16; PLACES];
     own_labels(&mut labels);
-    let whole = whole_of(figure, list, &mut labels, exact);
+    let own = figure.atoms;
+    let whole = Whole {
+        atoms: own,
+        count: figure.atom_count,
+    };
+    let contexts = figure.contexts;
+    let n = figure.context_count;
+    let whole = whole_of(whole, contexts, n, list, &mut labels, exact);
     let mut known = [0u16; KNOWN];
     let mut class_count: usize = 0;
     let placed = whole.atoms;
     let atoms = numbered_atoms(&labels, &mut known, &mut class_count, placed, whole.count);
     let before = figure.marked;
-    let marked = numbered_marks(
-        &labels,
-        &mut known,
-        &mut class_count,
-        before,
-        figure.mark_count,
-    );
+    let m = figure.mark_count;
+    let marked = numbered_marks(&labels, &mut known, &mut class_count, before, m);
     let context = Context::none();
     let contexts = [context; Sheet::CONTEXT_ROOM];
     let marks = figure.marks;
@@ -52,17 +54,17 @@ fn filled(figure: Normal, list: &[u8], exact: &mut [u16; Sheet::NUMBERS]) -> Nor
         context_count: 0,
         marks,
         marked,
-        mark_count: figure.mark_count,
+        mark_count: m,
         class_count,
     }
 }
 
-// The normal form of a figure filled from a list that passed and has a filling for each of its contexts;
+// The normal form of a figure, by its own, filled from a list that passed and has a filling for each of its contexts;
 // notes of each filling read whether its marks are exact.
-pub fn normal_filled(figure: Sheet, list: &[u8], exact: &mut [u16; Sheet::NUMBERS]) -> Normal
-    requires { ⌜ ((text : List ℕ) × (figure ≡ packed (figureHeld text))) × Passes (now list) × Exacts (now list) (now exact) ⌝ }
+pub fn normal_filled(figure: Normal, list: &[u8], exact: &mut [u16; Sheet::NUMBERS]) -> Normal
+    requires { ⌜ ((text : List ℕ) × (figure ≡ packedNormal (figureHeld text))) × Passes (now list) × Exacts (now list) (now exact) ⌝ }
     ensures { λ _. ⌜ Exacts (now (list .entry)) (now (exact .exit)) ⌝ }
-    ensures { λ r. ⌜ ((text : List ℕ) → figure ≡ packed (figureHeld text) → firstLacking (listHeld (now (list .entry)) .contexts) (figureHeld text .contexts) ≡ 0 → firstDiffering (now (list .entry)) (listHeld (now (list .entry)) .contexts) ≡ 0 → FilledIs text (now (list .entry)) r) ⌝ }
+    ensures { λ r. ⌜ ((text : List ℕ) → figure ≡ packedNormal (figureHeld text) → firstLacking (listHeld (now (list .entry)) .contexts) (figureHeld text .contexts) ≡ 0 → firstDiffering (now (list .entry)) (listHeld (now (list .entry)) .contexts) ≡ 0 → FilledIs text (now (list .entry)) r) ⌝ }
 {
-    filled(normal_of(figure), list, exact)
+    filled(figure, list, exact)
 }

@@ -3,12 +3,12 @@
 // the same label exactly when they are one.
 use rows::Sheet;
 ghost use mathlib.Core.Path.{_≡_};
-ghost use Prim.Native.Nat.{ℕ, _≤_, _<_};
+ghost use Prim.Native.Nat.{ℕ, _+_, _*_, _≤_, _<_};
 ghost use lib.ListN.{length, take, getD};
 ghost use Rattle.rows.specs.Format.{mostLinks};
 ghost use Rattle.rows.specs.Limits.{figureContexts};
 ghost use Rattle.filling.specs.Parts.{partRoom, places};
-ghost use Rattle.filling.specs.Glued.{Own, joinedAt, joinedAll, portPairs};
+ghost use Rattle.filling.specs.Glued.{Own, FreshFrom, joinedAt, joinedAll, portPairs};
 
 // Room for the classes of one part, which are counted from 1.
 pub(crate) const PART: usize = Sheet::LINK_ROOM;
@@ -27,15 +27,15 @@ pub(crate) fn own_labels(labels: &mut [u16; PLACES])
     }
 }
 
-// Makes the labels of two places one.
-fn merged(labels: &mut [u16; PLACES], a: usize, b: usize)
-    requires { ⌜ (a < places) × (b < places) × (length (now labels) ≡ places) ⌝ }
+// Makes the labels of two places one. Only the first n places can have them.
+fn merged(labels: &mut [u16; PLACES], n: usize, a: usize, b: usize)
+    requires { ⌜ (a < n) × (b < n) × (n ≤ places) × FreshFrom n (now labels) ⌝ }
     ensures { λ _. ⌜ now (labels .exit) ≡ joinedAt (now (labels .entry)) (a, b) ⌝ }
 {
     let from = labels[b];
     let to = labels[a];
     let mut k = 0;
-    while k < PLACES {
+    while k < n {
         let mut label = labels[k];
         if label == from {
             label = to;
@@ -45,7 +45,7 @@ fn merged(labels: &mut [u16; PLACES], a: usize, b: usize)
     }
 }
 
-// Mark i of the filling that is part p is link i of its context.
+// Mark i of the filling that is part p is link i of its context. The parts after p are not joined yet.
 pub(crate) fn with_ports(
     labels: &mut [u16; PLACES],
     p: usize,
@@ -53,14 +53,16 @@ pub(crate) fn with_ports(
     count: usize,
     marked: [u16; Sheet::MARK_ROOM],
 )
-    requires { ⌜ (p ≤ figureContexts) × (count ≤ mostLinks) × (length (now labels) ≡ places) ⌝ }
+    requires { ⌜ (p ≤ figureContexts) × (count ≤ mostLinks) × FreshFrom ((p + 1) * partRoom) (now labels) ⌝ }
     requires { ⌜ ((k : ℕ) → (getD links k 0 < partRoom) × (getD marked k 0 < partRoom)) ⌝ }
     ensures { λ _. ⌜ now (labels .exit) ≡ joinedAll (now (labels .entry)) (portPairs p (take count links) (take count marked)) ⌝ }
+    ensures { λ _. ⌜ FreshFrom ((p + 1) * partRoom) (now (labels .exit)) ⌝ }
 {
     let mut k = 0;
     while k < count {
         merged(
             &mut *labels,
+            (p + 1) * PART,
             links[k] as usize,
             p * PART + marked[k] as usize,
         );

@@ -1,4 +1,5 @@
 // One filling of a list, and the refusals over whole texts.
+use numbering::marks::ascending_marks;
 use rows::Context;
 use rows::Sheet;
 use sheet::normal::Normal;
@@ -74,19 +75,25 @@ fn is_exact(list: &[u8], exact: &[u16; Sheet::NUMBERS], number: u16, n: u16) -> 
     if exact[number as usize] == n + 1 {
         return true;
     }
-    let part = part_of(list, number);
-    marks_exact(&part.marks, part.mark_count, n)
+    let reading = read_list(part_for(list, number));
+    let sheet = reading.sheet;
+    let marks = ascending_marks(&sheet.marks, sheet.mark_count);
+    marks_exact(&marks, sheet.mark_count, n)
 }
 
-// 8 over whole texts: the row of the first context without a filling of its number and count, or 0.
-pub fn first_lacking(figure: Sheet, heads: Sheet) -> usize
-    requires { ⌜ Counted figure ⌝ }
-    ensures { λ r. ⌜ r ≡ firstUnported (heads .ports) (take (figure .«context_count») (figure .contexts)) ⌝ }
+// 8 over whole texts: the row of the first of a figure's contexts without a filling of its number and count, by
+// the table of the list's port counts, or 0.
+pub fn first_lacking(
+    contexts: [Context; Sheet::CONTEXT_ROOM],
+    count: usize,
+    ports: [u16; Sheet::NUMBERS],
+) -> usize
+    requires { ⌜ Counted contexts count ⌝ }
+    ensures { λ r. ⌜ r ≡ firstUnported ports (take count contexts) ⌝ }
 {
-    let ports = heads.ports;
     let mut i = 0;
-    while i < figure.context_count {
-        let context = figure.contexts[i];
+    while i < count {
+        let context = contexts[i];
         if ports[context.number as usize] != context.count + 1 {
             return context.row as usize;
         }
@@ -96,13 +103,18 @@ pub fn first_lacking(figure: Sheet, heads: Sheet) -> usize
 }
 
 // 9: the row of the first head whose filling has other marks than its ports, or 0.
-pub fn first_differing(heads: Sheet, list: &[u8], exact: &[u16; Sheet::NUMBERS]) -> usize
-    requires { ⌜ Counted heads × Passes (now list) × Exacts (now list) (now exact) ⌝ }
-    ensures { λ r. ⌜ r ≡ firstDiffering (now (list .entry)) (take (heads .«context_count») (heads .contexts)) ⌝ }
+pub fn first_differing(
+    heads: [Context; Sheet::CONTEXT_ROOM],
+    count: usize,
+    list: &[u8],
+    exact: &[u16; Sheet::NUMBERS],
+) -> usize
+    requires { ⌜ Counted heads count × Passes (now list) × Exacts (now list) (now exact) ⌝ }
+    ensures { λ r. ⌜ r ≡ firstDiffering (now (list .entry)) (take count heads) ⌝ }
 {
     let mut i = 0;
-    while i < heads.context_count {
-        let head = heads.contexts[i];
+    while i < count {
+        let head = heads[i];
         if !is_exact(list, exact, head.number, head.count) {
             return head.row as usize;
         }

@@ -5,18 +5,18 @@ use crate::glue::with_ports;
 use crate::part::note_exact;
 use crate::part::part_of;
 use rows::Atom;
+use rows::Context;
 use rows::Sheet;
-use sheet::normal::Normal;
 ghost use mathlib.Core.Path.{_≡_};
 ghost use mathlib.Core.List.{map};
 ghost use Prim.Native.Nat.{ℕ, _+_, _≤_, _<_};
-ghost use lib.ListN.{length, take, getD};
+ghost use lib.ListN.{take, getD};
 ghost use Rattle.rows.specs.Limits.{sheetAtoms, figureContexts};
 ghost use Rattle.sheet.specs.Filling.{Passes};
 ghost use Rattle.sheet.specs.NormalRows.{pastAtoms};
-ghost use Rattle.filling.specs.Parts.{partRoom, places, Low, Exacts};
-ghost use Rattle.filling.specs.Glued.{placeOf};
-ghost use Rattle.filling.specs.Whole.{placedAtom, Grown, Puts};
+ghost use Rattle.filling.specs.Parts.{partRoom, Exacts};
+ghost use Rattle.filling.specs.Glued.{placeOf, Own};
+ghost use Rattle.filling.specs.Whole.{placedAtom, ContextsRanged, Grown, Puts};
 
 // As many atoms as a sheet has room for: one more than its limit says that there are too many.
 pub(crate) struct Whole {
@@ -64,26 +64,24 @@ impl Whole {
     }
 }
 
-// The figure's atoms, whose link classes are their own places, then for each context in order its
+// The figure's own atoms, whose link classes are their own places, then for each of its contexts in order the
 // filling's; each filling is read once, and its ports make labels one.
 pub(crate) fn whole_of(
-    figure: Normal,
+    own: Whole,
+    contexts: [Context; Sheet::CONTEXT_ROOM],
+    count: usize,
     list: &[u8],
     labels: &mut [u16; PLACES],
     exact: &mut [u16; Sheet::NUMBERS],
 ) -> Whole
-    requires { ⌜ Low figure × Passes (now list) × (length (now labels) ≡ places) × Exacts (now list) (now exact) ⌝ }
+    requires { ⌜ ContextsRanged contexts count × (own .count ≤ sheetAtoms + 1) × Passes (now list) × Own (now labels) × Exacts (now list) (now exact) ⌝ }
     ensures { λ _. ⌜ Exacts (now (list .entry)) (now (exact .exit)) ⌝ }
-    ensures { λ r. ⌜ Puts (now (list .entry)) figure (now (labels .entry)) (now (labels .exit)) r ⌝ }
+    ensures { λ r. ⌜ Puts (now (list .entry)) own (take count contexts) (now (labels .entry)) (now (labels .exit)) r ⌝ }
 {
-    let own = figure.atoms;
-    let mut whole = Whole {
-        atoms: own,
-        count: figure.atom_count,
-    };
+    let mut whole = own;
     let mut i = 0;
-    while i < figure.context_count {
-        let context = figure.contexts[i];
+    while i < count {
+        let context = contexts[i];
         let links = context.links;
         let part = part_of(list, context.number);
         let marked = part.marked;

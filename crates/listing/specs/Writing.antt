@@ -97,8 +97,8 @@ listBytes sheet linksTo given (c ∷ l) = fillingBytes sheet linksTo given c ++ 
 abbrev pub cellsIn : ℕ → List Context → List NetCell
 cellsIn n l = map contextIn (take n l)
 
-abbrev pub cellAt : List Context → ℕ → Context
-cellAt l i = getD l i (record { number = 0; count = 0; links = []; row = 0 })
+abbrev pub contextFrom : List Context → ℕ → Context
+contextFrom l i = getD l i (record { number = 0; count = 0; links = []; row = 0 })
 
 -- how many contexts have a smaller number
 unfoldable pub below : ℕ → List NetCell → ℕ

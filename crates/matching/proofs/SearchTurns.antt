@@ -1,5 +1,5 @@
 -- One turn of the search's loop, on the arrays that the code holds.
-use Prim.Native.Nat.{ℕ, zero, suc, _+_, _-_, _*_, _≤_, _<_}
+use Prim.Native.Nat.{ℕ, zero, suc, _+_, _-_, _≤_, _<_}
 use mathlib.Core.Path.{_≡_, refl, ap, ap₂, sym, _∙_, subst}
 use mathlib.Core.Logic.{_≢_, _⊎_, inl, inr}
 use mathlib.Core.List.{List, [], _∷_, _++_, append-assoc}
@@ -16,14 +16,15 @@ use Rattle.placing.specs.Net.{Net, Range}
 use Rattle.placing.specs.Placing.{atomTo, numberAt}
 use Rattle.placing.proofs.Tests.{says-eq}
 use Rattle.placing.proofs.FirstLaws.{both-ways, Tried}
-use Rattle.network.specs.NetIn.{netIn}
+use Rattle.network.specs.NetIn.{netIn, Fit}
 use Rattle.network.specs.Begun.{Begun, testAfter, leastAfter}
 use Rattle.network.proofs.NetIn.{atoms-length}
 use Rattle.network.specs.Ready.{Ready, AtomsIn}
 use Rattle.matching.specs.Search.{mayIn, KeepsIn, Kept, behind, searchFrom, foundList, foundIn, Skipped, Only, Onward}
-use Rattle.narrowing.specs.Sets.{Keeps}
-use Rattle.narrowing.specs.Tables.{mayAtom, mayLink, Blank}
-use Rattle.narrowing.specs.Laid.{LaidOut}
+use Rattle.candidates.specs.Sets.{Keeps}
+use Rattle.candidates.specs.Words.{digit}
+use Rattle.candidates.specs.Tables.{mayAtom, mayLink, NoAtom}
+use Rattle.candidates.specs.Laid.{LaidOut}
 use Rattle.narrowing.specs.Steps.{NarrowedBy}
 use Rattle.narrowing.proofs.Passes.{atom-hopeless}
 use Rattle.symmetry.specs.Follows.{Follows, Excuses}
@@ -84,7 +85,7 @@ module _ (sheet figure : form.Normal) (ready : Ready sheet figure) (chosen : Lis
     -- the sets keep a sheet atom with which something begins
     kept : (a l : List ℕ) → KeepsIn sheet figure pre a l → (t : ℕ) → Begun S F (pre ++ (suc t ∷ [])) → mayIn a k t ≡ true
     unfolding mayIn
-    kept a l keeps t b = says-eq (getD a (k * sheetAtoms + t) 0) 1 .complete (ap (λ (i : ℕ). getD a i 0) (sym place) ∙ marked)
+    kept a l keeps t b = says-eq (digit (getD a k 0) t) 1 .complete (sym place ∙ marked)
       where
         split : b .0 .atomsTo ≡ pre ++ (suc t ∷ b .2 .0)
         split = b .2 .1 ∙ append-assoc pre (suc t ∷ []) (b .2 .0)
@@ -95,8 +96,8 @@ module _ (sheet figure : form.Normal) (ready : Ready sheet figure) (chosen : Lis
         at : atomTo (b .0) (k + 1) ≡ suc t
         at = ap (λ (l : List ℕ). numberAt l (k + 1)) split ∙ ap (λ (i : ℕ). getD (pre ++ (suc t ∷ b .2 .0)) i 0) (let q : k + 1 - 1 ≡ length pre = omega (arith, pre-length) in q) ∙ getD-append-seam pre (suc t) (b .2 .0) 0
 
-        place : (k + 1 - 1) * sheetAtoms + (atomTo (b .0) (k + 1) - 1) ≡ k * sheetAtoms + t
-        place = ap₂ (λ (i j : ℕ). i * sheetAtoms + j) (let q : k + 1 - 1 ≡ k = omega arith in q) (ap (λ (i : ℕ). i - 1) at ∙ (let q : suc t - 1 ≡ t = omega arith in q))
+        place : digit (getD a (k + 1 - 1) 0) (atomTo (b .0) (k + 1) - 1) ≡ digit (getD a k 0) t
+        place = ap₂ (λ (i j : ℕ). digit (getD a i 0) j) (let q : k + 1 - 1 ≡ k = omega arith in q) (ap (λ (i : ℕ). i - 1) at ∙ (let q : suc t - 1 ≡ t = omega arith in q))
 
     -- the choice of a sheet atom, as the code writes it
     next-taken : (t : ℕ) → take (k + 1) (set chosen k t) ≡ pre ++ (t ∷ [])
@@ -171,23 +172,19 @@ module _ (sheet figure : form.Normal) (ready : Ready sheet figure) (chosen : Lis
             go v (inr f) = λ b. n (f (ready .sheet-normal) F (ready .figure-normal) b)
 
 -- What choosing promises, for the sheet and figure at hand.
-pub choice-kept : (sheet figure : form.Normal) → Ready sheet figure → (k t : ℕ) → k < figure .«atom_count» → (a b l : List ℕ)
-    → ((S F : Net) (pre l : List ℕ) → length (S .atoms) ≤ sheetAtoms → length pre ≡ k → k < length (F .atoms) → Keeps S F pre (mayAtom a) (mayLink l) → Keeps S F (pre ++ ((t + 1) ∷ [])) (mayAtom b) (mayLink l))
+pub choice-kept : (sheet figure : form.Normal) → Fit figure → (k t : ℕ) → k < figure .«atom_count» → (a b l : List ℕ)
+    → ((S F : Net) (pre l : List ℕ) → length pre ≡ k → k < length (F .atoms) → Keeps S F pre (mayAtom a) (mayLink l) → Keeps S F (pre ++ ((t + 1) ∷ [])) (mayAtom b) (mayLink l))
     → (pre : List ℕ) → length pre ≡ k → KeepsIn sheet figure pre a l → KeepsIn sheet figure (pre ++ (suc t ∷ [])) b l
-choice-kept sheet figure ready k t h a b l promise pre e keeps =
-    subst (λ (i : ℕ). KeepsIn sheet figure (pre ++ (i ∷ [])) b l) (add-one t)
-    (promise (netIn sheet) (netIn figure) pre l (omega (arith, atoms-length sheet (ready .sheet-fit), ready .sheet-fit .atom-count)) e (omega (arith, atoms-length figure (ready .figure-fit))) keeps)
+choice-kept sheet figure fit k t h a b l promise pre e keeps =
+    subst (λ (i : ℕ). KeepsIn sheet figure (pre ++ (i ∷ [])) b l) (add-one t) (promise (netIn sheet) (netIn figure) pre l e (omega (arith, atoms-length figure fit)) keeps)
 
 -- What narrowing promises, for a sheet and a figure that are laid out.
-module _ (sheet figure : form.Normal) (laid : List ℕ) (n : ℕ) (parts : List ℕ) (m : ℕ) (os : LaidOut sheet laid n) (of : LaidOut figure parts m) where
-  pub laid-ready : Ready sheet figure
-  laid-ready = record { sheet-fit = os .fit; figure-fit = of .fit; sheet-normal = os .normal; figure-normal = of .normal }
+pub narrow-kept : (sheet figure : form.Normal) (laid : List ℕ) (n : ℕ) (parts : List ℕ) (m : ℕ) → LaidOut sheet laid n → LaidOut figure parts m
+    → (pre a l b k : List ℕ) (r : Bool) → NarrowedBy laid n parts m a l b k → (r ≡ true → (i : ℕ) × (i < m) × NoAtom b i) → KeepsIn sheet figure pre a l → Kept sheet figure pre b k r
+narrow-kept sheet figure laid n parts m os of pre a l b k r narrowed empty keeps = record { keeps = still; none = lost }
+  where
+    still : KeepsIn sheet figure pre b k
+    still p g s = narrowed sheet figure os of p g (keeps p g s)
 
-  pub narrow-kept : (pre a l b k : List ℕ) (r : Bool) → NarrowedBy laid n parts m a l b k → (r ≡ true → (i : ℕ) × (i < m) × Blank sheetAtoms b i n) → KeepsIn sheet figure pre a l → Kept sheet figure pre b k r
-  narrow-kept pre a l b k r narrowed empty keeps = record { keeps = still; none = lost }
-    where
-      still : KeepsIn sheet figure pre b k
-      still p g s = narrowed sheet figure os of p g (keeps p g s)
-
-      lost : r ≡ true → ¬ Begun (netIn sheet) (netIn figure) pre
-      lost e = let w = empty e in atom-hopeless sheet figure (os .fit) (of .fit) (os .normal) (of .normal) pre b k still (w .0) (omega (arith, w .1, of .count)) (λ t h. w .2 t (omega (arith, h, os .count)))
+    lost : r ≡ true → ¬ Begun (netIn sheet) (netIn figure) pre
+    lost e = let w = empty e in atom-hopeless sheet figure (os .fit) (of .fit) (os .normal) (of .normal) pre b k still (w .0) (omega (arith, w .1, of .count)) (w .2)

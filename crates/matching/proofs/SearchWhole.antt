@@ -10,6 +10,7 @@ use lib.Seq.{length-take-le}
 use Rattle.rows.specs.Pick.{pick}
 use Rattle.rows.specs.Limits.{sheetAtoms, sheetLinks}
 use Rattle.sheet.specs.declared.normal.Normal as form
+use Rattle.placing.specs.Net.{Net}
 use Rattle.placing.specs.Placing.{Placing}
 use Rattle.placing.specs.Smallest.{placingFrom, placingIn, smallest}
 use Rattle.placing.proofs.SmallestLaws.{placing-of-list}
@@ -17,6 +18,10 @@ use Rattle.network.specs.NetIn.{netIn}
 use Rattle.network.specs.Begun.{leastAfter}
 use Rattle.network.proofs.NetIn.{atoms-length}
 use Rattle.network.specs.Ready.{Ready, AtomsIn}
+use Rattle.candidates.specs.Frames.{frameOf, whole}
+use Rattle.candidates.specs.Laid.{LaidOut}
+use Rattle.candidates.specs.declared.frame.Frame.{Frame}
+use Rattle.candidates.proofs.Framing.{whole-net}
 use Rattle.matching.specs.Search.{behind, searchFrom, foundList, foundIn, placedIn}
 use Rattle.matching.specs.declared.search.Found.{Found}
 
@@ -48,3 +53,13 @@ module _ (sheet figure : form.Normal) (ready : Ready sheet figure) (r : Found) (
   pub placed-smallest : foundIn sheet figure r ≡ searchFrom (netIn sheet) (netIn figure) [] → placedIn sheet figure r ≡ smallest (netIn sheet) (netIn figure)
   unfolding smallest
   placed-smallest e = placed-found ∙ ap (placingIn (netIn sheet) (netIn figure)) (e ∙ behind-nothing (leastAfter (netIn sheet) (netIn figure) []))
+
+pub laid-ready : (sheet figure : form.Normal) (laid : List ℕ) (n : ℕ) (parts : List ℕ) (m : ℕ) → LaidOut sheet laid n → LaidOut figure parts m → Ready sheet figure
+laid-ready sheet figure laid n parts m os of = record { sheet-fit = os .fit; figure-fit = of .fit; sheet-normal = os .normal; figure-normal = of .normal }
+
+-- The same of a sheet and a figure, and of their frames with the atoms as they are laid out.
+pub placed-whole : (sheet figure : form.Normal) (laid parts : List ℕ) → LaidOut sheet laid (sheet .«atom_count») → LaidOut figure parts (figure .«atom_count») → (s f : Frame) → s ≡ frameOf sheet → f ≡ frameOf figure → (r : Found)
+    → placedIn (whole s laid) (whole f parts) r ≡ smallest (netIn (whole s laid)) (netIn (whole f parts)) → placedIn sheet figure r ≡ smallest (netIn sheet) (netIn figure)
+placed-whole sheet figure laid parts os of s f d e r h =
+    let counts : placedIn sheet figure r ≡ placedIn (whole s laid) (whole f parts) r = rw (d, e) refl in
+    counts ∙ (h ∙ (ap (λ (n : Net). smallest n (netIn (whole f parts))) (whole-net sheet laid os s d) ∙ ap (smallest (netIn sheet)) (whole-net figure parts of f e)))

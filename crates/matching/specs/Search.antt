@@ -1,5 +1,5 @@
 -- The recursive search: what it gives.
-use Prim.Native.Nat.{ℕ, suc, _+_, _*_, _<_, _≤_}
+use Prim.Native.Nat.{ℕ, suc, _<_, _≤_}
 use mathlib.Core.Path.{_≡_}
 use mathlib.Core.Logic.{_≢_, _⊎_}
 use mathlib.Core.List.{List, _++_}
@@ -8,15 +8,15 @@ use mathlib.Core.Option.{Option, none, some}
 use lib.Dec.{eqb}
 use lib.ListN.{take, getD}
 use Rattle.rows.specs.Pick.{pick}
-use Rattle.rows.specs.Limits.{sheetAtoms}
 use Rattle.sheet.specs.declared.normal.Normal as form
 use Rattle.placing.specs.Net.{Net}
 use Rattle.placing.specs.Placing.{Placing}
 use Rattle.network.specs.NetIn.{netIn}
 use Rattle.network.specs.Begun.{Begun, leastAfter}
 use Rattle.network.specs.Ready.{Ready, AtomsIn}
-use Rattle.narrowing.specs.Sets.{Keeps}
-use Rattle.narrowing.specs.Tables.{mayAtom, mayLink}
+use Rattle.candidates.specs.Sets.{Keeps}
+use Rattle.candidates.specs.Tables.{mayAtom, mayLink}
+use Rattle.candidates.specs.Words.{digit}
 use Rattle.matching.specs.declared.search.Found.{Found}
 
 -- what was found behind the beginning of a list
@@ -42,7 +42,7 @@ placedIn sheet figure r =
 
 -- figure atom k may go to sheet atom t, both counted from 0, by the table of the sets
 unfoldable pub mayIn : List ℕ → ℕ → ℕ → Bool
-mayIn atoms k t = eqb (getD atoms (k * sheetAtoms + t) 0) 1
+mayIn atoms k t = eqb (digit (getD atoms k 0) t) 1
 
 -- a candidate that is known to fail, or is not in the sets
 abbrev pub Skipped : List ℕ → List ℕ → ℕ → ℕ → Type 0

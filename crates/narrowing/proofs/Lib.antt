@@ -1,12 +1,9 @@
--- What a good placing does at links.
-pub mod GoodPlaces
--- The sets as arrays, and nets in arrays.
-pub mod Staying
-pub mod NetRows
-pub mod Choice
-pub mod Missing
+-- Steps on the arrays keep good placings in the sets.
 pub mod Obeying
+pub mod Turns
+-- Empty sets, and a choice of the search.
 pub mod Passes
--- Atoms laid out in one array.
-pub mod Laying
-pub mod Marks
+pub mod Choice
+-- Atoms that have a link, and those that may not have one.
+pub mod Adding
+pub mod Barring

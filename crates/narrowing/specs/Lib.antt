@@ -1,5 +1,2 @@
-pub mod Sets
-pub mod Tables
-pub mod Laid
-pub mod Marks
+pub mod Users
 pub mod Steps

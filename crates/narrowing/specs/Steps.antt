@@ -2,44 +2,44 @@
 use Prim.Native.Nat.{ℕ, _+_, _<_}
 use mathlib.Core.Path.{_≡_}
 use mathlib.Core.List.{List}
-use lib.ListN.{getD}
-use Rattle.rows.specs.Limits.{sheetAtoms, sheetLinks}
+use Rattle.rows.specs.Limits.{sheetLinks}
 use Rattle.rows.specs.declared.Atom.{Atom}
 use Rattle.sheet.specs.declared.normal.Normal.{Normal as NormalForm}
 use Rattle.placing.specs.Placing.{Placing, Good}
 use Rattle.network.specs.NetIn.{netIn}
-use Rattle.narrowing.specs.Sets.{Obeys}
-use Rattle.narrowing.specs.Laid.{LaidOut}
-use Rattle.narrowing.specs.Tables.{Marked, mayAtom, mayLink, Stays}
-
--- link k of an atom
-abbrev pub linkOf : Atom → ℕ → ℕ
-linkOf a k = getD (a .links) k 0
+use Rattle.candidates.specs.Sets.{Obeys}
+use Rattle.candidates.specs.Laid.{laidAtom, LaidOut, linkOf}
+use Rattle.candidates.specs.Words.{In, InPair}
+use Rattle.narrowing.specs.Users.{UsersIn}
+use Rattle.candidates.specs.Tables.{AtomIn, mayAtom, mayLink}
 
 -- the links of a sheet atom may be where those of a figure atom go
 pub record Fitting (here there : Atom) (l : List ℕ) : Type 0 where
   pub counts : here .count ≡ there .count
   pub links : (k : ℕ) → k < here .count → mayLink l (linkOf here k) (linkOf there k)
 
--- of n sheet atoms, t, which figure atom i may go to, has link y + 1 at place k
-pub record GivenBy (sheet : ℕ → Atom) (n : ℕ) (a : List ℕ) (i k y t : ℕ) : Type 0 where
+-- of n sheet atoms, t, which is in a set, has link y + 1 at place k
+pub record GivenBy (sheet : ℕ → Atom) (n row k y t : ℕ) : Type 0 where
   pub sheet-atom : t < n
-  pub may : Marked sheetAtoms a i t
+  pub may : In row t
   pub place : k < sheet t .count
   pub there : linkOf (sheet t) k ≡ y + 1
 
 -- some sheet atom has
-abbrev pub Given : (ℕ → Atom) → ℕ → List ℕ → ℕ → ℕ → ℕ → Type 0
-Given sheet n a i k y = (t : ℕ) × GivenBy sheet n a i k y t
+abbrev pub Given : (ℕ → Atom) → (n row k y : ℕ) → Type 0
+Given sheet n row k y = (t : ℕ) × GivenBy sheet n row k y t
 
--- link z + 1 of figure atom i, at each of its places, is given y + 1
-abbrev pub GivenRow : (ℕ → Atom) → ℕ → Atom → List ℕ → ℕ → ℕ → ℕ → Type 0
-GivenRow sheet n here a i z y = (k : ℕ) → k < here .count → linkOf here k ≡ z + 1 → Given sheet n a i k y
+-- link z + 1 of a figure atom that goes to one of a set is given y + 1, at each of its places
+abbrev pub GivenRow : (ℕ → Atom) → ℕ → Atom → (row z y : ℕ) → Type 0
+GivenRow sheet n here row z y = (k : ℕ) → k < here .count → linkOf here k ≡ z + 1 → Given sheet n row k y
 
--- figure atom i by its links, then these by it: what stays of the arrays a and l in b and k
-pub record Visited (sheet : ℕ → Atom) (n : ℕ) (here : Atom) (i : ℕ) (a l b k : List ℕ) : Type 0 where
-  pub atoms : Stays sheetAtoms a b (λ j t. j ≡ i → t < n → Fitting here (sheet t) l)
-  pub links : Stays sheetLinks l k (GivenRow sheet n here b i)
+-- no atom that has one of these links at place k is in the set
+abbrev pub Barred : (users : List ℕ) (k : ℕ) (left : List ℕ) (out : ℕ) → Type 0
+Barred users k left out = (laid : List ℕ) (n : ℕ) → UsersIn laid n users → (t y : ℕ) → y < sheetLinks → t < n → k < laidAtom laid t .count → linkOf (laidAtom laid t) k ≡ y + 1 → InPair left y → ¬ In out t
+
+-- where u is all that figure atom i may go to, no other figure atom may
+abbrev pub Alone : List ℕ → ℕ → ℕ → ℕ → Type 0
+Alone a i j u = ((v : ℕ) → AtomIn a i v → v ≡ u) → j ≡ i
 
 -- A good placing in the sets of the first two arrays is in those of the others.
 abbrev pub Narrowed : NormalForm → NormalForm → (a l b k : List ℕ) → Type 0

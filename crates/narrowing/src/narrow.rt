@@ -1,58 +1,276 @@
 // Narrowing until nothing changes.
-use crate::ATOM_PAIRS;
-use crate::LAID;
-use crate::LINK_PAIRS;
-use crate::sweep::changed;
-use crate::sweep::sweep;
+use crate::PLACES;
+use crate::alone::alone;
+use crate::barred::follow_link;
+use crate::given::follow_atom;
+use candidates::LAID;
+use candidates::LINK_SETS;
+use candidates::laid::laid_atom;
+use candidates::pairs::pair_at;
+use candidates::pairs::set_pair;
+use candidates::words::ALL;
+use candidates::words::DIGITS;
+use candidates::words::first;
+use candidates::words::minus;
+use candidates::words::one;
 use rows::Sheet;
 ghost use mathlib.Core.Path.{_≡_};
 ghost use mathlib.Core.Bool.{true};
+ghost use mathlib.Core.List.{List};
 ghost use Prim.Native.Nat.{ℕ, _<_};
-ghost use Rattle.rows.specs.Limits.{sheetAtoms};
-ghost use Rattle.narrowing.specs.Laid.{Rowed};
-ghost use Rattle.narrowing.specs.Tables.{Blank};
-ghost use Rattle.narrowing.specs.Steps.{NarrowedBy};
+ghost use Rattle.rows.specs.Limits.{sheetLinks};
+ghost use Rattle.candidates.specs.Laid.{laidAtom, Rowed};
+ghost use Rattle.candidates.specs.Tables.{AtomsStay, NoAtom};
+ghost use Rattle.narrowing.specs.Users.{UsersIn};
+ghost use Rattle.narrowing.specs.Steps.{NarrowedBy, Fitting};
 
-// Atoms by links and links by atoms, from the atoms that are due on, until no row changes or one is
-// empty. Whether one is. A pass that changes a row takes at least one pair out, so there are never more
-// passes than pairs.
-pub fn narrow<'a>(
-    sheet: &'a [u16; LAID],
-    n: usize,
-    figure: &'a [u16; LAID],
-    m: usize,
-    first: &'a [u8; Sheet::ATOMS],
-    atoms: &mut [u8; ATOM_PAIRS],
-    links: &mut [u8; LINK_PAIRS],
-) -> bool
-    requires { ⌜ Rowed (now sheet) n × Rowed (now figure) m ⌝ }
-    ensures narrowed { λ _. ⌜ NarrowedBy (now (sheet .entry)) n (now (figure .entry)) m (now (atoms .entry)) (now (links .entry)) (now (atoms .exit)) (now (links .exit)) ⌝ }
-    ensures empty { λ r. ⌜ (r ≡ true → (i : ℕ) × (i < m) × Blank sheetAtoms (now (atoms .exit)) i n) ⌝ }
+// A turn follows a loss of an atom or a link, or is the first for it, so there are never more.
+const TURNS: usize = (Sheet::ATOMS + 1) * Sheet::ATOMS + (Sheet::LINKS + 1) * Sheet::LINKS;
+
+// The losses of figure link x are followed.
+fn link_turn<'a>(
+    users: &'a [u64; PLACES],
+    owners: &'a [u64; PLACES],
+    x: usize,
+    links: &'a [u64; LINK_SETS],
+    atoms: &mut [u64; Sheet::ATOMS],
+    lost: &mut [u64; Sheet::ATOMS],
+    gone: &mut [u64; LINK_SETS],
+) -> u64
+    requires { ⌜ x < sheetLinks ⌝ }
+    ensures { λ _. ⌜ ((sheet : List ℕ) (n : ℕ) (figure : List ℕ) (m : ℕ) → Rowed sheet n → UsersIn sheet n (now (users .entry)) → UsersIn figure m (now (owners .entry)) → AtomsStay (now (atoms .entry)) (now (atoms .exit)) (λ i t. (i < m) × (t < n) × Fitting (laidAtom figure i) (laidAtom sheet t) (now (links .entry)))) ⌝ }
 {
-    let mut due = *first;
-    let mut changes = [ATOM_PAIRS + 1; Sheet::LINKS];
-    let mut left = ATOM_PAIRS;
+    let went = pair_at(gone, x);
+    set_pair(gone, x, [0; 2]);
+    follow_link(users, owners, x, went, links, atoms, lost)
+}
+
+// The losses of figure atom i are followed. The figure atoms that lost some by that.
+fn atom_turn<'a>(
+    users: &'a [u64; PLACES],
+    laid: &'a [u16; LAID],
+    n: usize,
+    parts: &'a [u16; LAID],
+    m: usize,
+    i: usize,
+    atoms: &mut [u64; Sheet::ATOMS],
+    links: &mut [u64; LINK_SETS],
+    lost: &mut [u64; Sheet::ATOMS],
+    gone: &mut [u64; LINK_SETS],
+    pending: &mut [u64; 2],
+) -> u64
+    requires { ⌜ Rowed (now laid) n × UsersIn (now laid) n (now users) × Rowed (now parts) m × (i < m) ⌝ }
+    ensures { λ _. ⌜ NarrowedBy (now (laid .entry)) n (now (parts .entry)) m (now (atoms .entry)) (now (links .entry)) (now (atoms .exit)) (now (links .exit)) ⌝ }
+{
+    let here = laid_atom(parts, i);
+    let went = lost[i];
+    lost[i] = 0;
+    follow_atom(
+        users,
+        laid,
+        n,
+        here,
+        atoms[i],
+        went,
+        0,
+        links,
+        gone,
+        pending,
+    );
+    alone(i, m, atoms, lost)
+}
+
+// The next pending link, counted from 0; none where it is no link of a sheet.
+fn next_link(pending: &[u64; 2]) -> usize {
+    if pending[0] != 0 {
+        return first(pending[0]);
+    }
+    if pending[1] != 0 {
+        return DIGITS + first(pending[1]);
+    }
+    Sheet::LINKS
+}
+
+// Link x is no longer pending.
+fn done_link(pending: &mut [u64; 2], x: usize)
+    requires { ⌜ x < sheetLinks ⌝ }
+{
+    let half = x / DIGITS;
+    pending[half] = minus(pending[half], one(x % DIGITS));
+}
+
+// Losses are followed, of the atoms `due` and the links `pending`, until none is left or some figure atom may go
+// nowhere. Whether one may go nowhere.
+fn follow<'a>(
+    users: &'a [u64; PLACES],
+    owners: &'a [u64; PLACES],
+    laid: &'a [u16; LAID],
+    n: usize,
+    parts: &'a [u16; LAID],
+    m: usize,
+    first_due: u64,
+    atoms: &mut [u64; Sheet::ATOMS],
+    links: &mut [u64; LINK_SETS],
+    lost: &mut [u64; Sheet::ATOMS],
+    gone: &mut [u64; LINK_SETS],
+    pending: &mut [u64; 2],
+) -> bool
+    requires { ⌜ Rowed (now laid) n × UsersIn (now laid) n (now users) × Rowed (now parts) m × UsersIn (now parts) m (now owners) ⌝ }
+    ensures narrowed { λ _. ⌜ NarrowedBy (now (laid .entry)) n (now (parts .entry)) m (now (atoms .entry)) (now (links .entry)) (now (atoms .exit)) (now (links .exit)) ⌝ }
+    ensures empty { λ r. ⌜ (r ≡ true → (i : ℕ) × (i < m) × NoAtom (now (atoms .exit)) i) ⌝ }
+{
+    let mut due = first_due;
+    let mut left = TURNS;
     while left > 0 {
-        let before = left;
         left -= 1;
-        if sweep(
-            sheet,
-            n,
-            figure,
-            m,
-            &due,
-            before,
-            left,
-            atoms,
-            links,
-            &mut changes,
-        ) {
-            return true;
+        let x = next_link(pending);
+        if x < Sheet::LINKS {
+            done_link(pending, x);
+            due = due | link_turn(users, owners, x, links, atoms, lost, gone);
+        } else {
+            if due == 0 {
+                return false;
+            }
+            let i = first(due);
+            if m <= i {
+                return false;
+            }
+            if atoms[i] == 0 {
+                return true;
+            }
+            due = minus(due, one(i));
+            due = due
+                | atom_turn(
+                    users,
+                    laid,
+                    n,
+                    parts,
+                    m,
+                    i,
+                    atoms,
+                    links,
+                    lost,
+                    gone,
+                    pending,
+                );
         }
-        if !changed(left, &changes) {
-            return false;
-        }
-        due = [0; Sheet::ATOMS];
     }
     false
+}
+
+// Every link to what its atoms can give; all are pending then.
+fn spread<'a>(
+    users: &'a [u64; PLACES],
+    laid: &'a [u16; LAID],
+    n: usize,
+    parts: &'a [u16; LAID],
+    m: usize,
+    atoms: &[u64; Sheet::ATOMS],
+    links: &mut [u64; LINK_SETS],
+    gone: &mut [u64; LINK_SETS],
+    pending: &mut [u64; 2],
+)
+    requires { ⌜ Rowed (now laid) n × UsersIn (now laid) n (now users) × Rowed (now parts) m ⌝ }
+    ensures { λ _. ⌜ NarrowedBy (now (laid .entry)) n (now (parts .entry)) m (now (atoms .entry)) (now (links .entry)) (now (atoms .entry)) (now (links .exit)) ⌝ }
+{
+    let mut i = 0;
+    while i < m {
+        let here = laid_atom(parts, i);
+        follow_atom(
+            users,
+            laid,
+            n,
+            here,
+            atoms[i],
+            ALL,
+            ALL,
+            links,
+            gone,
+            pending,
+        );
+        i += 1;
+    }
+}
+
+// Atoms by links and links by atoms, from the first sets on, until nothing changes or some figure atom may go nowhere.
+// Whether one may.
+pub fn narrow_all<'a>(
+    users: &'a [u64; PLACES],
+    owners: &'a [u64; PLACES],
+    laid: &'a [u16; LAID],
+    n: usize,
+    parts: &'a [u16; LAID],
+    m: usize,
+    atoms: &mut [u64; Sheet::ATOMS],
+    links: &mut [u64; LINK_SETS],
+) -> bool
+    requires { ⌜ Rowed (now laid) n × UsersIn (now laid) n (now users) × Rowed (now parts) m × UsersIn (now parts) m (now owners) ⌝ }
+    ensures narrowed { λ _. ⌜ NarrowedBy (now (laid .entry)) n (now (parts .entry)) m (now (atoms .entry)) (now (links .entry)) (now (atoms .exit)) (now (links .exit)) ⌝ }
+    ensures empty { λ r. ⌜ (r ≡ true → (i : ℕ) × (i < m) × NoAtom (now (atoms .exit)) i) ⌝ }
+{
+    let mut lost = [0u64; Sheet::ATOMS];
+    let mut gone = [0u64; LINK_SETS];
+    let mut pending = [0u64; 2];
+    spread(
+        users,
+        laid,
+        n,
+        parts,
+        m,
+        atoms,
+        links,
+        &mut gone,
+        &mut pending,
+    );
+    follow(
+        users,
+        owners,
+        laid,
+        n,
+        parts,
+        m,
+        ALL,
+        atoms,
+        links,
+        &mut lost,
+        &mut gone,
+        &mut pending,
+    )
+}
+
+// The same after figure atom k has lost the sheet atoms of `went`.
+pub fn narrow_after<'a>(
+    users: &'a [u64; PLACES],
+    owners: &'a [u64; PLACES],
+    laid: &'a [u16; LAID],
+    n: usize,
+    parts: &'a [u16; LAID],
+    m: usize,
+    k: usize,
+    went: u64,
+    atoms: &mut [u64; Sheet::ATOMS],
+    links: &mut [u64; LINK_SETS],
+) -> bool
+    requires { ⌜ Rowed (now laid) n × UsersIn (now laid) n (now users) × Rowed (now parts) m × UsersIn (now parts) m (now owners) × (k < m) ⌝ }
+    ensures narrowed { λ _. ⌜ NarrowedBy (now (laid .entry)) n (now (parts .entry)) m (now (atoms .entry)) (now (links .entry)) (now (atoms .exit)) (now (links .exit)) ⌝ }
+    ensures empty { λ r. ⌜ (r ≡ true → (i : ℕ) × (i < m) × NoAtom (now (atoms .exit)) i) ⌝ }
+{
+    let mut lost = [0u64; Sheet::ATOMS];
+    let mut gone = [0u64; LINK_SETS];
+    let mut pending = [0u64; 2];
+    lost[k] = went;
+    follow(
+        users,
+        owners,
+        laid,
+        n,
+        parts,
+        m,
+        one(k),
+        atoms,
+        links,
+        &mut lost,
+        &mut gone,
+        &mut pending,
+    )
 }

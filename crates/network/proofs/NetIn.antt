@@ -6,11 +6,12 @@ use native.Mathlib.Omega.{arith}
 use lib.ListN.{length, getD, take, length-map, length-take, List·getD-map}
 use lib.Seq.{getD-take, length-take-le}
 use Rattle.hyperlmntal.specs.Link.{_∈_}
+use Rattle.rows.specs.declared.Context.{Context}
 use Rattle.sheet.specs.declared.normal.Normal as form
 use Rattle.placing.specs.Net.{NetCell, Range}
 use Rattle.placing.specs.Placing.{cellAt}
 use Rattle.placing.proofs.Lists.{member-at, getD-of}
-use Rattle.network.specs.NetIn.{atomIn, contextIn, paired, netIn, atomAt, contextAt, Used, Fit}
+use Rattle.network.specs.NetIn.{atomIn, contextIn, paired, netIn, atomAt, contextAt, Used, Fit, Ports, ContextsIn}
 use Rattle.sheet.proofs.normal.Merging.{getD-in}
 
 -- The pairs of two lists.
@@ -110,3 +111,16 @@ module _ (n : form.Normal) (f : Fit n) where
       let t = member-at (netIn n .marks) e m in
       let h : t .0 < n .«mark_count» = omega (arith, t .1, marks-length) in
       (t .0, h, sym (mark-at (t .0) h) ∙ getD-of (netIn n .marks) (t .0) (0, 0) e (t .2))
+
+-- What holds of a net's contexts and links holds of those that were read, and back.
+module _ {net : form.Normal} {contexts : List Context} {rows links : ℕ} (c : ContextsIn net contexts rows links) (P : List Context → ℕ → ℕ → Type 0) where
+  pub of-net : P (net .contexts) (net .«context_count») (net .«class_count») → P contexts rows links
+  of-net p = subst (P contexts rows) (c .link-count) (subst (λ (n : ℕ). P contexts n (net .«class_count»)) (c .row-count)
+      (subst (λ (l : List Context). P l (net .«context_count») (net .«class_count»)) (c .same-contexts) p))
+
+  pub to-net : P contexts rows links → P (net .contexts) (net .«context_count») (net .«class_count»)
+  to-net p = subst (λ (l : List Context). P l (net .«context_count») (net .«class_count»)) (sym (c .same-contexts))
+      (subst (λ (n : ℕ). P contexts n (net .«class_count»)) (sym (c .row-count)) (subst (P contexts rows) (sym (c .link-count)) p))
+
+pub ports-of : {net : form.Normal} {contexts : List Context} {rows links : ℕ} → ContextsIn net contexts rows links → Ports contexts rows links
+ports-of c = of-net c Ports (record { few = c .fit .context-count; links-few = c .fit .class-count; room = c .fit .context-room; used = c .fit .contexts })

@@ -36,8 +36,11 @@ netIn n =
 abbrev pub atomAt : form.Normal → ℕ → Atom
 atomAt n i = getD (n .atoms) i (record { name = 0; count = 0; links = [] })
 
+abbrev pub rowAt : List Context → ℕ → Context
+rowAt contexts i = getD contexts i (record { number = 0; count = 0; links = []; row = 0 })
+
 abbrev pub contextAt : form.Normal → ℕ → Context
-contextAt n i = getD (n .contexts) i (record { number = 0; count = 0; links = []; row = 0 })
+contextAt n i = rowAt (n .contexts) i
 
 -- The first `count` of these links are numbers of links, of which there are n.
 pub record Used (n count : ℕ) (links : List ℕ) : Type 0 where
@@ -58,3 +61,17 @@ pub record Fit (n : form.Normal) : Type 0 where
   pub atoms : (i : ℕ) → i < n .«atom_count» → Used (n .«class_count») (atomAt n i .count) (atomAt n i .links)
   pub contexts : (i : ℕ) → i < n .«context_count» → Used (n .«class_count») (contextAt n i .count) (contextAt n i .links)
   pub marked : (i : ℕ) → i < n .«mark_count» → Range (n .«class_count») (getD (n .marked) i 0)
+
+-- so many contexts, whose links are numbers of links, of which there are `links`
+pub record Ports (contexts : List Context) (rows links : ℕ) : Type 0 where
+  pub few : rows ≤ figureContexts
+  pub links-few : links ≤ sheetLinks
+  pub room : length contexts ≡ figureContexts + 1
+  pub used : (i : ℕ) → i < rows → Used links (rowAt contexts i .count) (rowAt contexts i .links)
+
+-- the contexts of a net, and its count of links
+pub record ContextsIn (net : form.Normal) (contexts : List Context) (rows links : ℕ) : Type 0 where
+  pub fit : Fit net
+  pub same-contexts : net .contexts ≡ contexts
+  pub row-count : net .«context_count» ≡ rows
+  pub link-count : net .«class_count» ≡ links

@@ -12,7 +12,7 @@ ghost use Prim.Native.Nat.{ℕ, _+_, _*_, _≤_};
 ghost use lib.ListN.{length, take, drop, getD};
 ghost use Rattle.rows.specs.Format.{mostLinks};
 ghost use Rattle.rows.specs.Limits.{sheetAtoms, figureContexts, sheetMarks};
-ghost use Rattle.numbering.specs.Numbering.{Labels, MarkLabels, numbering, labelIn, markLabelIn, withClasses, atomLabels, contextLabels, atomBy, contextBy, marksBy};
+ghost use Rattle.numbering.specs.Numbering.{Labels, MarkLabels, numbering, labelIn, markLabelIn, withClasses, atomLabels, contextLabels, atomNumbered, contextNumbered, marksBy};
 
 pub fn numbered_atoms<'a>(
     numbers: &mut [u16; ROOM],
@@ -27,7 +27,7 @@ pub fn numbered_atoms<'a>(
     requires { ⌜ ((i : ℕ) → getD atoms i (record { name = 0; count = 0; links = [] }) .count ≤ mostLinks) ⌝ }
     ensures { λ _. ⌜ numbering (now (numbers .exit)) (now (count .exit)) ≡ withClasses (numbering (now (numbers .entry)) (now (count .entry))) (atomLabels (labelIn (now (links .entry)) (now (classes .entry)) n) (take «atom_count» atoms)) ⌝ }
     ensures { λ _. ⌜ now (count .exit) ≤ now (count .entry) + mostLinks * «atom_count» ⌝ }
-    ensures { λ r. ⌜ ((later : List ℕ) → r ≡ map (atomBy (withClasses (numbering (now (numbers .exit)) (now (count .exit))) later .numbers) (labelIn (now (links .entry)) (now (classes .entry)) n)) (take «atom_count» atoms) ++ drop «atom_count» atoms) ⌝ }
+    ensures { λ r. ⌜ ((later : List ℕ) → r ≡ map (atomNumbered (withClasses (numbering (now (numbers .exit)) (now (count .exit))) later .numbers) (labelIn (now (links .entry)) (now (classes .entry)) n)) (take «atom_count» atoms) ++ drop «atom_count» atoms) ⌝ }
 {
     let mut i = 0;
     while i < atom_count {
@@ -65,7 +65,7 @@ pub fn numbered_contexts<'a>(
     requires { ⌜ ((i : ℕ) → getD contexts i (record { number = 0; count = 0; links = []; row = 0 }) .count ≤ mostLinks) ⌝ }
     ensures { λ _. ⌜ numbering (now (numbers .exit)) (now (count .exit)) ≡ withClasses (numbering (now (numbers .entry)) (now (count .entry))) (contextLabels (labelIn (now (links .entry)) (now (classes .entry)) n) (take «context_count» contexts)) ⌝ }
     ensures { λ _. ⌜ now (count .exit) ≤ now (count .entry) + mostLinks * «context_count» ⌝ }
-    ensures { λ r. ⌜ ((later : List ℕ) → r ≡ map (contextBy (withClasses (numbering (now (numbers .exit)) (now (count .exit))) later .numbers) (labelIn (now (links .entry)) (now (classes .entry)) n)) (take «context_count» contexts) ++ drop «context_count» contexts) ⌝ }
+    ensures { λ r. ⌜ ((later : List ℕ) → r ≡ map (contextNumbered (withClasses (numbering (now (numbers .exit)) (now (count .exit))) later .numbers) (labelIn (now (links .entry)) (now (classes .entry)) n)) (take «context_count» contexts) ++ drop «context_count» contexts) ⌝ }
 {
     let mut i = 0;
     while i < context_count {

@@ -6,16 +6,17 @@ use mathlib.Core.Bool.{Bool, true, false}
 use native.Mathlib.Numerals.{add-one}
 use native.Mathlib.Omega.{arith}
 use lib.Dec.{ltb}
+use borrow.Author.Tests.{eq-eqb, ne-eqb}
 use lib.Seq.{take-suc, getD-drop}
 use lib.ListN.{length, getD, drop, take, set, length-append, length-drop}
 use Rattle.rows.specs.Pick.{pick}
 use Rattle.rows.specs.Format.{mostLinks}
 use Rattle.rows.specs.Limits.{sheetMarks, fillingLinks}
 use Rattle.rows.specs.Held.{Wiring, indexOf, withLink, withLinks, relabelled, merged, withFusion, withMark, noWiring}
-use Rattle.rows.specs.Steps.{gone, cleared, Wired, Linked, Relinks, Marked, Tied}
+use Rattle.rows.specs.Steps.{Distinct, countWith, Places, gone, cleared, Wired, Linked, Relinks, Marked, Tied}
 use Rattle.rows.proofs.Padding.{take-padded, set-padded, getD-padding, mapped-padded, cleared-padded}
 use Rattle.rows.proofs.Lists.{mapped}
-use Rattle.rows.proofs.Wired.{link-known, link-new, mark-known, mark-new, wired-none, wired-links}
+use Rattle.rows.proofs.Wired.{link-known, link-new, link-found, link-there, link-place, mark-known, mark-new, wired-none, wired-link, wired-links}
 
 abbrev linkRoom : ℕ
 linkRoom = fillingLinks + mostLinks
@@ -53,19 +54,26 @@ module _ (w : Wiring) (wired : Wired w) (links classes : List ℕ) (n : ℕ) (k 
   own : take n links ≡ w .links
   own = rw (k .numbers) (rw (k .count) (take-padded linkRoom 0 (w .links)))
 
-  pub link-old : (x : ℕ) → indexOf x (take n links) < n → Linked (withLink w x) links classes n
-  link-old x q = rw (link-known w x (rw (own, k .count) at q)) k
+  -- a link's place: where it is, or behind the others
+  module _ (x p : ℕ) (place : Distinct (take n links) → p ≡ indexOf x (take n links)) where
+    at-place : p ≡ indexOf x (w .links)
+    at-place = rw own at (place (rw own (wired .distinct)))
 
-  pub link-added : (x : ℕ) → n ≤ indexOf x (take n links) → n < linkRoom → Linked (withLink w x) (set links n x) (set classes n n) (n + 1)
-  link-added x q room =
-      let fits : length (w .links) < linkRoom = rw (k .count) at room in
-      let fits-too : length (w .classes) < linkRoom = rw (← wired .classed) at fits in
-      rw (link-new w x (rw (own, k .count) at q))
-      record {
-        numbers = rw (k .numbers) (set-padded linkRoom 0 (w .links) x n (k .count) fits);
-        labels = rw (k .labels) (rw (k .count) (set-padded linkRoom 0 (w .classes) (length (w .links)) (length (w .links)) (sym (wired .classed)) fits-too));
-        count = rw (k .count) (rw length-append);
-      }
+    pub link-old : p < n → (p ≡ indexOf x (w .links)) × Linked (withLink w x) links classes (countWith n p)
+    link-old q = (at-place, rw (ne-eqb p n (λ e. omega arith)) (rw (link-known w x (omega (arith, at-place, k .count))) k))
+
+    pub link-added : n ≤ p → p ≤ n → n < linkRoom → (n ≡ indexOf x (w .links)) × Linked (withLink w x) (set links n x) (set classes n n) (countWith n n)
+    link-added q h room =
+        let fits : length (w .links) < linkRoom = rw (k .count) at room in
+        let fits-too : length (w .classes) < linkRoom = rw (← wired .classed) at fits in (
+          omega (arith, at-place),
+          rw (eq-eqb n n refl) (rw (link-new w x (omega (arith, at-place, k .count)))
+              record {
+                numbers = rw (k .numbers) (set-padded linkRoom 0 (w .links) x n (k .count) fits);
+                labels = rw (k .labels) (rw (k .count) (set-padded linkRoom 0 (w .classes) (length (w .links)) (length (w .links)) (sym (wired .classed)) fits-too));
+                count = rw (k .count) (rw length-append);
+              }),
+        )
 
   -- two links that are there, made one point
   pub link-merged : (i j : ℕ) (out : List ℕ) → out ≡ mapped (relabelled (getD classes j 0) (getD classes i 0)) n classes → Linked (merged w i j) links out n
@@ -77,14 +85,6 @@ module _ (w : Wiring) (wired : Wired w) (links classes : List ℕ) (n : ℕ) (k 
         labels = rw e (rw (k .labels) (rw (at i) (rw (at j) (mapped-padded linkRoom 0 (w .classes) (relabelled (getD (w .classes) j 0) (getD (w .classes) i 0)) n (k .count ∙ sym (wired .classed))))));
         count = k .count;
       }
-
-  pub fused-links : (a b i j : ℕ) (out : List ℕ) → i ≡ indexOf a (take n links) → j ≡ indexOf b (take n links) → out ≡ mapped (relabelled (getD classes j 0) (getD classes i 0)) n classes
-      → Linked (withFusion w a b) links out n
-  unfolding withFusion
-  fused-links a b i j out ei ej e =
-      let ia : i ≡ indexOf a (w .links) = rw own at ei in
-      let jb : j ≡ indexOf b (w .links) = rw own at ej in
-      rw (← ia) (rw (← jb) (link-merged i j out e))
 
   -- with a head they are gone
   pub cleared-links : (letter kept : ℕ) (links' classes' : List ℕ) → n ≤ linkRoom → kept ≡ n - gone letter n → links' ≡ cleared (gone letter n) links → classes' ≡ cleared (gone letter n) classes
@@ -130,3 +130,18 @@ module _ (w : Wiring) (wired : Wired w) (links classes : List ℕ) (n : ℕ) (k 
             count = rw (t .count) (rw length-append);
           },
         )
+
+-- two links one after the other, made one point: the first keeps its place
+pub links-fused : (links classes : List ℕ) (n : ℕ) (links₁ classes₁ : List ℕ) (m : ℕ) (links₂ classes₂ : List ℕ) (o : ℕ) (a b i j : ℕ) (out : List ℕ)
+    → Places links classes n links₁ classes₁ a i → m ≡ countWith n i → Places links₁ classes₁ m links₂ classes₂ b j → o ≡ countWith m j
+    → out ≡ mapped (relabelled (getD classes₂ j 0) (getD classes₂ i 0)) o classes₂ → Relinks links classes n links₂ out o (λ w. withFusion (withLink (withLink w a) b) a b)
+unfolding withFusion
+links-fused links classes n links₁ classes₁ m links₂ classes₂ o a b i j out f em g eo e w wired k =
+    let u = withLink w a in
+    let v = withLink u b in
+    let wired-too = wired-link w a wired in
+    let p = f w wired k in
+    let q = g u wired-too (rw em (p .1)) in
+    let ei : i ≡ indexOf a (v .links) = p .0 ∙ sym (link-place u b a (link-there w a) ∙ link-found w a) in
+    let ej : j ≡ indexOf b (v .links) = q .0 ∙ sym (link-found u b) in
+    rw (← ei) (rw (← ej) (link-merged v (wired-link u b wired-too) links₂ classes₂ o (rw eo (q .1)) i j out e))

@@ -9,6 +9,8 @@ pub mod Arrays
 pub mod Ports
 pub mod Rows
 pub mod RowLinks
+pub mod Hints
 pub mod RowMarks
+pub mod ShortRow
 pub mod TakeRow
 pub mod RowBytes

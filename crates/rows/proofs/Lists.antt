@@ -2,15 +2,18 @@
 use Prim.Native.Nat.{ℕ, zero, suc, _+_, _<_, _≤_}
 use mathlib.Core.Path.{_≡_, refl, ap, _∙_, sym}
 use mathlib.Core.List.{List, [], _∷_, _++_, map, map-append, append-assoc}
+use mathlib.Core.Bool.{Bool, true, false}
 use mathlib.Core.Logic.{⊎-elim}
 use native.Mathlib.Nat.{add-comm, add-zero, zero-add, eq-or-lt-of-le}
 use native.Mathlib.Numerals.{add-one}
 use native.Mathlib.Omega.{arith}
-use lib.ListN.{length, getD, drop, take, set, length-take, length-drop, length-map, drop-of-length-le}
-use lib.Seq.{drop-cons, take-suc, take-all, length-take-le, set-at, getD-at, set-getD, take-suc-set, getD-drop}
-use borrow.Author.Tests.{eq-eqb, ne-eqb}
+use lib.Dec.{eqb}
+use lib.ListN.{length, getD, drop, take, set, length-take, length-drop, length-map, drop-of-length-le, take-append-drop}
+use lib.Seq.{drop-cons, take-suc, take-all, length-take-le, set-at, getD-at, set-getD, take-suc-set, getD-drop, getD-take}
+use borrow.Author.Tests.{eq-eqb, ne-eqb, eqb-true}
+use Rattle.rows.specs.Pick.{pick}
 use Rattle.rows.specs.Held.{indexOf, relabelled}
-use Rattle.rows.specs.Steps.{cleared}
+use Rattle.rows.specs.Steps.{Distinct, cleared}
 use Rattle.rows.proofs.Wired.{indexOf-le}
 
 pub index-below : (x n : ℕ) (l : List ℕ) → indexOf x (take n l) ≤ n
@@ -28,6 +31,12 @@ module _ (l : List ℕ) (x i : ℕ) (h : i < length l) where
   pub index-miss : (getD l i 0 ≡ x → ⊥) → indexOf x (drop i l) ≡ suc (indexOf x (drop (i + 1) l))
   unfolding indexOf
   index-miss e = rw (drop-cons l i 0 h) (rw (ne-eqb _ _ e) (rw add-one))
+
+-- a number at a place of a list in which none stands twice is found there
+pub index-distinct : (n : ℕ) (l : List ℕ) (x p : ℕ) → n ≤ length l → p < n → getD l p 0 ≡ x → Distinct (take n l) → p ≡ indexOf x (take n l)
+index-distinct n l x p fits h e once =
+    let here : getD (take n l) p 0 ≡ x = getD-take n l p 0 h ∙ e in
+    sym (rw here at (once p (rw (length-take-le n l fits) h)))
 
 -- x is not among the m numbers from place i on
 abbrev pub Lacks : List ℕ → ℕ → ℕ → ℕ → Type 0
@@ -85,6 +94,18 @@ module _ (from to : ℕ) (l labels : List ℕ) (i : ℕ) (h : i < length l) (e :
   relabel-miss q =
       rw (mapped-next (relabelled from to) 0 l i h)
       (rw (ne-eqb (getD l i 0) from (λ k. q (here ∙ k))) (rw (← e) (rw (← here) (sym (set-getD labels i 0)))))
+
+-- labels of which one is made itself stay as they are
+relabelled-same : (from to : ℕ) → from ≡ to → (l : List ℕ) → map (relabelled from to) l ≡ l
+relabelled-same from to e [] = refl
+relabelled-same from to e (c ∷ l) = rw (relabelled-same from to e l) (go (eqb c from) refl)
+  where
+    go : (b : Bool) → eqb c from ≡ b → _≡_ {A = List ℕ} (pick b to c ∷ l) (c ∷ l)
+    go true q = rw (eqb-true c from q ∙ e)
+    go false q = refl
+
+pub relabel-none : (from to n : ℕ) (l : List ℕ) → from ≡ to → l ≡ mapped (relabelled from to) n l
+relabel-none from to n l e = rw (relabelled-same from to e (take n l)) (sym (take-append-drop n l))
 
 -- one turn of copying a list from its third element on
 pub copied-next : (links nums : List ℕ) (k : ℕ) → k < length links → k + 2 < length nums → take k links ≡ take k (drop 2 nums)

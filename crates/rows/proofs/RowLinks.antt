@@ -10,11 +10,10 @@ use borrow.Author.Tests.{ltb-true, ne-eqb}
 use Rattle.rows.specs.Pick.{pick}
 use Rattle.rows.specs.Format.{fieldCount, mostLinks}
 use Rattle.rows.specs.Limits.{fillingLinks}
-use Rattle.rows.specs.Held.{Wiring, withLinks, withFusion, noWiring}
+use Rattle.rows.specs.Held.{Wiring, withLink, withLinks, withFusion, noWiring}
 use Rattle.rows.specs.Steps.{gone, cleared, Wired, Linked, Relinks, firstLink, linkCount, linkedBy}
 use Rattle.rows.specs.declared.row.Row.{Row}
 use Rattle.rows.proofs.Arrays.{cleared-links}
-use Rattle.rows.proofs.Wired.{wired-links}
 
 -- the first number of a row, and its first two
 pub first-one : (l : List ℕ) → 0 < length l → take 1 l ≡ getD l 0 0 ∷ []
@@ -37,25 +36,24 @@ module _ (letter : ℕ) (nums : List ℕ) where
       go false false true q = (omega arith, omega arith)
       go false false false q = (omega arith, omega arith)
 
-  pub count-two : letter ≡ 2 → linkCount letter nums ≡ 2
-  count-two e = rw e
-
   pub count-one : letter ≡ 3 → linkCount letter nums ≡ 1
   count-one e = rw e
 
 -- a row's links taken into arrays from which those of another filling are gone
-module _ (r : Row) (links classes : List ℕ) (n kept : ℕ) (links₁ classes₁ links₂ classes₂ : List ℕ) (m from count : ℕ) (room : n ≤ fillingLinks)
-    (ek : kept ≡ n - gone (r .letter) n) (el : links₁ ≡ cleared (gone (r .letter) n) links) (ec : classes₁ ≡ cleared (gone (r .letter) n) classes)
-    (ef : from ≡ firstLink (r .letter)) (en : count ≡ linkCount (r .letter) (r .nums))
-    (f : Relinks links₁ classes₁ kept links₂ classes₂ m (λ w. withLinks w (take count (drop from (r .nums))))) where
-  added : (w : Wiring) → Wired w → Linked w links classes n → let u = pick (ltb 3 (r .letter)) noWiring w in
-      Wired u × Linked (withLinks u (take (linkCount (r .letter) (r .nums)) (drop (firstLink (r .letter)) (r .nums)))) links₂ classes₂ m
-  added w wired k =
-      let u = cleared-links w wired links classes n k (r .letter) kept links₁ classes₁ (omega arith) ek el ec in
-      (u .0, rw (ef, en) at (f (pick (ltb 3 (r .letter)) noWiring w) (u .0) (u .1)))
+module _ (r : Row) (links classes : List ℕ) (n kept : ℕ) (links₁ classes₁ links₂ classes₂ : List ℕ) (m : ℕ) (room : n ≤ fillingLinks)
+    (ek : kept ≡ n - gone (r .letter) n) (el : links₁ ≡ cleared (gone (r .letter) n) links) (ec : classes₁ ≡ cleared (gone (r .letter) n) classes) where
+  left : (w : Wiring) → Wired w → Linked w links classes n → let u = pick (ltb 3 (r .letter)) noWiring w in Wired u × Linked u links₁ classes₁ kept
+  left w wired k = cleared-links w wired links classes n k (r .letter) kept links₁ classes₁ (omega arith) ek el ec
 
-  pub row-linked : (r .letter ≡ 2 → ⊥) → Relinks links classes n links₂ classes₂ m (linkedBy r)
-  row-linked h w wired k = rw (ne-eqb (r .letter) 2 h) (rw (ne-eqb (r .letter) 2 h) at (added w wired k .1))
+  pub row-linked : (from count : ℕ) → from ≡ firstLink (r .letter) → count ≡ linkCount (r .letter) (r .nums)
+      → Relinks links₁ classes₁ kept links₂ classes₂ m (λ w. withLinks w (take count (drop from (r .nums)))) → (r .letter ≡ 2 → ⊥) → Relinks links classes n links₂ classes₂ m (linkedBy r)
+  row-linked from count ef en f h w wired k =
+      let u = left w wired k in
+      rw (ne-eqb (r .letter) 2 h) (rw (ef, en, ne-eqb (r .letter) 2 h) at (f (pick (ltb 3 (r .letter)) noWiring w) (u .0) (u .1)))
 
-  pub row-fused : (out : List ℕ) → r .letter ≡ 2 → Relinks links₂ classes₂ m links₂ out m (λ w. withFusion w (getD (r .nums) 0 0) (getD (r .nums) 1 0)) → Relinks links classes n links₂ out m (linkedBy r)
-  row-fused out e g w wired k = rw e (g (withLinks w (take 2 (drop 0 (r .nums)))) (wired-links w _ wired) (rw e at (added w wired k .1)))
+  pub row-fused : 1 < length (r .nums) → r .letter ≡ 2 → Relinks links₁ classes₁ kept links₂ classes₂ m (λ w. withFusion (withLink (withLink w (getD (r .nums) 0 0)) (getD (r .nums) 1 0)) (getD (r .nums) 0 0) (getD (r .nums) 1 0))
+      → Relinks links classes n links₂ classes₂ m (linkedBy r)
+  unfolding withLinks
+  row-fused wide e f w wired k =
+      let u = left w wired k in
+      rw e (rw (first-two (r .nums) wide) (rw e at (f (pick (ltb 3 (r .letter)) noWiring w) (u .0) (u .1))))

@@ -151,7 +151,7 @@ alike (suc zero) h = (refl, refl)
 alike (suc (suc k)) h = absurd (omega arith)
 
 -- Every field from the third on has the third one's rule.
-later : (letter k : ℕ) → ruleOf letter (2 + k) ≡ ruleOf letter 2
+pub later : (letter k : ℕ) → ruleOf letter (2 + k) ≡ ruleOf letter 2
 unfolding ruleOf
 later letter k = ⊎-elim (λ e. rw e) (λ h. rw (lt-ltb 2 (2 + k) (omega arith))) (eq-zero-or-pos k)
 

@@ -1,5 +1,5 @@
--- How a row changes links, classes and marks: what grows, what stays, and that each link keeps a
--- class and each mark a link's place.
+-- How a row changes links, classes and marks: what grows, what stays, and that each link stands once
+-- and keeps a class, and each mark a link's place.
 use Prim.Native.Nat.{ℕ, zero, suc, _+_, _<_, _≤_}
 use mathlib.Core.Path.{_≡_, refl, _∙_, sym, ap}
 use mathlib.Core.List.{List, [], _∷_, _++_}
@@ -13,7 +13,7 @@ use lib.Seq.{getD-at}
 use borrow.Author.Tests.{ltb-true, ltb-false, lt-ltb, le-ltb, eq-eqb, eqb-true, eqb-false}
 use Rattle.rows.specs.Pick.{pick}
 use Rattle.rows.specs.Held.{Wiring, Held, indexOf, isIn, withLink, withLinks, relabelled, merged, withFusion, withMark, noWiring, linksOf, withAtom, withContext, withFusionRow, withEdgeRow, withHead, withRow, Among}
-use Rattle.rows.specs.Steps.{Wired}
+use Rattle.rows.specs.Steps.{Distinct, Wired}
 use Rattle.rows.specs.declared.row.Row.{Row}
 
 -- The place of a number in a list.
@@ -47,6 +47,14 @@ indexOf-added x (y ∷ l) h = go (eqb y x) (indexOf-added x l) h
         → pick b 0 (suc (indexOf x (l ++ (x ∷ [])))) ≡ suc (length l)
     go true ih k = absurd (omega arith)
     go false ih k = ap suc (ih (omega arith))
+
+-- Where no number stood twice, none does with one more that is new.
+pub distinct-added : (x : ℕ) (l : List ℕ) → length l ≤ indexOf x l → Distinct l → Distinct (l ++ (x ∷ []))
+distinct-added x l new once p h =
+    ⊎-elim
+    (λ e. rw (getD-at l x [] 0 p (sym e)) (indexOf-added x l new ∙ sym e))
+    (λ q. rw (List·getD-append l (x ∷ []) 0 p q) (indexOf-append (getD l p 0) l (x ∷ []) (rw (once p q) q) ∙ once p q))
+    (eq-or-lt-of-le (let q : p ≤ length l = omega (arith, length-append l (x ∷ [])) in q))
 
 -- The wiring with a further link, which is new.
 abbrev pub linkAdded : Wiring → ℕ → Wiring
@@ -83,6 +91,9 @@ module _ (w : Wiring) (x : ℕ) where
   -- The link is there, and every other stays in its place.
   pub link-there : Among x (withLink w x .links)
   link-there = link-by (λ v. Among x (v .links)) (λ h. h) (λ h. rw (indexOf-added x (w .links) h) (simp length-append (omega arith)))
+
+  pub link-found : indexOf x (withLink w x .links) ≡ indexOf x (w .links)
+  link-found = link-by (λ v. indexOf x (v .links) ≡ indexOf x (w .links)) (λ h. refl) (λ h. indexOf-added x (w .links) h ∙ omega (arith, indexOf-le x (w .links)))
 
   pub link-place : (y : ℕ) → Among y (w .links) → indexOf y (withLink w x .links) ≡ indexOf y (w .links)
   link-place y k = link-by (λ v. indexOf y (v .links) ≡ indexOf y (w .links)) (λ h. refl) (λ h. indexOf-append y (w .links) (x ∷ []) k)
@@ -153,13 +164,14 @@ module _ (w : Wiring) (a m : ℕ) where
   unfolding merged
   mark-links = mark-by (λ v. v .links ≡ w .links) (λ h. refl) (λ h. refl)
 
--- Each link has its class, and each mark a link's place.
+-- Each link stands once and has its class, and each mark a link's place.
 pub wired-none : Wired noWiring
-wired-none = record { classed = refl; placed = refl; within = λ p h. absurd (omega arith) }
+wired-none = record { distinct = λ p h. absurd (omega arith); classed = refl; placed = refl; within = λ p h. absurd (omega arith) }
 
 pub wired-link : (w : Wiring) (x : ℕ) → Wired w → Wired (withLink w x)
 wired-link w x k = link-by w x Wired (λ h. k) (λ h.
     record {
+      distinct = distinct-added x (w .links) h (k .distinct);
       classed = simp (length-append, k .classed);
       placed = k .placed;
       within = λ p l. simp length-append (omega (arith, k .within p l));
@@ -172,7 +184,7 @@ wired-links w (x ∷ l) k = wired-links (withLink w x) l (wired-link w x k)
 
 pub wired-merged : (w : Wiring) (i j : ℕ) → Wired w → Wired (merged w i j)
 unfolding merged
-wired-merged w i j k = record { classed = merged-classes w i j ∙ k .classed; placed = k .placed; within = k .within }
+wired-merged w i j k = record { distinct = k .distinct; classed = merged-classes w i j ∙ k .classed; placed = k .placed; within = k .within }
 
 pub wired-fusion : (w : Wiring) (a b : ℕ) → Wired w → Wired (withFusion w a b)
 unfolding withFusion
@@ -181,6 +193,7 @@ wired-fusion w a b k = wired-merged w (indexOf a (w .links)) (indexOf b (w .link
 pub wired-mark : (w : Wiring) (a m : ℕ) → Among a (w .links) → Wired w → Wired (withMark w a m)
 wired-mark w a m there k = mark-by w a m Wired (λ h. wired-merged w _ _ k) (λ h.
     record {
+      distinct = k .distinct;
       classed = k .classed;
       placed = simp (length-append, k .placed);
       within = λ p l. ⊎-elim

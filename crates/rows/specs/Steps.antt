@@ -1,5 +1,5 @@
 -- What the steps of taking in a row ask of the arrays of a `Sheet`, and what they make of them.
-use Prim.Native.Nat.{ℕ, _+_, _<_, _≤_}
+use Prim.Native.Nat.{ℕ, _+_, _%_, _<_, _≤_}
 use mathlib.Core.Path.{_≡_}
 use mathlib.Core.List.{List, [], _++_, map}
 use mathlib.Core.Bool.{Bool}
@@ -8,15 +8,20 @@ use lib.ListN.{length, take, drop, getD, set}
 use Rattle.rows.specs.Pick.{pick, or}
 use Rattle.rows.specs.Format.{mostLinks}
 use Rattle.rows.specs.Limits.{sheetAtoms, figureContexts, sheetMarks, fillingLinks}
-use Rattle.rows.specs.Held.{Wiring, withLinks, withFusion, withMark, noWiring, atomOf, contextOf}
+use Rattle.rows.specs.Held.{Wiring, indexOf, withLink, withLinks, withFusion, withMark, noWiring, atomOf, contextOf}
 use Rattle.rows.specs.Packed.{padded, noAtom, noContext}
 use Rattle.rows.specs.declared.Atom.{Atom}
 use Rattle.rows.specs.declared.Context.{Context}
 use Rattle.rows.specs.declared.Sheet.{Sheet}
 use Rattle.rows.specs.declared.row.Row.{Row}
 
--- each link has its class, and each mark its place, which is a link's
+-- no number of a list stands in it twice: each is found at its own place
+abbrev pub Distinct : List ℕ → Type 0
+Distinct l = (p : ℕ) → p < length l → indexOf (getD l p 0) l ≡ p
+
+-- each link stands once and has its class, and each mark its place, which is a link's
 pub record Wired (w : Wiring) : Type 0 where
+  pub distinct : Distinct (w .links)
   pub classed : length (w .classes) ≡ length (w .links)
   pub placed : length (w .marked) ≡ length (w .marks)
   pub within : (p : ℕ) → p < length (w .marks) → getD (w .marked) p 0 < length (w .links)
@@ -30,6 +35,27 @@ pub record Linked (w : Wiring) (links classes : List ℕ) (n : ℕ) : Type 0 whe
 -- the second arrays are those of what f makes of the wiring whose arrays the first are
 abbrev pub Relinks : List ℕ → List ℕ → ℕ → List ℕ → List ℕ → ℕ → (Wiring → Wiring) → Type 0
 Relinks links classes n links' classes' n' f = (w : Wiring) → Wired w → Linked w links classes n → Linked (f w) links' classes' n'
+
+-- how many links there are with the one at place p: one more than n where it was put behind them
+abbrev pub countWith : ℕ → ℕ → ℕ
+countWith n p = pick (eqb p n) (n + 1) n
+
+-- p is the place of x among the links of the wiring whose arrays the first are, or the next where it
+-- is not there; the second are those of the wiring with x
+abbrev pub Places : List ℕ → List ℕ → ℕ → List ℕ → List ℕ → ℕ → ℕ → Type 0
+Places links classes n links' classes' x p = (w : Wiring) → Wired w → Linked w links classes n → (p ≡ indexOf x (w .links)) × Linked (withLink w x) links' classes' (countWith n p)
+
+-- how many hints there are, and where that of link x stands
+abbrev pub hintCount : ℕ
+hintCount = 256
+
+unfoldable pub hintAt : ℕ → ℕ
+hintAt x = x % hintCount
+
+-- none of the first n links has 0 as its hint
+pub record Hinted (hints links : List ℕ) (n : ℕ) : Type 0 where
+  pub wide : length hints ≡ hintCount
+  pub seen : (p : ℕ) → p < n → getD hints (hintAt (getD links p 0)) 0 ≡ 0 → ⊥
 
 -- how many of n links or marks are gone with a row of this letter: a head begins a filling, which has none
 abbrev pub gone : ℕ → ℕ → ℕ

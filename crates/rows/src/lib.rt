@@ -1,5 +1,6 @@
 // Rows of 34 bytes: how one is read and written, and what a text holds of its rows.
 pub mod entry;
+pub mod place;
 pub mod row;
 pub mod take;
 pub mod write;

@@ -2,10 +2,11 @@
 use crate::Sheet;
 ghost use mathlib.Core.Path.{_≡_};
 ghost use mathlib.Core.List.{[]};
-ghost use Prim.Native.Nat.{ℕ, _<_};
-ghost use lib.ListN.{length, getD};
-ghost use Rattle.rows.specs.Format.{rowWidth, letterOf, rules, ruleOf};
+ghost use Prim.Native.Nat.{ℕ, _*_, _<_, _≤_};
+ghost use lib.ListN.{length, take, drop, getD};
+ghost use Rattle.rows.specs.Format.{mostLinks, fieldCount, rowWidth, letterOf, rules, ruleOf};
 ghost use Rattle.rows.specs.Row.{misplacedIn, suits, noRow, rowOf};
+ghost use Rattle.rows.specs.Short.{allSpaces, mostFields, restEmpty};
 
 // What a field of a row may hold: a number from low to high where it is filled, nothing elsewhere.
 // A counted field is filled where the row's count, its second field, reaches it.
@@ -169,20 +170,59 @@ pub(crate) fn misplaced(b: u8, filled: bool, last: bool) -> bool
     !last
 }
 
+// Whether all columns after the second field are spaces. The loop has no way out, so that many are
+// compared at once.
+pub(crate) fn is_short(row: &[u8]) -> bool
+    requires { ⌜ length (now row) ≡ rowWidth ⌝ }
+    ensures { λ r. ⌜ r ≡ allSpaces (take (4 * mostLinks) (drop 9 (now (row .entry)))) ⌝ }
+{
+    let mut short = true;
+    let mut k = 0;
+    while k < 4 * Sheet::MOST_LINKS {
+        if row[9 + k] != b' ' {
+            short = false;
+        }
+        k += 1;
+    }
+    short
+}
+
+// How many fields of a row may be filled: only a symbol or blank row has more than two.
+pub(crate) fn most_fields(letter: usize) -> usize
+    ensures { λ r. ⌜ (r ≤ fieldCount) × (r ≡ mostFields letter) ⌝ }
+{
+    if letter < 2 {
+        return Sheet::FIELDS;
+    }
+    2
+}
+
+// Whether the fields that may not be filled are empty.
+pub(crate) fn rest_empty(row: &[u8], letter: usize) -> bool
+    requires { ⌜ length (now row) ≡ rowWidth ⌝ }
+    ensures { λ r. ⌜ r ≡ restEmpty letter (now (row .entry)) ⌝ }
+{
+    if letter < 2 {
+        return true;
+    }
+    is_short(row)
+}
+
 // The row's letter and numbers. The first bad field ends the reading.
 pub fn read_row(row: &[u8]) -> Row
     requires { ⌜ length (now row) ≡ rowWidth ⌝ }
     ensures { λ r. ⌜ r ≡ rowOf (now (row .entry)) ⌝ }
 {
     let letter = letter_of(row[0]);
-    let mut nums = [0u16; Sheet::FIELDS];
-    let mut good = true;
     if letter == 5 {
         return Row::none();
     }
     let own = rules_of(letter);
+    let fields = most_fields(letter);
+    let mut nums = [0u16; Sheet::FIELDS];
+    let mut good = rest_empty(row, letter);
     let mut f = 0;
-    'row: while f < Sheet::FIELDS {
+    'row: while f < fields {
         let at = f * 4 + 1;
         let mut col = 0;
         let mut n: u16 = 0;

@@ -1,5 +1,8 @@
 // The links and the mark of a row, taken into what a text holds.
 use crate::Sheet;
+use crate::place::HINTS;
+use crate::place::count_with;
+use crate::place::place_link;
 use crate::row::Row;
 ghost use mathlib.Core.Path.{_≡_};
 ghost use mathlib.Core.Bool.{false};
@@ -11,7 +14,7 @@ ghost use Rattle.rows.specs.Pick.{pick};
 ghost use Rattle.rows.specs.Format.{fieldCount, mostLinks};
 ghost use Rattle.rows.specs.Limits.{sheetMarks, fillingLinks};
 ghost use Rattle.rows.specs.Held.{Wiring, indexOf, relabelled, withLink, withLinks, withFusion, withMark};
-ghost use Rattle.rows.specs.Steps.{gone, cleared, Wired, Linked, Relinks, Marked, Tied, Ranged, firstLink, linkCount, linkedBy, markedBy};
+ghost use Rattle.rows.specs.Steps.{gone, cleared, Hinted, Wired, Linked, Relinks, Marked, Tied, Ranged, firstLink, linkCount, linkedBy, markedBy};
 
 // Whether x is among the eight numbers from place i on. The loop has no way out, so that all are compared at once.
 fn among_eight(s: &[u16], i: usize, x: u16) -> bool
@@ -87,28 +90,32 @@ pub(crate) fn clear(s: &mut [u16], n: usize)
     }
 }
 
-// The classes of the links at places i and j made one.
+// The classes of the links at places i and j made one, where they are two.
 pub(crate) fn merge(classes: &mut [u16], n: usize, i: usize, j: usize)
     requires { ⌜ (n ≤ length (now classes)) × (i < length (now classes)) × (j < length (now classes)) ⌝ }
     ensures { λ _. ⌜ now (classes .exit) ≡ map (relabelled (getD (now (classes .entry)) j 0) (getD (now (classes .entry)) i 0)) (take n (now (classes .entry))) ++ drop n (now (classes .entry)) ⌝ }
 {
     let from = classes[j];
     let to = classes[i];
+    if from == to {
+        return;
+    }
     relabel(classes, n, from, to);
 }
 
 // A link number that is new starts a class of its own. The count of links with it is returned.
-pub(crate) fn add_link(links: &mut [u16], classes: &mut [u16], n: usize, x: u16) -> usize
-    requires { ⌜ (n < fillingLinks + mostLinks) × (length (now links) ≡ fillingLinks + mostLinks) × (length (now classes) ≡ fillingLinks + mostLinks) ⌝ }
-    ensures { λ r. ⌜ (r ≤ n + 1) × Relinks (now (links .entry)) (now (classes .entry)) n (now (links .exit)) (now (classes .exit)) r (λ w. withLink w x) ⌝ }
+pub(crate) fn add_link(
+    links: &mut [u16],
+    classes: &mut [u16],
+    n: usize,
+    x: u16,
+    hints: &mut [u8; HINTS],
+) -> usize
+    requires { ⌜ (n < fillingLinks + mostLinks) × (length (now links) ≡ fillingLinks + mostLinks) × (length (now classes) ≡ fillingLinks + mostLinks) × Hinted (now hints) (now links) n ⌝ }
+    ensures { λ r. ⌜ (r ≤ n + 1) × Relinks (now (links .entry)) (now (classes .entry)) n (now (links .exit)) (now (classes .exit)) r (λ w. withLink w x) × Hinted (now (hints .exit)) (now (links .exit)) r ⌝ }
 {
-    let i = index_of(links, n, x);
-    if i < n {
-        return n;
-    }
-    links[n] = x;
-    classes[n] = n as u16;
-    n + 1
+    let p = place_link(links, classes, n, x, hints);
+    count_with(n, p)
 }
 
 // The numbers of `count` fields from field `from` on, as links.
@@ -119,27 +126,38 @@ pub(crate) fn add_links(
     nums: [u16; Sheet::FIELDS],
     from: usize,
     count: usize,
+    hints: &mut [u8; HINTS],
 ) -> usize
-    requires { ⌜ (n ≤ fillingLinks) × (count ≤ mostLinks) × (from + count ≤ fieldCount) × (length (now links) ≡ fillingLinks + mostLinks) × (length (now classes) ≡ fillingLinks + mostLinks) ⌝ }
-    ensures { λ r. ⌜ (r ≤ n + count) × Relinks (now (links .entry)) (now (classes .entry)) n (now (links .exit)) (now (classes .exit)) r (λ w. withLinks w (take count (drop from nums))) ⌝ }
+    requires { ⌜ (n ≤ fillingLinks) × (count ≤ mostLinks) × (from + count ≤ fieldCount) × (length (now links) ≡ fillingLinks + mostLinks) × (length (now classes) ≡ fillingLinks + mostLinks) × Hinted (now hints) (now links) n ⌝ }
+    ensures { λ r. ⌜ (r ≤ n + count) × Relinks (now (links .entry)) (now (classes .entry)) n (now (links .exit)) (now (classes .exit)) r (λ w. withLinks w (take count (drop from nums))) × Hinted (now (hints .exit)) (now (links .exit)) r ⌝ }
 {
     let mut m = n;
     let mut k = 0;
     while k < count {
-        m = add_link(links, classes, m, nums[from + k]);
+        m = add_link(links, classes, m, nums[from + k], hints);
         k += 1;
     }
     m
 }
 
-// Two of the links made one point.
-pub(crate) fn fuse(links: &[u16], classes: &mut [u16], n: usize, a: u16, b: u16)
-    requires { ⌜ (n < fillingLinks + mostLinks) × (length (now links) ≡ fillingLinks + mostLinks) × (length (now classes) ≡ fillingLinks + mostLinks) ⌝ }
-    ensures { λ _. ⌜ Relinks (now (links .entry)) (now (classes .entry)) n (now (links .entry)) (now (classes .exit)) n (λ w. withFusion w a b) ⌝ }
+// Two links, which are made one point. The count of links with them is returned.
+pub(crate) fn add_fusion(
+    links: &mut [u16],
+    classes: &mut [u16],
+    n: usize,
+    a: u16,
+    b: u16,
+    hints: &mut [u8; HINTS],
+) -> usize
+    requires { ⌜ (n ≤ fillingLinks) × (length (now links) ≡ fillingLinks + mostLinks) × (length (now classes) ≡ fillingLinks + mostLinks) × Hinted (now hints) (now links) n ⌝ }
+    ensures { λ r. ⌜ Relinks (now (links .entry)) (now (classes .entry)) n (now (links .exit)) (now (classes .exit)) r (λ w. withFusion (withLink (withLink w a) b) a b) × Hinted (now (hints .exit)) (now (links .exit)) r ⌝ }
 {
-    let i = index_of(links, n, a);
-    let j = index_of(links, n, b);
-    merge(classes, n, i, j);
+    let i = place_link(links, classes, n, a, hints);
+    let m = count_with(n, i);
+    let j = place_link(links, classes, m, b, hints);
+    let count = count_with(m, j);
+    merge(classes, count, i, j);
+    count
 }
 
 // The field of a row's first link.
@@ -190,21 +208,25 @@ pub(crate) fn clear_gone(a: &mut [u16], b: &mut [u16], n: usize, letter: usize) 
 }
 
 // The links of a row, by its letter.
-pub fn add_row_links(links: &mut [u16], classes: &mut [u16], n: usize, row: Row) -> usize
-    requires { ⌜ (n ≤ fillingLinks) × Ranged row × (length (now links) ≡ fillingLinks + mostLinks) × (length (now classes) ≡ fillingLinks + mostLinks) ⌝ }
-    ensures { λ r. ⌜ (row .letter ≡ 3 → r ≤ n + 1) × Relinks (now (links .entry)) (now (classes .entry)) n (now (links .exit)) (now (classes .exit)) r (linkedBy row) ⌝ }
+pub fn add_row_links(
+    links: &mut [u16],
+    classes: &mut [u16],
+    n: usize,
+    row: Row,
+    hints: &mut [u8; HINTS],
+) -> usize
+    requires { ⌜ (n ≤ fillingLinks) × Ranged row × (length (now links) ≡ fillingLinks + mostLinks) × (length (now classes) ≡ fillingLinks + mostLinks) × Hinted (now hints) (now links) n ⌝ }
+    ensures { λ r. ⌜ (row .letter ≡ 3 → r ≤ n + 1) × Relinks (now (links .entry)) (now (classes .entry)) n (now (links .exit)) (now (classes .exit)) r (linkedBy row) × Hinted (now (hints .exit)) (now (links .exit)) r ⌝ }
 {
     let nums = row.nums;
     let letter = row.letter;
     let kept = clear_gone(links, classes, n, letter);
+    if letter == 2 {
+        return add_fusion(links, classes, kept, nums[0], nums[1], hints);
+    }
     let from = first_link(letter);
     let count = link_count(letter, nums);
-    let m = add_links(links, classes, kept, nums, from, count);
-    if letter != 2 {
-        return m;
-    }
-    fuse(links, classes, m, nums[0], nums[1]);
-    m
+    add_links(links, classes, kept, nums, from, count, hints)
 }
 
 // A mark on a link that is there. The count of marks with it is returned.

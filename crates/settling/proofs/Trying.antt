@@ -10,12 +10,14 @@ use Rattle.rows.specs.Limits.{sheetLinks}
 use Rattle.sheet.specs.declared.normal.Normal as form
 use Rattle.hyperlmntal.specs.Link.{_∈_}
 use Rattle.placing.proofs.FirstLaws.{both-ways}
-use Rattle.network.specs.NetIn.{netIn}
-use Rattle.network.specs.Ready.{Ready, stateIn, TakenIn}
-use Rattle.completing.specs.Completion.{Partial}
+use Rattle.network.specs.NetIn.{netIn, ContextsIn}
+use Rattle.network.specs.Ready.{Ready, LinksIn, stateIn}
+use Rattle.candidates.specs.Laid.{LaidOut}
+use Rattle.stepping.specs.Chains.{ChainsIn}
 use Rattle.completing.specs.Fault.{Torn}
 use Rattle.completing.proofs.Completing.{no-fault-completable, torn-refused}
-use Rattle.faults.specs.Finds.{Finds}
+use Rattle.faults.specs.declared.nets.Nets.{Nets}
+use Rattle.faults.specs.Finds.{NetsIn, Over, FindsAll}
 use Rattle.deciding.specs.Kinds.{KindsIn}
 use Rattle.faults.specs.declared.fault.Fault.{Fault}
 use Rattle.settling.specs.Completes.{unsettled, Tables, Working, CompletableIn, CompletableAt, Completes, CompletesAt, Hinders, FirstFor, FirstOfKind}
@@ -23,19 +25,43 @@ use Rattle.deciding.proofs.Sets.{below-cases}
 use Rattle.deciding.proofs.Flagged.{flagged-out}
 use Rattle.settling.proofs.States.{links-set, working-put, put-back, way-out, earlier-refused}
 
--- what the finder says of every state with these arrays
-abbrev pub FindsAll : form.Normal → form.Normal → List ℕ → List ℕ → Fault → Type 0
-FindsAll sheet figure taken to r = (atoms un : List ℕ) → TakenIn sheet figure (stateIn figure atoms to) taken → Partial (netIn sheet) (netIn figure) (stateIn figure atoms to) un → Finds sheet figure (stateIn figure atoms to) r
-
--- the arrays with one link settled
-pub tables-put : (sheet figure : form.Normal) (laid chains kinds to : List ℕ) → Tables sheet figure laid chains kinds to → (x y : ℕ) → x < figure .«class_count» → y < sheet .«class_count» → Tables sheet figure laid chains kinds (set to x (y + 1))
-tables-put sheet figure laid chains kinds to t x y h k = record {
-  ready = t .ready;
-  laid-out = t .laid-out;
-  chains-in = t .chains-in;
-  kinds-in = t .kinds-in;
-  links-in = links-set sheet figure to (t .links-in) x (y + 1) h (t .ready .figure-fit .class-count) (omega arith, omega arith);
+-- what is read of a net, as it stands there
+pub nets-of : (sheet figure : form.Normal) → Ready sheet figure → (laid : List ℕ) → LaidOut sheet laid (sheet .«atom_count»)
+    → NetsIn sheet figure (record { atoms = sheet .«atom_count»; links = sheet .«class_count»; contexts = figure .contexts; rows = figure .«context_count»; count = figure .«class_count» }) laid
+nets-of sheet figure r laid o = record {
+  ready = r;
+  laid-out = o;
+  sheet-links = refl;
+  contexts-in = record { fit = r .figure-fit; same-contexts = refl; row-count = refl; link-count = refl };
 }
+
+-- once the chains are made
+pub over-of : {sheet figure : form.Normal} {nets : Nets} {laid to : List ℕ} (chains : List ℕ) → ((s : form.Normal) → LaidOut s laid (nets .atoms) → ChainsIn s chains) → NetsIn sheet figure nets laid → LinksIn sheet figure to
+    → Over sheet figure nets laid chains to
+over-of {sheet} chains f n l = record { nets-in = n; chains-in = f sheet (n .laid-out); links-in = l }
+
+pub tables-of : {sheet figure : form.Normal} {nets : Nets} {laid chains to : List ℕ} (kinds : List ℕ) → ((f : form.Normal) (links : ℕ) → ContextsIn f (nets .contexts) (nets .rows) links → KindsIn f kinds)
+    → Over sheet figure nets laid chains to → Tables sheet figure nets laid chains kinds to
+tables-of {figure = figure} {nets = nets} kinds f o = record { over = o; kinds-in = f figure (nets .count) (o .nets-in .contexts-in) }
+
+-- with the figure links elsewhere
+pub tables-links : {sheet figure : form.Normal} {nets : Nets} {laid chains kinds to next : List ℕ} → Tables sheet figure nets laid chains kinds to → LinksIn sheet figure next → Tables sheet figure nets laid chains kinds next
+tables-links t l = record { over = record { nets-in = t .over .nets-in; chains-in = t .over .chains-in; links-in = l }; kinds-in = t .kinds-in }
+
+-- with one link settled
+pub tables-put : {sheet figure : form.Normal} {nets : Nets} {laid chains kinds to : List ℕ} → Tables sheet figure nets laid chains kinds to → (x y : ℕ) → x < nets .count → y < nets .links → Tables sheet figure nets laid chains kinds (set to x (y + 1))
+tables-put {sheet} {figure} {to = to} t x y h k = let n = t .over .nets-in in
+    tables-links t (links-set sheet figure to (t .over .links-in) x (y + 1) (omega (arith, n .contexts-in .link-count)) (n .ready .figure-fit .class-count) (omega arith, omega (arith, n .sheet-links)))
+
+-- another array with the same links but for x
+pub tables-next : {sheet figure : form.Normal} {nets : Nets} {laid chains kinds to : List ℕ} (next : List ℕ) → Tables sheet figure nets laid chains kinds to → (x y : ℕ) → x < nets .count → y < nets .links
+    → set next x (y + 1) ≡ set to x (y + 1) → Tables sheet figure nets laid chains kinds (set next x (y + 1))
+tables-next {sheet} {figure} {nets} {laid} {chains} {kinds} {to} next t x y h k e = subst (Tables sheet figure nets laid chains kinds) (sym e) (tables-put t x y h k)
+
+pub completes-next : {sheet figure : form.Normal} {nets : Nets} {laid chains kinds to : List ℕ} (next : List ℕ) (t : Tables sheet figure nets laid chains kinds to) (x y : ℕ) → x < nets .count → y < nets .links
+    → set next x (y + 1) ≡ set to x (y + 1) → (taken rest : List ℕ) (r : Bool) → (Tables sheet figure nets laid chains kinds (set next x (y + 1)) → Completes sheet figure taken (set next x (y + 1)) rest r)
+    → Completes sheet figure taken (set to x (y + 1)) rest r
+completes-next {sheet} {figure} next t x y h k e taken rest r f = subst (λ (l : List ℕ). Completes sheet figure taken l rest r) e (f (tables-next next t x y h k e))
 
 -- Link x at every sheet link before y was tried, where it has a flag in `links`.
 abbrev pub TriedAt : form.Normal → form.Normal → List ℕ → List ℕ → ℕ → List ℕ → List ℕ → ℕ → Type 0

@@ -29,7 +29,8 @@ use Rattle.deciding.specs.Flags.{Different, Opens}
 use Rattle.deciding.specs.Agrees.{Agrees}
 use Rattle.settling.specs.Completes.{unsettled, Working, Completes, Hinders, Settles, LeastIn}
 use Rattle.settling.proofs.States.{taken-in-same}
-use Rattle.settling.proofs.Trying.{FindsAll, find-hinders, found-none, found-refused}
+use Rattle.faults.specs.Finds.{FindsAll}
+use Rattle.settling.proofs.Trying.{find-hinders, found-none, found-refused}
 use Rattle.settling.proofs.SettleLaws.{settled-already}
 use Rattle.settling.proofs.Starting.{size, open-links, state-of, working}
 

@@ -7,24 +7,21 @@ use lib.ListN.{take, getD, set}
 use Rattle.sheet.specs.declared.normal.Normal as form
 use Rattle.placing.specs.Net.{Range}
 use Rattle.network.specs.NetIn.{netIn}
-use Rattle.network.specs.Ready.{Ready, LinksIn, stateIn, TakenIn}
-use Rattle.narrowing.specs.Laid.{LaidOut}
-use Rattle.stepping.specs.Chains.{ChainsIn}
+use Rattle.network.specs.Ready.{LinksIn, stateIn, TakenIn}
 use Rattle.completing.specs.Completion.{Partial, Completable}
 use Rattle.completing.specs.Fault.{completed}
 use Rattle.completing.specs.Leaf.{LeastCompletion, Settling}
 use Rattle.faults.specs.declared.fault.Fault.{Fault}
+use Rattle.faults.specs.declared.nets.Nets.{Nets}
+use Rattle.faults.specs.Finds.{Over}
 use Rattle.deciding.specs.Flags.{flagged}
 use Rattle.deciding.specs.Kinds.{KindsIn}
 use Rattle.settling.specs.declared.complete.Completed.{Completed}
 
--- the arrays that every function of the search over open links reads
-pub record Tables (sheet figure : form.Normal) (laid chains kinds to : List ℕ) : Type 0 where
-  pub ready : Ready sheet figure
-  pub laid-out : LaidOut sheet laid (sheet .«atom_count»)
-  pub chains-in : ChainsIn sheet chains
+-- what every function of the search over open links reads of this sheet and this figure
+pub record Tables (sheet figure : form.Normal) (nets : Nets) (laid chains kinds to : List ℕ) : Type 0 where
+  pub over : Over sheet figure nets laid chains to
   pub kinds-in : KindsIn figure kinds
-  pub links-in : LinksIn sheet figure to
 
 -- the links that are flagged are unsettled
 abbrev pub unsettled : form.Normal → List ℕ → List ℕ

@@ -1,19 +1,20 @@
 // Whether the unsettled links, those with a flag, can be placed so that nothing stands in the way.
 use crate::obstacle::obstacle;
-use narrowing::LAID;
+use candidates::LAID;
+use faults::nets::Nets;
 use rows::Sheet;
-use sheet::normal::Normal;
 use stepping::CHAINS;
 ghost use Prim.Native.Nat.{_<_, _≤_};
 ghost use mathlib.Core.Path.{_≡_};
-ghost use lib.ListN.{getD};
+ghost use lib.ListN.{length, getD};
 ghost use Rattle.rows.specs.Limits.{sheetLinks};
+ghost use Rattle.sheet.specs.declared.normal.Normal.{Normal as NormalForm};
 ghost use Rattle.settling.specs.Completes.{Tables, Completes, CompletesAt, FirstOfKind};
 
 // Link x is flagged, and no flagged one before it stands on the same contexts.
-fn first_of_kind(flags: [u8; Sheet::LINKS], kinds: [u16; Sheet::LINKS], x: usize) -> bool
+fn first_of_kind(flags: &[u8; Sheet::LINKS], kinds: &[u16; Sheet::LINKS], x: usize) -> bool
     requires { ⌜ x < sheetLinks ⌝ }
-    ensures { λ r. ⌜ FirstOfKind flags kinds x r ⌝ }
+    ensures { λ r. ⌜ FirstOfKind (now (flags .entry)) (now (kinds .entry)) x r ⌝ }
 {
     if flags[x] != 1 {
         return false;
@@ -32,39 +33,27 @@ fn first_of_kind(flags: [u8; Sheet::LINKS], kinds: [u16; Sheet::LINKS], x: usize
 // A fault can be mended only by an unsettled link at one of its links. One link of each kind is enough to try.
 // The last link was settled at sheet link y, 0 where there was none.
 pub(crate) fn completable(
-    sheet: Normal,
-    figure: Normal,
+    nets: Nets,
     laid: &[u16; LAID],
     chains: &[u16; CHAINS],
-    taken: [u8; Sheet::ATOMS],
-    kinds: [u16; Sheet::LINKS],
-    to: [u16; Sheet::LINKS],
-    flags: [u8; Sheet::LINKS],
+    taken: &[u8; Sheet::ATOMS],
+    kinds: &[u16; Sheet::LINKS],
+    to: &[u16; Sheet::LINKS],
+    flags: &[u8; Sheet::LINKS],
     y: u16,
 ) -> bool
-    requires { ⌜ Tables sheet figure (now laid) (now chains) kinds to × (y ≤ sheet .«class_count») ⌝ }
-    ensures { λ r. ⌜ Completes sheet figure taken to flags r ⌝ }
+    requires { ⌜ ((sheet : NormalForm) × (figure : NormalForm) × Tables sheet figure nets (now laid) (now chains) (now kinds) (now to)) × (length (now flags) ≡ sheetLinks) × (y ≤ nets .links) ⌝ }
+    ensures { λ r. ⌜ ((sheet figure : NormalForm) → Tables sheet figure nets (now (laid .entry)) (now (chains .entry)) (now (kinds .entry)) (now (to .entry)) → Completes sheet figure (now (taken .entry)) (now (to .entry)) (now (flags .entry)) r) ⌝ }
 {
-    let fault = obstacle(sheet, figure, laid, chains, taken, to, flags, y);
+    let fault = obstacle(nets, laid, chains, taken, to, flags, y);
     if !fault.found {
         return true;
     }
     let links = fault.links;
     let mut x = 0;
-    while x < figure.class_count {
+    while x < nets.count {
         if first_of_kind(flags, kinds, x) {
-            if mendable(
-                sheet,
-                figure,
-                laid,
-                chains,
-                taken,
-                kinds,
-                to,
-                flags,
-                links,
-                x,
-            ) {
+            if mendable(nets, laid, chains, taken, kinds, to, flags, &links, x) {
                 return true;
             }
         }
@@ -75,29 +64,28 @@ pub(crate) fn completable(
 
 // The same with link x at one of `links`.
 fn mendable(
-    sheet: Normal,
-    figure: Normal,
+    nets: Nets,
     laid: &[u16; LAID],
     chains: &[u16; CHAINS],
-    taken: [u8; Sheet::ATOMS],
-    kinds: [u16; Sheet::LINKS],
-    to: [u16; Sheet::LINKS],
-    flags: [u8; Sheet::LINKS],
-    links: [u8; Sheet::LINKS],
+    taken: &[u8; Sheet::ATOMS],
+    kinds: &[u16; Sheet::LINKS],
+    to: &[u16; Sheet::LINKS],
+    flags: &[u8; Sheet::LINKS],
+    links: &[u8; Sheet::LINKS],
     x: usize,
 ) -> bool
-    requires { ⌜ Tables sheet figure (now laid) (now chains) kinds to × (x < figure .«class_count») × (getD flags x 0 ≡ 1) ⌝ }
-    ensures { λ r. ⌜ CompletesAt sheet figure taken to flags links x r ⌝ }
+    requires { ⌜ ((sheet : NormalForm) × (figure : NormalForm) × Tables sheet figure nets (now laid) (now chains) (now kinds) (now to)) × (length (now flags) ≡ sheetLinks) × (x < nets .count) × (getD (now flags) x 0 ≡ 1) ⌝ }
+    ensures { λ r. ⌜ ((sheet figure : NormalForm) → Tables sheet figure nets (now (laid .entry)) (now (chains .entry)) (now (kinds .entry)) (now (to .entry)) → CompletesAt sheet figure (now (taken .entry)) (now (to .entry)) (now (flags .entry)) (now (links .entry)) x r) ⌝ }
 {
-    let mut rest = flags;
+    let mut next = *to;
+    let mut rest = *flags;
     rest[x] = 0;
     let mut y = 0;
-    while y < sheet.class_count {
+    while y < nets.links {
         if links[y] == 1 {
             let at = (y + 1) as u16;
-            let mut next = to;
             next[x] = at;
-            if completable(sheet, figure, laid, chains, taken, kinds, next, rest, at) {
+            if completable(nets, laid, chains, taken, kinds, &next, &rest, at) {
                 return true;
             }
         }

@@ -1,25 +1,30 @@
 // The least completion of placed atoms.
 use crate::completable::completable;
 use crate::settle::settled;
+use candidates::LAID;
+use candidates::frame::Frame;
 use deciding::decided::links_of;
 use deciding::kinds::kinds;
 use deciding::opening::open_links;
 use deciding::taken::taken_by;
 use faults::fault::find;
-use narrowing::LAID;
+use faults::nets::Nets;
 use rows::Sheet;
-use sheet::normal::Normal;
+use stepping::CHAINS;
 use stepping::chains::chains;
 ghost use mathlib.Core.Path.{_≡_};
 ghost use mathlib.Core.Bool.{true, false};
 ghost use mathlib.Core.Logic.{_↔_, _≢_};
 ghost use Prim.Native.Nat.{ℕ, _<_, _≤_};
-ghost use lib.ListN.{take, getD};
+ghost use lib.ListN.{length, take, getD};
 ghost use Rattle.rows.specs.Limits.{sheetLinks};
+ghost use Rattle.sheet.specs.declared.normal.Normal.{Normal as NormalForm};
 ghost use Rattle.network.specs.NetIn.{netIn};
 ghost use Rattle.network.specs.Ready.{Ready, AtomsIn, LinksIn};
 ghost use Rattle.network.specs.Begun.{leastAfter};
-ghost use Rattle.narrowing.specs.Laid.{LaidOut};
+ghost use Rattle.candidates.specs.Laid.{LaidOut};
+ghost use Rattle.candidates.specs.Frames.{whole};
+ghost use Rattle.faults.specs.Finds.{NetsIn};
 ghost use Rattle.settling.specs.Completed.{completedIn};
 ghost use Rattle.settling.specs.Completes.{LeastIn};
 
@@ -57,35 +62,36 @@ fn none_open(flags: &[u8; Sheet::LINKS], count: usize) -> bool
 
 // The least completion where the links with a flag are open. Where none is, one look for a fault decides.
 fn least(
-    sheet: Normal,
-    figure: Normal,
+    nets: Nets,
     laid: &[u16; LAID],
-    taken: [u8; Sheet::ATOMS],
-    to: [u16; Sheet::LINKS],
-    flags: [u8; Sheet::LINKS],
+    taken: &[u8; Sheet::ATOMS],
+    to: &[u16; Sheet::LINKS],
+    flags: &[u8; Sheet::LINKS],
 ) -> Completed
-    requires { ⌜ Ready sheet figure × LinksIn sheet figure to × LaidOut sheet (now laid) (sheet .«atom_count») ⌝ }
-    ensures { λ r. ⌜ LeastIn sheet figure taken to flags r ⌝ }
+    requires { ⌜ ((sheet : NormalForm) × (figure : NormalForm) × NetsIn sheet figure nets (now laid) × LinksIn sheet figure (now to)) × (length (now flags) ≡ sheetLinks) ⌝ }
+    ensures { λ r. ⌜ ((sheet figure : NormalForm) → NetsIn sheet figure nets (now (laid .entry)) → LinksIn sheet figure (now (to .entry)) → LeastIn sheet figure (now (taken .entry)) (now (to .entry)) (now (flags .entry)) r) ⌝ }
 {
-    let table = chains(sheet);
-    if none_open(&flags, figure.class_count) {
-        let only = find(sheet, figure, laid, &table, taken, to);
+    let mut table = [0u16; CHAINS];
+    chains(&mut table, laid, nets.atoms);
+    if none_open(flags, nets.count) {
+        let only = find(nets, laid, &table, taken, to);
         if only.found {
             return nothing();
         }
         let given = only.given;
         return Completed {
             ok: true,
-            links_to: to,
+            links_to: *to,
             given,
         };
     }
-    let kind = kinds(figure);
-    if !completable(sheet, figure, laid, &table, taken, kind, to, flags, 0) {
+    let contexts = nets.contexts;
+    let kind = kinds(contexts, nets.rows);
+    if !completable(nets, laid, &table, taken, &kind, to, flags, 0) {
         return nothing();
     }
-    let links_to = settled(sheet, figure, laid, &table, taken, kind, to, flags);
-    let last = find(sheet, figure, laid, &table, taken, links_to);
+    let links_to = settled(nets, laid, &table, taken, &kind, to, flags);
+    let last = find(nets, laid, &table, taken, &links_to);
     let given = last.given;
     Completed {
         ok: true,
@@ -97,14 +103,14 @@ fn least(
 // Links and contexts of the least good placing with these atoms. `laid` are the sheet's atoms, `parts` the
 // figure's.
 pub fn complete<'a>(
-    sheet: Normal,
-    figure: Normal,
+    sheet: Frame,
+    figure: Frame,
     laid: &'a [u16; LAID],
     parts: &'a [u16; LAID],
     atoms_to: [u16; Sheet::ATOMS],
 ) -> Completed
-    requires { ⌜ Ready sheet figure × AtomsIn sheet (figure .«atom_count») «atoms_to» × LaidOut sheet (now laid) (sheet .«atom_count») × LaidOut figure (now parts) (figure .«atom_count») ⌝ }
-    ensures { λ r. ⌜ completedIn sheet figure r ≡ leastAfter (netIn sheet) (netIn figure) (take (figure .«atom_count») «atoms_to») ⌝ }
+    requires { ⌜ Ready (whole sheet (now laid)) (whole figure (now parts)) × AtomsIn (whole sheet (now laid)) (figure .«atom_count») «atoms_to» × LaidOut (whole sheet (now laid)) (now laid) (sheet .«atom_count») × LaidOut (whole figure (now parts)) (now parts) (figure .«atom_count») ⌝ }
+    ensures { λ r. ⌜ completedIn (whole sheet (now (laid .entry))) (whole figure (now (parts .entry))) r ≡ leastAfter (netIn (whole sheet (now (laid .entry)))) (netIn (whole figure (now (parts .entry)))) (take (figure .«atom_count») «atoms_to») ⌝ }
 {
     let taken = taken_by(figure.atom_count, atoms_to);
     if !taken.ok {
@@ -117,8 +123,16 @@ pub fn complete<'a>(
     let told = links.to;
     let none = (sheet.class_count + 1) as u16;
     let opened = open_links(told, none, figure.class_count);
+    let contexts = figure.contexts;
+    let nets = Nets {
+        atoms: sheet.atom_count,
+        links: sheet.class_count,
+        contexts,
+        rows: figure.context_count,
+        count: figure.class_count,
+    };
     let flags = taken.flags;
     let to = opened.to;
     let open = opened.flags;
-    least(sheet, figure, laid, flags, to, open)
+    least(nets, laid, &flags, &to, &open)
 }

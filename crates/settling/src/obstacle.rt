@@ -1,38 +1,40 @@
 // What stands in the way of completing once one more link is settled.
+use candidates::LAID;
 use faults::fault::Fault;
 use faults::fault::find;
-use narrowing::LAID;
+use faults::nets::Nets;
 use rows::Sheet;
-use sheet::normal::Normal;
 use stepping::CHAINS;
 use stepping::torn::torn;
 ghost use Prim.Native.Nat.{_≤_};
-ghost use Rattle.network.specs.Ready.{Ready, LinksIn};
-ghost use Rattle.narrowing.specs.Laid.{LaidOut};
-ghost use Rattle.stepping.specs.Chains.{ChainsIn};
+ghost use mathlib.Core.Path.{_≡_};
+ghost use lib.ListN.{length};
+ghost use Rattle.rows.specs.Limits.{sheetLinks};
+ghost use Rattle.sheet.specs.declared.normal.Normal.{Normal as NormalForm};
+ghost use Rattle.faults.specs.Finds.{Over};
 ghost use Rattle.settling.specs.Completes.{Hinders};
 
 // The last link was settled at sheet link y, 0 where there was none. The fault has no links where no unsettled
 // link can mend it.
 pub(crate) fn obstacle(
-    sheet: Normal,
-    figure: Normal,
+    nets: Nets,
     laid: &[u16; LAID],
     chains: &[u16; CHAINS],
-    taken: [u8; Sheet::ATOMS],
-    to: [u16; Sheet::LINKS],
-    flags: [u8; Sheet::LINKS],
+    taken: &[u8; Sheet::ATOMS],
+    to: &[u16; Sheet::LINKS],
+    flags: &[u8; Sheet::LINKS],
     y: u16,
 ) -> Fault
-    requires { ⌜ Ready sheet figure × ChainsIn sheet (now chains) × LinksIn sheet figure to × (y ≤ sheet .«class_count») × LaidOut sheet (now laid) (sheet .«atom_count») ⌝ }
-    ensures { λ r. ⌜ Hinders sheet figure taken to flags r ⌝ }
+    requires { ⌜ ((sheet : NormalForm) × (figure : NormalForm) × Over sheet figure nets (now laid) (now chains) (now to)) × (length (now flags) ≡ sheetLinks) × (y ≤ nets .links) ⌝ }
+    ensures { λ r. ⌜ ((sheet figure : NormalForm) → Over sheet figure nets (now (laid .entry)) (now (chains .entry)) (now (to .entry)) → Hinders sheet figure (now (taken .entry)) (now (to .entry)) (now (flags .entry)) r) ⌝ }
 {
-    if torn(figure, &to, &flags, y) {
+    let contexts = nets.contexts;
+    if torn(contexts, nets.rows, nets.count, to, flags, y) {
         return Fault {
             found: true,
             links: [0; Sheet::LINKS],
             given: [0; Sheet::ATOMS],
         };
     }
-    find(sheet, figure, laid, chains, taken, to)
+    find(nets, laid, chains, taken, to)
 }

@@ -1,37 +1,38 @@
 // The open links settled one by one, each at the first sheet link with which the rest can be completed.
 use crate::completable::completable;
-use narrowing::LAID;
+use candidates::LAID;
+use faults::nets::Nets;
 use rows::Sheet;
-use sheet::normal::Normal;
 use stepping::CHAINS;
 ghost use Prim.Native.Nat.{_<_};
 ghost use mathlib.Core.Path.{_≡_};
-ghost use lib.ListN.{getD};
+ghost use lib.ListN.{length, getD};
+ghost use Rattle.rows.specs.Limits.{sheetLinks};
+ghost use Rattle.sheet.specs.declared.normal.Normal.{Normal as NormalForm};
 ghost use Rattle.settling.specs.Completes.{Tables, FirstFor, Settles};
 
 // The first sheet link for link x, and none last.
 fn first_link(
-    sheet: Normal,
-    figure: Normal,
+    nets: Nets,
     laid: &[u16; LAID],
     chains: &[u16; CHAINS],
-    taken: [u8; Sheet::ATOMS],
-    kinds: [u16; Sheet::LINKS],
-    to: [u16; Sheet::LINKS],
-    flags: [u8; Sheet::LINKS],
+    taken: &[u8; Sheet::ATOMS],
+    kinds: &[u16; Sheet::LINKS],
+    to: &[u16; Sheet::LINKS],
+    flags: &[u8; Sheet::LINKS],
     x: usize,
 ) -> u16
-    requires { ⌜ Tables sheet figure (now laid) (now chains) kinds to × (x < figure .«class_count») × (getD flags x 0 ≡ 1) ⌝ }
-    ensures { λ r. ⌜ FirstFor sheet figure taken to flags x r ⌝ }
+    requires { ⌜ ((sheet : NormalForm) × (figure : NormalForm) × Tables sheet figure nets (now laid) (now chains) (now kinds) (now to)) × (length (now flags) ≡ sheetLinks) × (x < nets .count) × (getD (now flags) x 0 ≡ 1) ⌝ }
+    ensures { λ r. ⌜ ((sheet figure : NormalForm) → Tables sheet figure nets (now (laid .entry)) (now (chains .entry)) (now (kinds .entry)) (now (to .entry)) → FirstFor sheet figure (now (taken .entry)) (now (to .entry)) (now (flags .entry)) x r) ⌝ }
 {
-    let mut rest = flags;
+    let mut next = *to;
+    let mut rest = *flags;
     rest[x] = 0;
     let mut y = 0;
-    while y < sheet.class_count {
+    while y < nets.links {
         let at = (y + 1) as u16;
-        let mut next = to;
         next[x] = at;
-        if completable(sheet, figure, laid, chains, taken, kinds, next, rest, at) {
+        if completable(nets, laid, chains, taken, kinds, &next, &rest, at) {
             return at;
         }
         y += 1;
@@ -40,24 +41,23 @@ fn first_link(
 }
 
 pub(crate) fn settled(
-    sheet: Normal,
-    figure: Normal,
+    nets: Nets,
     laid: &[u16; LAID],
     chains: &[u16; CHAINS],
-    taken: [u8; Sheet::ATOMS],
-    kinds: [u16; Sheet::LINKS],
-    to: [u16; Sheet::LINKS],
-    flags: [u8; Sheet::LINKS],
+    taken: &[u8; Sheet::ATOMS],
+    kinds: &[u16; Sheet::LINKS],
+    to: &[u16; Sheet::LINKS],
+    flags: &[u8; Sheet::LINKS],
 ) -> [u16; Sheet::LINKS]
-    requires { ⌜ Tables sheet figure (now laid) (now chains) kinds to ⌝ }
-    ensures { λ r. ⌜ Settles sheet figure taken to flags r ⌝ }
+    requires { ⌜ ((sheet : NormalForm) × (figure : NormalForm) × Tables sheet figure nets (now laid) (now chains) (now kinds) (now to)) × (length (now flags) ≡ sheetLinks) ⌝ }
+    ensures { λ r. ⌜ ((sheet figure : NormalForm) → Tables sheet figure nets (now (laid .entry)) (now (chains .entry)) (now (kinds .entry)) (now (to .entry)) → Settles sheet figure (now (taken .entry)) (now (to .entry)) (now (flags .entry)) r) ⌝ }
 {
-    let mut next = to;
-    let mut rest = flags;
+    let mut next = *to;
+    let mut rest = *flags;
     let mut x = 0;
-    while x < figure.class_count {
+    while x < nets.count {
         if rest[x] == 1 {
-            let y = first_link(sheet, figure, laid, chains, taken, kinds, next, rest, x);
+            let y = first_link(nets, laid, chains, taken, kinds, &next, &rest, x);
             next[x] = y;
             rest[x] = 0;
         }

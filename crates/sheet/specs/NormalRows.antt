@@ -31,14 +31,24 @@ symbolRow a = linkedRow 83 (a .name) (a .count) (a .links)
 abbrev pub blankRow : Context → List ℕ
 blankRow c = linkedRow 66 (c .number) (c .count) (c .links)
 
+-- the rows of arrays, by place
+abbrev pub atomRowIn : List Atom → ℕ → List ℕ
+atomRowIn atoms k = symbolRow (getD atoms k pastAtoms)
+
+abbrev pub contextRowIn : List Context → ℕ → List ℕ
+contextRowIn contexts k = blankRow (getD contexts k pastContexts)
+
+abbrev pub markRowIn : List ℕ → List ℕ → ℕ → List ℕ
+markRowIn marked marks k = rowBytes 69 (getD marked k 0 ∷ getD marks k 0 ∷ [])
+
 abbrev pub atomRow : Normal → ℕ → List ℕ
-atomRow n k = symbolRow (getD (n .atoms) k pastAtoms)
+atomRow n = atomRowIn (n .atoms)
 
 abbrev pub contextRow : Normal → ℕ → List ℕ
-contextRow n k = blankRow (getD (n .contexts) k pastContexts)
+contextRow n = contextRowIn (n .contexts)
 
 abbrev pub markRow : Normal → ℕ → List ℕ
-markRow n k = rowBytes 69 (getD (n .marked) k 0 ∷ getD (n .marks) k 0 ∷ [])
+markRow n = markRowIn (n .marked) (n .marks)
 
 -- the S rows, then the B rows, then the E rows
 unfoldable pub normalRows : Normal → List ℕ
@@ -50,11 +60,21 @@ pub record Narrow (first count : ℕ) (links : List ℕ) : Type 0 where
   pub counted : count ≤ mostLinks
   pub linked : (k : ℕ) → k < count → getD links k 0 ≤ 9999
 
+-- so do those of the first so many atoms, contexts or marks
+abbrev pub AtomsNarrow : List Atom → ℕ → Type 0
+AtomsNarrow atoms n = (k : ℕ) → k < n → Narrow (getD atoms k pastAtoms .name) (getD atoms k pastAtoms .count) (getD atoms k pastAtoms .links)
+
+abbrev pub ContextsNarrow : List Context → ℕ → Type 0
+ContextsNarrow contexts n = (k : ℕ) → k < n → Narrow (getD contexts k pastContexts .number) (getD contexts k pastContexts .count) (getD contexts k pastContexts .links)
+
+abbrev pub MarksNarrow : List ℕ → List ℕ → ℕ → Type 0
+MarksNarrow marked marks n = (k : ℕ) → k < n → (getD marked k 0 ≤ 9999) × (getD marks k 0 ≤ 9999)
+
 -- a normal form whose rows can be written
 pub record Writable (n : Normal) : Type 0 where
   pub atoms : n .«atom_count» ≤ sheetAtoms
   pub contexts : n .«context_count» ≤ figureContexts
   pub marks : n .«mark_count» ≤ sheetMarks
-  pub atomNumbers : (k : ℕ) → k < n .«atom_count» → Narrow (getD (n .atoms) k pastAtoms .name) (getD (n .atoms) k pastAtoms .count) (getD (n .atoms) k pastAtoms .links)
-  pub contextNumbers : (k : ℕ) → k < n .«context_count» → Narrow (getD (n .contexts) k pastContexts .number) (getD (n .contexts) k pastContexts .count) (getD (n .contexts) k pastContexts .links)
-  pub markNumbers : (k : ℕ) → k < n .«mark_count» → (getD (n .marked) k 0 ≤ 9999) × (getD (n .marks) k 0 ≤ 9999)
+  pub atomNumbers : AtomsNarrow (n .atoms) (n .«atom_count»)
+  pub contextNumbers : ContextsNarrow (n .contexts) (n .«context_count»)
+  pub markNumbers : MarksNarrow (n .marked) (n .marks) (n .«mark_count»)

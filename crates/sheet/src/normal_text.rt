@@ -1,5 +1,7 @@
 // The text of a normal form: its rows, one after the other.
 use crate::normal::Normal;
+use rows::Atom;
+use rows::Context;
 use rows::Sheet;
 use rows::write::put_row;
 ghost use mathlib.Core.Path.{_≡_};
@@ -8,7 +10,8 @@ ghost use Prim.Native.Nat.{_+_, _*_, _≤_};
 ghost use lib.ListN.{length, take, drop};
 ghost use Rattle.rows.specs.Format.{rowWidth};
 ghost use Rattle.rows.specs.RowText.{rowBytes};
-ghost use Rattle.sheet.specs.NormalRows.{rowsTo, linkedRow, atomRow, contextRow, markRow, normalRows, Narrow, Writable};
+ghost use Rattle.rows.specs.Limits.{sheetAtoms, figureContexts, sheetMarks};
+ghost use Rattle.sheet.specs.NormalRows.{rowsTo, linkedRow, atomRowIn, contextRowIn, markRowIn, normalRows, Narrow, AtomsNarrow, ContextsNarrow, MarksNarrow, Writable};
 
 // The numbers of a row with links: a name or a number, the link count, the links.
 fn row_numbers(first: u16, count: u16, links: [u16; Sheet::MOST_LINKS]) -> [u16; Sheet::FIELDS]
@@ -43,15 +46,15 @@ fn put_linked(
 }
 
 // The S rows, from byte `at` on; the byte after them.
-fn put_atoms(normal: Normal, out: &mut [u8], at: usize) -> usize
-    requires { ⌜ Writable normal ⌝ }
-    requires { ⌜ at + normal .«atom_count» * rowWidth ≤ length (now out) ⌝ }
-    ensures { λ r. ⌜ r ≡ at + normal .«atom_count» * rowWidth ⌝ }
-    ensures { λ _. ⌜ now (out .exit) ≡ take at (now (out .entry)) ++ rowsTo (atomRow normal) (normal .«atom_count») ++ drop (at + normal .«atom_count» * rowWidth) (now (out .entry)) ⌝ }
+fn put_atoms(atoms: [Atom; Sheet::ATOM_ROOM], count: usize, out: &mut [u8], at: usize) -> usize
+    requires { ⌜ (count ≤ sheetAtoms) × AtomsNarrow atoms count ⌝ }
+    requires { ⌜ at + count * rowWidth ≤ length (now out) ⌝ }
+    ensures { λ r. ⌜ r ≡ at + count * rowWidth ⌝ }
+    ensures { λ _. ⌜ now (out .exit) ≡ take at (now (out .entry)) ++ rowsTo (atomRowIn atoms) count ++ drop (at + count * rowWidth) (now (out .entry)) ⌝ }
 {
     let mut k = 0;
-    while k < normal.atom_count {
-        let atom = normal.atoms[k];
+    while k < count {
+        let atom = atoms[k];
         let links = atom.links;
         put_linked(out, at + k * Sheet::ROW, b'S', atom.name, atom.count, links);
         k += 1;
@@ -60,15 +63,20 @@ fn put_atoms(normal: Normal, out: &mut [u8], at: usize) -> usize
 }
 
 // The B rows, from byte `at` on; the byte after them.
-fn put_contexts(normal: Normal, out: &mut [u8], at: usize) -> usize
-    requires { ⌜ Writable normal ⌝ }
-    requires { ⌜ at + normal .«context_count» * rowWidth ≤ length (now out) ⌝ }
-    ensures { λ r. ⌜ r ≡ at + normal .«context_count» * rowWidth ⌝ }
-    ensures { λ _. ⌜ now (out .exit) ≡ take at (now (out .entry)) ++ rowsTo (contextRow normal) (normal .«context_count») ++ drop (at + normal .«context_count» * rowWidth) (now (out .entry)) ⌝ }
+fn put_contexts(
+    contexts: [Context; Sheet::CONTEXT_ROOM],
+    count: usize,
+    out: &mut [u8],
+    at: usize,
+) -> usize
+    requires { ⌜ (count ≤ figureContexts) × ContextsNarrow contexts count ⌝ }
+    requires { ⌜ at + count * rowWidth ≤ length (now out) ⌝ }
+    ensures { λ r. ⌜ r ≡ at + count * rowWidth ⌝ }
+    ensures { λ _. ⌜ now (out .exit) ≡ take at (now (out .entry)) ++ rowsTo (contextRowIn contexts) count ++ drop (at + count * rowWidth) (now (out .entry)) ⌝ }
 {
     let mut k = 0;
-    while k < normal.context_count {
-        let context = normal.contexts[k];
+    while k < count {
+        let context = contexts[k];
         let links = context.links;
         put_linked(
             out,
@@ -96,15 +104,21 @@ fn put_mark(out: &mut [u8], at: usize, link: u16, mark: u16)
 }
 
 // The E rows, from byte `at` on; the byte after them.
-fn put_marks(normal: Normal, out: &mut [u8], at: usize) -> usize
-    requires { ⌜ Writable normal ⌝ }
-    requires { ⌜ at + normal .«mark_count» * rowWidth ≤ length (now out) ⌝ }
-    ensures { λ r. ⌜ r ≡ at + normal .«mark_count» * rowWidth ⌝ }
-    ensures { λ _. ⌜ now (out .exit) ≡ take at (now (out .entry)) ++ rowsTo (markRow normal) (normal .«mark_count») ++ drop (at + normal .«mark_count» * rowWidth) (now (out .entry)) ⌝ }
+fn put_marks(
+    marked: [u16; Sheet::MARK_ROOM],
+    marks: [u16; Sheet::MARK_ROOM],
+    count: usize,
+    out: &mut [u8],
+    at: usize,
+) -> usize
+    requires { ⌜ (count ≤ sheetMarks) × MarksNarrow marked marks count ⌝ }
+    requires { ⌜ at + count * rowWidth ≤ length (now out) ⌝ }
+    ensures { λ r. ⌜ r ≡ at + count * rowWidth ⌝ }
+    ensures { λ _. ⌜ now (out .exit) ≡ take at (now (out .entry)) ++ rowsTo (markRowIn marked marks) count ++ drop (at + count * rowWidth) (now (out .entry)) ⌝ }
 {
     let mut k = 0;
-    while k < normal.mark_count {
-        put_mark(out, at + k * Sheet::ROW, normal.marked[k], normal.marks[k]);
+    while k < count {
+        put_mark(out, at + k * Sheet::ROW, marked[k], marks[k]);
         k += 1;
     }
     at + k * Sheet::ROW
@@ -117,7 +131,11 @@ pub fn write_normal(normal: Normal, out: &mut [u8]) -> usize
     ensures { λ r. ⌜ r ≡ length (normalRows normal) ⌝ }
     ensures { λ _. ⌜ now (out .exit) ≡ normalRows normal ++ drop (length (normalRows normal)) (now (out .entry)) ⌝ }
 {
-    let contexts = put_atoms(normal, out, 0);
-    let marks = put_contexts(normal, out, contexts);
-    put_marks(normal, out, marks)
+    let atoms = normal.atoms;
+    let contexts = normal.contexts;
+    let marked = normal.marked;
+    let marks = normal.marks;
+    let end = put_atoms(atoms, normal.atom_count, out, 0);
+    let end = put_contexts(contexts, normal.context_count, out, end);
+    put_marks(marked, marks, normal.mark_count, out, end)
 }

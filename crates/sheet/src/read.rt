@@ -15,6 +15,7 @@ use rows::entry::atom_of;
 use rows::entry::context_of;
 use rows::entry::is_context;
 use rows::entry::row_ports;
+use rows::place::HINTS;
 use rows::row::Row;
 use rows::row::read_row;
 use rows::take::add_row_links;
@@ -211,7 +212,7 @@ fn turned_down(answer: Answer) -> Reading
 }
 
 // The one walk over rows. `pattern` has the port counts of the pattern's contexts, for a replacement;
-// `labels` has the class of each link, and `on` the place of each mark's link.
+// `labels` has the class of each link, `on` the place of each mark's link, and `hints` where to look for a link first.
 pub fn read_text(kind: Kind, pattern: [u16; Sheet::NUMBERS], text: &[u8]) -> Reading
     ensures { λ r. ⌜ r ≡ readingOf (outcomeOf kind pattern (now (text .entry))) ⌝ }
 {
@@ -222,6 +223,7 @@ pub fn read_text(kind: Kind, pattern: [u16; Sheet::NUMBERS], text: &[u8]) -> Rea
     let mut labels = [0; Sheet::LINK_ROOM];
     let mut marks = [0; Sheet::MARK_ROOM];
     let mut on = [0; Sheet::MARK_ROOM];
+    let mut hints = [0u8; HINTS];
     let mut a = 0;
     let mut c = 0;
     let mut n = 0;
@@ -241,7 +243,7 @@ pub fn read_text(kind: Kind, pattern: [u16; Sheet::NUMBERS], text: &[u8]) -> Rea
         c += counted(is_context(row.letter));
         let table = row_ports(ports, row);
         ports = table;
-        n = add_row_links(&mut links, &mut labels, n, row);
+        n = add_row_links(&mut links, &mut labels, n, row, &mut hints);
         m = add_row_mark(&links, &mut labels, &mut marks, &mut on, n, m, row);
         k += 1;
         let answer = late_answer(kind, a, c, n, m, clash, k);

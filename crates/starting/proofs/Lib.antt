@@ -7,4 +7,5 @@ pub mod GoodLinks
 pub mod Tallies
 pub mod Ports
 pub mod Marking
+pub mod Filling
 pub mod Starting

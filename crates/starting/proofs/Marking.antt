@@ -8,8 +8,8 @@ use Rattle.hyperlmntal.specs.Link.{_∈_}
 use Rattle.sheet.specs.declared.normal.Normal.{Normal as NormalForm}
 use Rattle.network.specs.NetIn.{netIn}
 use Rattle.network.proofs.NetIn.{mark-in, mark-of}
-use Rattle.narrowing.specs.Marks.{MarksIn}
-use Rattle.narrowing.proofs.Marks.{mark-links}
+use Rattle.candidates.specs.Marks.{MarksIn}
+use Rattle.candidates.proofs.Marks.{mark-links}
 use Rattle.starting.specs.Steps.{Enough, MarksOn, MarksBack}
 
 module _ (net : NormalForm) (marks marked : List ℕ) (n : ℕ) (o : MarksIn net marks marked n) where

@@ -11,11 +11,11 @@ use Rattle.sheet.specs.declared.normal.Normal.{Normal as NormalForm}
 use Rattle.placing.specs.Net.{NetCell, cellLinks}
 use Rattle.placing.proofs.Lists.{member-at, getD-of}
 use Rattle.placing.proofs.Standing.{of-cells}
-use Rattle.network.specs.NetIn.{contextIn, netIn, contextAt, Fit}
+use Rattle.network.specs.NetIn.{contextIn, netIn, rowAt, contextAt, Fit}
 use Rattle.network.proofs.NetIn.{used-length, used-at, contexts-length, context-index}
-use Rattle.narrowing.specs.Tables.{StaysCleared}
-use Rattle.narrowing.proofs.NetRows.{row-wider}
-use Rattle.starting.specs.Steps.{nthContext, Ported, PortsCleared}
+use Rattle.candidates.specs.Tables.{StaysCleared}
+use Rattle.candidates.proofs.NetRows.{row-wider}
+use Rattle.starting.specs.Steps.{LinksNumbered, PortsCleared}
 
 module _ (n : NormalForm) (fit : Fit n) where
   -- where a context has a link
@@ -44,12 +44,12 @@ module _ (n : NormalForm) (fit : Fit n) where
           record { context = i; of-net = h; place = z .0; of-row = g; there = sym (used-at _ _ _ f (z .0) g) ∙ getD-of (take (c .count) (c .links)) (z .0) 0 x (z .2) }
 
 module _ (l : List Context) (a b : List ℕ) (i : ℕ) where
-  pub ports-next : PortsCleared l i a → StaysCleared a b → ((k : ℕ) → k < nthContext l i .count → getD b (getD (nthContext l i .links) k 0 - 1) 0 ≡ 0) → PortsCleared l (i + 1) b
+  pub ports-next : PortsCleared l i a → StaysCleared a b → ((k : ℕ) → k < rowAt l i .count → getD b (getD (rowAt l i .links) k 0 - 1) 0 ≡ 0) → PortsCleared l (i + 1) b
   ports-next f s g h k u m = go (ℕ-discrete h i)
     where
-      go : Dec (h ≡ i) → getD b (getD (nthContext l h .links) k 0 - 1) 0 ≡ 0
-      go (yes e) = subst (λ (j : ℕ). getD b (getD (nthContext l j .links) k 0 - 1) 0 ≡ 0) (sym e) (g k (subst (λ (j : ℕ). k < nthContext l j .count) e m))
-      go (no d) = s (getD (nthContext l h .links) k 0 - 1) (f h k (omega arith) m)
+      go : Dec (h ≡ i) → getD b (getD (rowAt l h .links) k 0 - 1) 0 ≡ 0
+      go (yes e) = subst (λ (j : ℕ). getD b (getD (rowAt l j .links) k 0 - 1) 0 ≡ 0) (sym e) (g k (subst (λ (j : ℕ). k < rowAt l j .count) e m))
+      go (no d) = s (getD (rowAt l h .links) k 0 - 1) (f h k (omega arith) m)
 
 pub ports-all : (n : NormalForm) → Fit n → (a : List ℕ) → PortsCleared (n .contexts) (n .«context_count») a → (x : ℕ) → (x + 1) ∈ cellLinks ((netIn n) .contexts) → getD a x 0 ≡ 0
 ports-all n fit a f x m =
@@ -57,5 +57,5 @@ ports-all n fit a f x m =
     subst (λ (q : ℕ). getD a q 0 ≡ 0) (let q : getD (contextAt n (t .context) .links) (t .place) 0 - 1 ≡ x = omega (arith, t .there) in q) (f (t .context) (t .place) (t .of-net) (t .of-row))
 
 -- the contexts of a net
-pub net-ported : (n : NormalForm) → Fit n → Ported (n .contexts) (n .«context_count»)
+pub net-ported : (n : NormalForm) → Fit n → LinksNumbered (n .contexts) (n .«context_count»)
 net-ported n fit = record { few = fit .context-count; links = λ i h. row-wider (fit .contexts i h) (fit .class-count) }

@@ -1,39 +1,37 @@
 -- A good placing stays in the sets of the start, as the arrays have them.
-use Prim.Native.Nat.{ℕ, _+_, _-_, _*_, _<_}
+use Prim.Native.Nat.{ℕ, _+_, _-_, _<_}
 use mathlib.Core.Path.{_≡_, refl, sym, _∙_, ap, subst}
 use mathlib.Core.List.{List, []}
 use native.Mathlib.Omega.{arith}
-use lib.ListN.{length, getD, replicate, getD-replicate}
+use lib.ListN.{length, getD}
 use Rattle.hyperlmntal.specs.Link.{_∈_}
-use Rattle.rows.specs.Limits.{sheetAtoms, sheetLinks}
+use Rattle.rows.specs.Limits.{sheetLinks}
 use Rattle.rows.specs.declared.Atom.{Atom}
 use Rattle.sheet.specs.declared.normal.Normal.{Normal as NormalForm}
 use Rattle.placing.specs.Net.{Net, Range, cellLinks, Normal}
 use Rattle.placing.specs.Placing.{Placing, atomTo, linkTo, Good}
 use Rattle.network.specs.NetIn.{netIn, atomAt, Fit}
-use Rattle.narrowing.specs.Laid.{laidAtom, LaidOut}
-use Rattle.narrowing.specs.Sets.{Decided, Keeps}
-use Rattle.narrowing.specs.Tables.{mayAtom, mayLink, Stays}
-use Rattle.narrowing.proofs.GoodPlaces.{decided-real, decided-link}
-use Rattle.narrowing.proofs.NetRows.{atom-name}
-use Rattle.narrowing.proofs.Staying.{stays-more}
-use Rattle.narrowing.proofs.Obeying.{here, there, same-count, link-sent, link-place}
+use Rattle.candidates.specs.Laid.{laidAtom, LaidOut}
+use Rattle.candidates.specs.Sets.{Decided, Keeps}
+use Rattle.candidates.specs.Tables.{AtomIn, LinkIn, mayAtom, mayLink, LinksStay}
+use Rattle.candidates.proofs.GoodPlaces.{decided-real, decided-link}
+use Rattle.candidates.proofs.NetRows.{atom-name}
+use Rattle.candidates.proofs.Sending.{here, there, there-index, same-count, link-sent, link-place}
 use Rattle.starting.specs.Count.{count}
 use Rattle.starting.specs.Steps.{Alike, placesOf, Enough, MarksOn, MarksBack}
 use Rattle.starting.proofs.Marking.{enough-same}
 use Rattle.starting.proofs.GoodLinks.{places-among, closed-marks, closed-places}
 
 -- atoms of nets that are alike, as they are laid out
-pub alike-laid : (S F : NormalForm) (sheet : List ℕ) (n : ℕ) (figure : List ℕ) (m : ℕ) → LaidOut S sheet n → LaidOut F figure m → (a b : List ℕ)
-    → Stays sheetAtoms a b (λ i t. i < m → t < n → Alike (laidAtom figure i) (laidAtom sheet t)) → Stays sheetAtoms a b (λ i t. i < m → t < n → Alike (atomAt F i) (atomAt S t))
-alike-laid S F sheet n figure m os of a b s = stays-more sheetAtoms a b _ s _
-    (λ i t q f h k. subst (λ (w : Atom). Alike w (laidAtom sheet t)) (sym (of .atoms i h)) (subst (λ (w : Atom). Alike (atomAt F i) w) (sym (os .atoms t k)) (f h k)))
+pub alike-laid : (S F : NormalForm) (sheet : List ℕ) (n : ℕ) (figure : List ℕ) (m : ℕ) → LaidOut S sheet n → LaidOut F figure m → (a : List ℕ)
+    → ((i t : ℕ) → i < m → t < n → Alike (laidAtom figure i) (laidAtom sheet t) → AtomIn a i t) → (i t : ℕ) → i < m → t < n → Alike (atomAt F i) (atomAt S t) → AtomIn a i t
+alike-laid S F sheet n figure m os of a f i t h k like = f i t h k (subst (λ (w : Atom). Alike w (laidAtom sheet t)) (sym (of .atoms i h)) (subst (λ (w : Atom). Alike (atomAt F i) w) (sym (os .atoms t k)) like))
 
 -- places of nets that are enough, as they are counted
-pub enough-counted : (S F : NormalForm) → Fit F → (closed wanted counts : List ℕ) → ((x : ℕ) → x < sheetLinks → getD wanted x 0 ≡ placesOf F x) → ((x : ℕ) → x < sheetLinks → getD counts x 0 ≡ placesOf S x) → (a b : List ℕ)
-    → Stays sheetLinks a b (λ x y. x < F .«class_count» → Enough (getD closed x 0) (getD wanted x 0) (getD counts y 0)) → Stays sheetLinks a b (λ x y. x < F .«class_count» → Enough (getD closed x 0) (placesOf F x) (placesOf S y))
-enough-counted S F ff closed wanted counts w c a b s = stays-more sheetLinks a b _ s _
-    (λ x y h f k. enough-same (f k) refl (sym (w x (omega (arith, k, ff .class-count)))) (sym (c y h)))
+pub enough-counted : (S F : NormalForm) → Fit S → Fit F → (closed wanted counts : List ℕ) → ((x : ℕ) → x < sheetLinks → getD wanted x 0 ≡ placesOf F x) → ((x : ℕ) → x < sheetLinks → getD counts x 0 ≡ placesOf S x) → (l : List ℕ)
+    → ((x y : ℕ) → x < F .«class_count» → y < S .«class_count» → Enough (getD closed x 0) (getD wanted x 0) (getD counts y 0) → LinkIn l x y)
+    → (x y : ℕ) → x < F .«class_count» → y < S .«class_count» → Enough (getD closed x 0) (placesOf F x) (placesOf S y) → LinkIn l x y
+enough-counted S F fs ff closed wanted counts w c l f x y h k e = f x y h k (enough-same e refl (sym (w x (omega (arith, h, ff .class-count)))) (sym (c y (omega (arith, k, fs .class-count)))))
 
 -- no context has a link that is 1 in the array
 abbrev pub ClosedIn : NormalForm → List ℕ → Type 0
@@ -76,21 +74,18 @@ module _ (sheet figure : NormalForm) (fs : Fit sheet) (ff : Fit figure) (NS : No
       back-at : getD closed (x - 1) 0 ≡ 1 → MarksBack sheet figure (x - 1) (linkTo p x - 1)
       back-at e m i = subst (λ (z : ℕ). (z, m) ∈ F .marks) (sym mine) (closed-marks S F NS NF p g x d (not-there e) m (subst (λ (z : ℕ). (z, m) ∈ S .marks) its i))
 
-  -- from arrays full of 1, by the four steps
+  -- by the four steps
   pub start-keeps : (a l₁ l₂ l₃ closed : List ℕ) → ClosedIn figure closed
-      → Stays sheetAtoms (replicate (sheetAtoms * sheetAtoms) 1) a (λ i t. i < figure .«atom_count» → t < sheet .«atom_count» → Alike (atomAt figure i) (atomAt sheet t))
-      → Stays sheetLinks (replicate (sheetLinks * sheetLinks) 1) l₁ (λ x y. x < figure .«class_count» → Enough (getD closed x 0) (placesOf figure x) (placesOf sheet y))
-      → Stays sheetLinks l₁ l₂ (MarksOn sheet figure)
-      → Stays sheetLinks l₂ l₃ (λ x y. getD closed x 0 ≡ 1 → MarksBack sheet figure x y)
+      → ((i t : ℕ) → i < figure .«atom_count» → t < sheet .«atom_count» → Alike (atomAt figure i) (atomAt sheet t) → AtomIn a i t)
+      → ((x y : ℕ) → x < figure .«class_count» → y < sheet .«class_count» → Enough (getD closed x 0) (placesOf figure x) (placesOf sheet y) → LinkIn l₁ x y)
+      → LinksStay l₁ l₂ (MarksOn sheet figure)
+      → LinksStay l₂ l₃ (λ x y. getD closed x 0 ≡ 1 → MarksBack sheet figure x y)
       → Keeps S F [] (mayAtom a) (mayLink l₃)
   start-keeps a l₁ l₂ l₃ closed shut alike enough on back p g b = record { atoms = atoms; links = links }
     where
       atoms : (i : ℕ) → Range (length (F .atoms)) i → mayAtom a i (atomTo p i)
-      atoms i r =
-          let u = here sheet figure fs ff NS NF p g i r in
-          let v = there sheet figure fs ff NS NF p g i r in
-          alike (i - 1) (atomTo p i - 1) (omega (arith, v .0, v .1, fs .atom-count))
-          (getD-replicate (sheetAtoms * sheetAtoms) ((i - 1) * sheetAtoms + (atomTo p i - 1)) 1 0 (omega (arith, u .0, u .1, v .0, v .1, fs .atom-count, ff .atom-count))) (λ h k. alike-at p g i r)
+      atoms i r = let u = here sheet figure fs ff NS NF p g i r in
+          alike (i - 1) (atomTo p i - 1) (omega (arith, u .0, u .1)) (there-index sheet figure fs ff NS NF p g i r) (alike-at p g i r)
 
       links : (x : ℕ) → Decided F x → mayLink l₃ x (linkTo p x)
       links x d =
@@ -98,7 +93,5 @@ module _ (sheet figure : NormalForm) (fs : Fit sheet) (ff : Fit figure) (NS : No
           let v = link-place sheet figure fs ff NS NF p g x d in
           let w : linkTo p x - 1 < sheetLinks = omega (arith, v, fs .class-count) in
           back (x - 1) (linkTo p x - 1) w
-          (on (x - 1) (linkTo p x - 1) w
-          (enough (x - 1) (linkTo p x - 1) w
-          (getD-replicate (sheetLinks * sheetLinks) ((x - 1) * sheetLinks + (linkTo p x - 1)) 1 0 (omega (arith, u .0, u .1, w, ff .class-count)))
-          (λ h. enough-at p g x d closed shut)) (on-at p g x d closed shut)) (back-at p g x d closed shut)
+          (on (x - 1) (linkTo p x - 1) w (enough (x - 1) (linkTo p x - 1) (omega (arith, u .0, u .1)) v (enough-at p g x d closed shut)) (on-at p g x d closed shut))
+          (back-at p g x d closed shut)

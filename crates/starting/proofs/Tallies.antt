@@ -13,7 +13,7 @@ use Rattle.rows.proofs.Padding.{getD-filled}
 use Rattle.sheet.specs.declared.normal.Normal.{Normal as NormalForm}
 use Rattle.placing.specs.Net.{Range, cellLinks}
 use Rattle.network.specs.NetIn.{atomIn}
-use Rattle.narrowing.specs.Laid.{laidAtom, LaidOut}
+use Rattle.candidates.specs.Laid.{laidAtom, LaidOut}
 use Rattle.starting.specs.Count.{one, count}
 use Rattle.starting.specs.Steps.{Tally}
 use Rattle.starting.proofs.Counting.{count-append}

@@ -1,7 +1,7 @@
 -- What the steps of the start look at, on the arrays of normal forms: atoms are counted from 0, links and marks by their numbers.
 use Prim.Native.Nat.{ℕ, _+_, _-_, _≤_, _<_}
 use mathlib.Core.Path.{_≡_}
-use mathlib.Core.List.{List, []}
+use mathlib.Core.List.{List}
 use lib.ListN.{length, getD}
 use Rattle.hyperlmntal.specs.Link.{_∈_}
 use Rattle.rows.specs.Limits.{sheetLinks, figureContexts}
@@ -9,8 +9,8 @@ use Rattle.rows.specs.declared.Atom.{Atom}
 use Rattle.rows.specs.declared.Context.{Context}
 use Rattle.sheet.specs.declared.normal.Normal.{Normal as NormalForm}
 use Rattle.placing.specs.Net.{cellLinks}
-use Rattle.network.specs.NetIn.{netIn, Used}
-use Rattle.narrowing.specs.Steps.{linkOf}
+use Rattle.network.specs.NetIn.{netIn, rowAt, Used}
+use Rattle.candidates.specs.Laid.{linkOf}
 use Rattle.starting.specs.Count.{count}
 
 -- equal links among the first n + 1 are equal in both, where the second is link n
@@ -27,18 +27,14 @@ pub record Alike (here there : Atom) : Type 0 where
 abbrev pub placesOf : NormalForm → ℕ → ℕ
 placesOf n x = count (x + 1) (cellLinks ((netIn n) .atoms))
 
--- context i of an array; past its end the logic reads zeros and an empty list
-abbrev pub nthContext : List Context → ℕ → Context
-nthContext l i = getD l i (record { number = 0; count = 0; links = []; row = 0 })
-
 -- the first n contexts have links that are numbers of links
-pub record Ported (contexts : List Context) (n : ℕ) : Type 0 where
+pub record LinksNumbered (contexts : List Context) (n : ℕ) : Type 0 where
   pub few : n ≤ figureContexts
-  pub links : (i : ℕ) → i < n → Used sheetLinks (nthContext contexts i .count) (nthContext contexts i .links)
+  pub links : (i : ℕ) → i < n → Used sheetLinks (rowAt contexts i .count) (rowAt contexts i .links)
 
 -- 0 at the links of the first n contexts
 abbrev pub PortsCleared : List Context → ℕ → List ℕ → Type 0
-PortsCleared contexts n a = (i k : ℕ) → i < n → k < nthContext contexts i .count → getD a (getD (nthContext contexts i .links) k 0 - 1) 0 ≡ 0
+PortsCleared contexts n a = (i k : ℕ) → i < n → k < rowAt contexts i .count → getD a (getD (rowAt contexts i .links) k 0 - 1) 0 ≡ 0
 
 -- a count for each link, none over n
 pub record Tally (l : List ℕ) (n : ℕ) : Type 0 where

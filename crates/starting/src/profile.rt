@@ -1,7 +1,7 @@
 // What a net says of each of its links: how many places of atoms it has, whether a context has it, and
 // which link has a mark.
-use narrowing::LAID;
-use narrowing::laid::laid_atom;
+use candidates::LAID;
+use candidates::laid::laid_atom;
 use rows::Atom;
 use rows::Context;
 use rows::Sheet;
@@ -13,11 +13,11 @@ ghost use Rattle.rows.specs.Format.{mostLinks};
 ghost use Rattle.rows.specs.Limits.{sheetAtoms, sheetLinks};
 ghost use Rattle.sheet.specs.declared.normal.Normal.{Normal as NormalForm};
 ghost use Rattle.network.specs.NetIn.{netIn, Used};
-ghost use Rattle.narrowing.specs.Laid.{Rowed, LaidOut};
-ghost use Rattle.narrowing.specs.Marks.{MarkLinks, MarksIn};
-ghost use Rattle.narrowing.specs.Tables.{StaysCleared};
+ghost use Rattle.candidates.specs.Laid.{Rowed, LaidOut};
+ghost use Rattle.candidates.specs.Marks.{MarkLinks, MarksIn};
+ghost use Rattle.candidates.specs.Tables.{StaysCleared};
 ghost use Rattle.starting.specs.Count.{count};
-ghost use Rattle.starting.specs.Steps.{placesOf, Tally, Ported, PortsCleared};
+ghost use Rattle.starting.specs.Steps.{placesOf, Tally, LinksNumbered, PortsCleared};
 
 // An atom's places added to the counts, each of which is at most n.
 fn count_places(atom: Atom, counts: &mut [u16; Sheet::LINKS], n: usize)
@@ -67,7 +67,7 @@ pub(crate) fn closed_links(
     n: usize,
     closed: &mut [u8; Sheet::LINKS],
 )
-    requires { ⌜ Ported contexts n ⌝ }
+    requires { ⌜ LinksNumbered contexts n ⌝ }
     ensures { λ _. ⌜ PortsCleared contexts n (now (closed .exit)) ⌝ }
 {
     let mut i = 0;
@@ -86,7 +86,8 @@ pub(crate) fn link_of<'a>(
     m: u16,
 ) -> usize
     requires { ⌜ MarkLinks (now marked) n ⌝ }
-    ensures { λ r. ⌜ ((net : NormalForm) → MarksIn net (now (marks .entry)) (now (marked .entry)) n → (x : ℕ) → (x, m) ∈ (netIn net) .marks → x ≡ r) ⌝ }
+    ensures within { λ r. ⌜ r ≤ sheetLinks ⌝ }
+    ensures found { λ r. ⌜ ((net : NormalForm) → MarksIn net (now (marks .entry)) (now (marked .entry)) n → (x : ℕ) → (x, m) ∈ (netIn net) .marks → x ≡ r) ⌝ }
 {
     let mut p = 0;
     while p < n {

@@ -9,12 +9,14 @@ use lib.ListN.{length, getD, set, length-set, replicate}
 use lib.Seq.{getD-set-same, getD-set-other, getD-take, length-take-le}
 use Rattle.rows.specs.Format.{mostLinks}
 use Rattle.rows.specs.Limits.{sheetLinks}
+use Rattle.rows.specs.declared.Atom.{Atom}
 use Rattle.placing.specs.Net.{Net}
 use Rattle.placing.specs.Placing.{cellAt}
 use Rattle.stepping.specs.Chains.{nodeOf, NodeOn, LastOn, Chained, RowIn}
 use Rattle.sheet.specs.declared.normal.Normal as form
 use Rattle.network.specs.NetIn.{netIn, atomAt, Fit}
 use Rattle.network.proofs.NetIn.{atoms-length}
+use Rattle.candidates.specs.Laid.{laidAtom, LaidOut}
 use Rattle.stepping.proofs.Tables.{zeros}
 use Rattle.stepping.proofs.Reading.{atom-links}
 
@@ -118,3 +120,7 @@ row-in sheet f j h = record {
   width = ap length (atom-links sheet f j h) ∙ length-take-le (atomAt sheet j .count) (atomAt sheet j .links) (let a = f .atoms j h .few in let b = f .atoms j h .width in omega arith);
   same = λ k l. ap (λ (m : List ℕ). getD m k 0) (atom-links sheet f j h) ∙ getD-take (atomAt sheet j .count) (atomAt sheet j .links) k 0 l;
 }
+
+-- the same of a row of the atoms that are laid out
+pub laid-in : (sheet : form.Normal) (laid : List ℕ) (n : ℕ) → LaidOut sheet laid n → (j : ℕ) → j < n → RowIn (netIn sheet) j (laidAtom laid j .links) (laidAtom laid j .count)
+laid-in sheet laid n o j h = subst (λ (a : Atom). RowIn (netIn sheet) j (a .links) (a .count)) (sym (o .atoms j h)) (row-in sheet (o .fit) j (omega (arith, o .count)))

@@ -87,6 +87,21 @@ module _ (to ports : List ℕ) (count : ℕ) where
       let a = r i n in let b = r k h in
       g (getD ports i 0 - 1) (getD ports k 0 - 1) (omega (arith, a .0, a .1)) (omega (arith, b .0, b .1)) (t i n e)
 
+  -- one port more is tied to those before it
+  pub tied-next : ((k : ℕ) → k < count → Range sheetLinks (getD ports k 0)) → (l m : List ℕ)
+      → ((x z : ℕ) → x < sheetLinks → z < sheetLinks → getD l x 0 ≡ getD l z 0 → getD m x 0 ≡ getD m z 0)
+      → (k : ℕ) → k < count → ((i : ℕ) → i < k → Tied to ports k l i) → Tied to ports k m k → (i : ℕ) → i < k + 1 → Tied to ports (k + 1) m i
+  tied-next r l m g k h f t i hi j hj e = at (ℕ-discrete i k) (ℕ-discrete j k)
+    where
+      Both : ℕ → ℕ → Type 0
+      Both x z = numberAt to (getD ports x 0) ≡ numberAt to (getD ports z 0) → numberAt m (getD ports x 0) ≡ numberAt m (getD ports z 0)
+
+      at : Dec (i ≡ k) → Dec (j ≡ k) → numberAt m (getD ports j 0) ≡ numberAt m (getD ports i 0)
+      at (yes a) (yes b) = ap (λ (n : ℕ). numberAt m (getD ports n 0)) (b ∙ sym a)
+      at (yes a) (no b) = subst (λ (n : ℕ). Both j n) (sym a) (t j (omega arith)) e
+      at (no a) (yes b) = subst (λ (n : ℕ). Both n i) (sym b) (λ c. sym (t i (omega arith) (sym c))) e
+      at (no a) (no b) = let x = r j (omega arith) in let z = r i (omega arith) in g (getD ports j 0 - 1) (getD ports i 0 - 1) (omega (arith, x .0, x .1)) (omega (arith, z .0, z .1)) (f i (omega arith) j (omega arith) e)
+
   -- two ports that go to one sheet link are joined
   pub grew-joined : (at k : ℕ) → at < count → k < count → Range sheetLinks (getD ports at 0) → Range sheetLinks (getD ports k 0)
       → numberAt to (getD ports k 0) ≡ numberAt to (getD ports at 0) → (labels next : List ℕ)

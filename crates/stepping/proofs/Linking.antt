@@ -18,6 +18,9 @@ use Rattle.stepping.specs.Labels.{Tie, Labelled, Meet, Apart}
 use Rattle.network.proofs.NetIn.{context-of}
 use Rattle.stepping.proofs.Reading.{context-in, port-in, port-place, link-at}
 
+abbrev pub ApartIn : form.Normal → List ℕ → ℕ → ℕ → Type 0
+ApartIn figure to none y = Apart (figure .contexts) (figure .«context_count») (figure .«class_count») to none y
+
 -- linked links have one label
 pub linked-label : (S : Net) (figure : form.Normal) (f : Fit figure) (atoms to labels : List ℕ) → Labelled (figure .contexts) (figure .«context_count») to labels → (y : ℕ) {a b : ℕ} → Linked S (netIn figure) (stateIn figure atoms to) y a b
     → numberAt labels a ≡ numberAt labels b
@@ -64,7 +67,7 @@ module _ (S : Net) (figure : form.Normal) (f : Fit figure) (atoms to : List ℕ)
       next : At S F q c y
       next = record { figure-link = range; sheet-link = h .sheet-link; there = goes c range ∙ sym (t .together) ∙ sym (goes a (h .figure-link)) ∙ h .there }
 
-  pub all-linked : Apart figure to none 0 → AllLinked S F q
+  pub all-linked : ApartIn figure to none 0 → AllLinked S F q
   all-linked w x x′ y h k =
       let i : suc (x - 1) ≡ x = (let r : 1 ≤ x = h .figure-link .0 in omega arith) in
       let j : suc (x′ - 1) ≡ x′ = (let r : 1 ≤ x′ = k .figure-link .0 in omega arith) in
@@ -80,7 +83,7 @@ module _ (S : Net) (figure : form.Normal) (f : Fit figure) (atoms to : List ℕ)
       let r = w .labelled .sound (x - 1) (x′ - 1) (let l = f .class-count in omega arith) (let l = f .class-count in omega arith) e in
       reach-linked y (subst (λ (z : ℕ). Reach (Tie (figure .contexts) (figure .«context_count») to) z x′) i (subst (Reach (Tie (figure .contexts) (figure .«context_count») to) (suc (x - 1))) j r)) h
 
-  pub two-apart : (y : ℕ) → y ≢ 0 → Apart figure to none y → TwoApart S F q y
+  pub two-apart : (y : ℕ) → y ≢ 0 → ApartIn figure to none y → TwoApart S F q y
   two-apart y n w = record {
     one = suc (t .0);
     two = suc (t .1);
@@ -89,7 +92,7 @@ module _ (S : Net) (figure : form.Normal) (f : Fit figure) (atoms to : List ℕ)
     not-linked = λ l. t .3 (ap (λ (i : ℕ). getD (w .labels) i 0) (sym (down (t .0))) ∙ linked-label S figure f atoms to (w .labels) (w .labelled) y l ∙ ap (λ (i : ℕ). getD (w .labels) i 0) (down (t .1)));
   }
     where
-      t : (x : ℕ) × (z : ℕ) × Meet figure to none x z y × (getD (w .labels) x 0 ≢ getD (w .labels) z 0)
+      t : (x : ℕ) × (z : ℕ) × Meet (figure .«class_count») to none x z y × (getD (w .labels) x 0 ≢ getD (w .labels) z 0)
       t = w .two-apart n
 
       down : (i : ℕ) → suc i - 1 ≡ i

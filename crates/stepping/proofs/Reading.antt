@@ -84,7 +84,7 @@ module _ (figure : form.Normal) (f : Fit figure) where
 
     -- where contexts have ports
     pub port-read : (none c y : ℕ) → c < figure .«context_count» → suc y < none → none ≤ sheetLinks + 1 → Within none (figure .«class_count») to → (flags : List ℕ)
-        → ((p : ℕ) → (getD flags p 0 ≡ 1) ↔ ((i : ℕ) × (i < figure .«context_count») × portOfNumber figure to none i p))
+        → ((p : ℕ) → (getD flags p 0 ≡ 1) ↔ ((i : ℕ) × (i < figure .«context_count») × portOfNumber (figure .contexts) (figure .«context_count») to none i p))
         → (getD flags (c * sheetLinks + y) 0 ≡ 1) ↔ PortAt S (netIn figure) q ((cellAt (netIn figure .contexts) (suc c)) .0) (suc y)
     port-read none c y hc hy room within flags g = (onward, back)
       where
@@ -94,7 +94,7 @@ module _ (figure : form.Normal) (f : Fit figure) where
         onward : getD flags (c * sheetLinks + y) 0 ≡ 1 → PortAt S (netIn figure) q ((cellAt (netIn figure .contexts) (suc c)) .0) (suc y)
         onward e = at (t .0) (t .1) (t .2 .0) (t .2 .1) (t .2 .2 .0) (t .2 .2 .1 .0) (t .2 .2 .1 .1) (t .2 .2 .1 .2)
           where
-            t : (i : ℕ) × (i < figure .«context_count») × portOfNumber figure to none i (c * sheetLinks + y)
+            t : (i : ℕ) × (i < figure .«context_count») × portOfNumber (figure .contexts) (figure .«context_count») to none i (c * sheetLinks + y)
             t = g (c * sheetLinks + y) .0 e
 
             at : (i : ℕ) → i < figure .«context_count» → (d : ℕ) → d < figure .«context_count» → contextAt figure d .number ≡ contextAt figure i .number

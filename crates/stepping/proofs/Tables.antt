@@ -98,13 +98,3 @@ module _ (base : ℕ → Type 0) (P : ℕ → ℕ → Type 0) where
       back : (p : ℕ) → (getD l p 0 ≡ 1) ⊎ P n p → getD l p 0 ≡ 1
       back p (inl q) = q
       back p (inr q) = absurd (g p q)
-
--- one entry more is judged, where it may be put to 0
-module _ (Q : ℕ → Type 0) (start l : List ℕ) (x : ℕ) (h : x < length l)
-    (below : (i : ℕ) → i < x → (getD l i 0 ≡ 1) ↔ ((getD start i 0 ≡ 1) × Q i)) (above : (i : ℕ) → x ≤ i → getD l i 0 ≡ getD start i 0) where
-  pub left-step : (m : List ℕ) → ((¬ Q x) × (m ≡ set l x 0)) ⊎ (Q x × (m ≡ l))
-      → (length m ≡ length l) × ((i : ℕ) → i < x + 1 → (getD m i 0 ≡ 1) ↔ ((getD start i 0 ≡ 1) × Q i)) × ((i : ℕ) → x + 1 ≤ i → getD m i 0 ≡ getD start i 0)
-  left-step m (inl w) = subst (λ (n : List ℕ). (length n ≡ length l) × ((i : ℕ) → i < x + 1 → (getD n i 0 ≡ 1) ↔ ((getD start i 0 ≡ 1) × Q i)) × ((i : ℕ) → x + 1 ≤ i → getD n i 0 ≡ getD start i 0)) (sym (w .1))
-      (simp length-set, below-set (λ i v. (v ≡ 1) ↔ ((getD start i 0 ≡ 1) × Q i)) l x 0 h below ((λ e. absurd (omega arith)), (λ t. absurd (w .0 (t .1)))), λ i k. above-set l x 0 i k ∙ above i (omega arith))
-  left-step m (inr w) = subst (λ (n : List ℕ). (length n ≡ length l) × ((i : ℕ) → i < x + 1 → (getD n i 0 ≡ 1) ↔ ((getD start i 0 ≡ 1) × Q i)) × ((i : ℕ) → x + 1 ≤ i → getD n i 0 ≡ getD start i 0)) (sym (w .1))
-      (refl, below-next (λ i. (getD l i 0 ≡ 1) ↔ ((getD start i 0 ≡ 1) × Q i)) x below ((λ e. (sym (above x (omega arith)) ∙ e, w .0)), (λ t. above x (omega arith) ∙ t .0)), λ i k. above i (omega arith))

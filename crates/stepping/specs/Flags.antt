@@ -2,13 +2,13 @@
 use Prim.Native.Nat.{ℕ, _+_, _*_, _-_, _<_, _≤_}
 use mathlib.Core.Path.{_≡_}
 use mathlib.Core.Logic.{_≢_}
-use mathlib.Core.List.{List, []}
+use mathlib.Core.List.{List}
 use lib.ListN.{getD}
 use Rattle.rows.specs.Format.{mostLinks}
 use Rattle.rows.specs.Limits.{sheetLinks}
 use Rattle.rows.specs.declared.Context.{Context}
-use Rattle.sheet.specs.declared.normal.Normal as form
 use Rattle.placing.specs.Net.{Range}
+use Rattle.network.specs.NetIn.{rowAt}
 
 -- the first `count` of a list are numbers from 1 to n
 abbrev pub Within : ℕ → ℕ → List ℕ → Type 0
@@ -26,15 +26,11 @@ goesTo to none x y = (getD to x 0 ≡ y + 1) × (getD to x 0 ≢ none)
 abbrev pub atPort : List ℕ → ℕ → List ℕ → ℕ → ℕ → ℕ → Type 0
 atPort to none ports c k p = (getD to (getD ports k 0 - 1) 0 ≢ none) × (p ≡ c * sheetLinks + (getD to (getD ports k 0 - 1) 0 - 1))
 
--- what code reads of an array of contexts, as `contextAt` of a figure
-abbrev pub rowAt : List Context → ℕ → Context
-rowAt contexts i = getD contexts i (record { number = 0; count = 0; links = []; row = 0 })
-
 -- row d has the number of row c, and one of its ports goes there
 abbrev pub portOf : List Context → List ℕ → ℕ → ℕ → ℕ → ℕ → Type 0
 portOf contexts to none c d p =
     (rowAt contexts d .number ≡ rowAt contexts c .number)
     × ((k : ℕ) × (k < rowAt contexts d .count) × atPort to none (rowAt contexts d .links) c k p)
 
-abbrev pub portOfNumber : form.Normal → List ℕ → ℕ → ℕ → ℕ → Type 0
-portOfNumber figure to none c p = (d : ℕ) × (d < figure .«context_count») × portOf (figure .contexts) to none c d p
+abbrev pub portOfNumber : List Context → ℕ → List ℕ → ℕ → ℕ → ℕ → Type 0
+portOfNumber contexts rows to none c p = (d : ℕ) × (d < rows) × portOf contexts to none c d p

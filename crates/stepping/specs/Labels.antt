@@ -7,10 +7,9 @@ use lib.ListN.{getD}
 use Rattle.rows.specs.Held.{relabelled}
 use Rattle.rows.specs.Limits.{sheetLinks}
 use Rattle.rows.specs.declared.Context.{Context}
-use Rattle.sheet.specs.declared.normal.Normal as form
 use Rattle.placing.specs.Placing.{numberAt}
+use Rattle.network.specs.NetIn.{rowAt}
 use Rattle.completing.specs.Reach.{Reach}
-use Rattle.stepping.specs.Flags.{rowAt}
 
 -- two links of one context, of which there are `rows`, that go to one sheet link
 pub record Tie (contexts : List Context) (rows : ℕ) (to : List ℕ) (x z : ℕ) : Type 0 where
@@ -47,20 +46,20 @@ pub record Labelled (contexts : List Context) (rows : ℕ) (to labels : List ℕ
   pub sound : Sound contexts rows to labels
   pub complete : (c k : ℕ) → c < rows → k < rowAt contexts c .count → Tied to (rowAt contexts c .links) (rowAt contexts c .count) labels k
 
--- x and z, from 0, are figure links that go to y, and y is not none
-pub record Meet (figure : form.Normal) (to : List ℕ) (none x z y : ℕ) : Type 0 where
-  pub first-in : x < figure .«class_count»
-  pub second-in : z < figure .«class_count»
+-- x and z, from 0, are two of the first `links` that go to y, and y is not none
+pub record Meet (links : ℕ) (to : List ℕ) (none x z y : ℕ) : Type 0 where
+  pub first-in : x < links
+  pub second-in : z < links
   pub first-at : getD to x 0 ≡ y
   pub second-at : getD to z 0 ≡ y
   pub not-none : y ≢ none
 
 -- By labels: 0 where links that meet have one label, else where two meet that have not.
-pub record Apart (figure : form.Normal) (to : List ℕ) (none y : ℕ) : Type 0 where
+pub record Apart (contexts : List Context) (rows links : ℕ) (to : List ℕ) (none y : ℕ) : Type 0 where
   pub labels : List ℕ
-  pub labelled : Labelled (figure .contexts) (figure .«context_count») to labels
-  pub all-one : y ≡ 0 → (x z w : ℕ) → Meet figure to none x z w → getD labels x 0 ≡ getD labels z 0
-  pub two-apart : y ≢ 0 → (x : ℕ) × (z : ℕ) × Meet figure to none x z y × (getD labels x 0 ≢ getD labels z 0)
+  pub labelled : Labelled contexts rows to labels
+  pub all-one : y ≡ 0 → (x z w : ℕ) → Meet links to none x z w → getD labels x 0 ≡ getD labels z 0
+  pub two-apart : y ≢ 0 → (x : ℕ) × (z : ℕ) × Meet links to none x z y × (getD labels x 0 ≢ getD labels z 0)
 
 -- link x, from 0, is at y where it has a flag, else where `to` has it
 pub record GatheredAt (to flags : List ℕ) (y x v : ℕ) : Type 0 where

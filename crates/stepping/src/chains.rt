@@ -2,15 +2,17 @@
 // its last place, at a node that of the place before it on the same link; 0 where there is none. Place k of
 // atom j has the node LINKS + j * MOST_LINKS + k.
 use crate::CHAINS;
+use candidates::LAID;
+use candidates::laid::laid_atom;
 use rows::Sheet;
-use sheet::normal::Normal;
 ghost use mathlib.Core.Path.{_≡_};
 ghost use Prim.Native.Nat.{suc, _<_, _≤_};
-ghost use lib.ListN.{length};
+ghost use lib.ListN.{length, replicate};
 ghost use Rattle.rows.specs.Format.{mostLinks};
 ghost use Rattle.rows.specs.Limits.{sheetAtoms, sheetLinks};
+ghost use Rattle.sheet.specs.declared.normal.Normal.{Normal as NormalForm};
 ghost use Rattle.placing.specs.Net.{Net};
-ghost use Rattle.network.specs.NetIn.{Fit};
+ghost use Rattle.candidates.specs.Laid.{Rowed, LaidOut};
 ghost use Rattle.stepping.specs.Flags.{Within};
 ghost use Rattle.stepping.specs.Chains.{nodeOf, Chained, ChainsIn, RowIn};
 
@@ -29,17 +31,16 @@ fn chain(table: &mut [u16; CHAINS], j: usize, links: [u16; Sheet::MOST_LINKS], c
     }
 }
 
-pub fn chains(sheet: Normal) -> [u16; CHAINS]
-    requires { ⌜ Fit sheet ⌝ }
-    ensures { λ r. ⌜ ChainsIn sheet r ⌝ }
+// The chains of the atoms in `laid`, from a table of zeros.
+pub fn chains(table: &mut [u16; CHAINS], laid: &[u16; LAID], atoms: usize)
+    requires { ⌜ Rowed (now laid) atoms × (now table ≡ replicate 480 0) ⌝ }
+    ensures { λ r. ⌜ ((sheet : NormalForm) → LaidOut sheet (now (laid .entry)) atoms → ChainsIn sheet (now (table .exit))) ⌝ }
 {
-    let mut table = [0u16; CHAINS];
     let mut j = 0;
-    while j < sheet.atom_count {
-        let a = sheet.atoms[j];
+    while j < atoms {
+        let a = laid_atom(laid, j);
         let links = a.links;
-        chain(&mut table, j, links, a.count as usize);
+        chain(&mut *table, j, links, a.count as usize);
         j += 1;
     }
-    table
 }

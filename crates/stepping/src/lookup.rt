@@ -2,14 +2,13 @@
 use crate::PORTS;
 use rows::Context;
 use rows::Sheet;
-use sheet::normal::Normal;
 ghost use mathlib.Core.Path.{_≡_};
 ghost use mathlib.Core.Logic.{_↔_, _⊎_};
 ghost use Prim.Native.Nat.{ℕ, _+_, _*_, _<_, _≤_};
-ghost use lib.ListN.{length, getD};
+ghost use lib.ListN.{length, getD, replicate};
 ghost use Rattle.rows.specs.Limits.{sheetLinks, figureContexts};
-ghost use Rattle.network.specs.NetIn.{Fit};
-ghost use Rattle.stepping.specs.Flags.{Within, Ported, atPort, rowAt, portOf, portOfNumber, goesTo};
+ghost use Rattle.network.specs.NetIn.{rowAt, Ports};
+ghost use Rattle.stepping.specs.Flags.{Within, Ported, atPort, portOf, portOfNumber, goesTo};
 
 // For each sheet link 1 where a figure link goes.
 pub fn used_links(count: usize, to: &[u16; Sheet::LINKS], none: u16) -> [u8; Sheet::LINKS]
@@ -75,17 +74,20 @@ fn port_rows(
 }
 
 // For the context of row c and link y, both from 0: 1 at c * LINKS + y where a row with its number has a
-// port that goes to y.
-pub fn port_table(figure: Normal, to: &[u16; Sheet::LINKS], none: u16) -> [u8; PORTS]
-    requires { ⌜ (none ≤ sheetLinks + 1) × Fit figure × Within none (figure .«class_count») (now to) ⌝ }
-    ensures { λ r. ⌜ ((p : ℕ) → (getD r p 0 ≡ 1) ↔ ((c : ℕ) × (c < figure .«context_count») × portOfNumber figure (now (to .entry)) none c p)) ⌝ }
+// port that goes to y. The table is zeros before.
+pub fn port_table(
+    table: &mut [u8; PORTS],
+    contexts: [Context; Sheet::CONTEXT_ROOM],
+    count: usize,
+    to: &[u16; Sheet::LINKS],
+    none: u16,
+)
+    requires { ⌜ (none ≤ sheetLinks + 1) × ((links : ℕ) × Ports contexts count links × Within none links (now to)) × (now table ≡ replicate 864 0) ⌝ }
+    ensures { λ r. ⌜ ((p : ℕ) → (getD (now (table .exit)) p 0 ≡ 1) ↔ ((c : ℕ) × (c < count) × portOfNumber contexts count (now (to .entry)) none c p)) ⌝ }
 {
-    let contexts = figure.contexts;
-    let mut table = [0u8; PORTS];
     let mut c = 0;
-    while c < figure.context_count {
-        port_rows(&mut table, c, contexts, figure.context_count, to, none);
+    while c < count {
+        port_rows(&mut *table, c, contexts, count, to, none);
         c += 1;
     }
-    table
 }

@@ -1,15 +1,14 @@
 // Figure links that go to one sheet link: are they linked by steps, each between two links of one context?
 use rows::Context;
 use rows::Sheet;
-use sheet::normal::Normal;
 ghost use mathlib.Core.Path.{_≡_};
 ghost use Prim.Native.Nat.{ℕ, _+_, _<_, _≤_};
 ghost use lib.ListN.{length, getD};
 ghost use Rattle.rows.specs.Format.{mostLinks};
 ghost use Rattle.rows.specs.Limits.{sheetLinks, figureContexts};
 ghost use Rattle.placing.specs.Net.{Range};
-ghost use Rattle.network.specs.NetIn.{Fit};
-ghost use Rattle.stepping.specs.Flags.{rowAt, Within};
+ghost use Rattle.network.specs.NetIn.{rowAt, Ports};
+ghost use Rattle.stepping.specs.Flags.{Within};
 ghost use Rattle.stepping.specs.Labels.{Relabelled, Grew, Tied, Labelled, Apart};
 
 // Each link its own label.
@@ -38,7 +37,7 @@ fn relabel(labels: &mut [u16; Sheet::LINKS], from: u16, to: u16)
     }
 }
 
-// One link of a context with each of its links that goes to the same sheet link.
+// One link of a context with each of its links before it that goes to the same sheet link.
 fn with_port(
     labels: &mut [u16; Sheet::LINKS],
     to: &[u16; Sheet::LINKS],
@@ -47,12 +46,12 @@ fn with_port(
     at: usize,
 )
     requires { ⌜ (at < count) × (count ≤ mostLinks) × ((k : ℕ) → k < count → Range sheetLinks (getD ports k 0)) × (length (now labels) ≡ sheetLinks) ⌝ }
-    ensures { λ r. ⌜ (length (now (labels .exit)) ≡ sheetLinks) × Grew (now (to .entry)) ports count (now (labels .entry)) (now (labels .exit)) × Tied (now (to .entry)) ports count (now (labels .exit)) at ⌝ }
+    ensures { λ r. ⌜ (length (now (labels .exit)) ≡ sheetLinks) × Grew (now (to .entry)) ports count (now (labels .entry)) (now (labels .exit)) × Tied (now (to .entry)) ports at (now (labels .exit)) at ⌝ }
 {
     let a = ports[at];
     let y = to[(a - 1) as usize];
     let mut k = 0;
-    while k < count {
+    while k < at {
         let b = ports[k];
         if to[(b - 1) as usize] == y {
             let from = labels[(b - 1) as usize];
@@ -102,16 +101,21 @@ pub(crate) fn step_labels(
 }
 
 // A sheet link at which two figure links have different labels, 0 where there is none.
-pub fn apart(figure: Normal, to: &[u16; Sheet::LINKS], none: u16) -> u16
-    requires { ⌜ Fit figure × (none ≤ sheetLinks + 1) × ((x : ℕ) → x < figure .«class_count» → Range none (getD (now to) x 0)) ⌝ }
-    ensures { λ r. ⌜ Apart figure (now (to .entry)) none r ⌝ }
+pub fn apart(
+    contexts: [Context; Sheet::CONTEXT_ROOM],
+    rows: usize,
+    count: usize,
+    to: &[u16; Sheet::LINKS],
+    none: u16,
+) -> u16
+    requires { ⌜ Ports contexts rows count × (none ≤ sheetLinks + 1) × Within none count (now to) ⌝ }
+    ensures { λ r. ⌜ Apart contexts rows count (now (to .entry)) none r ⌝ }
 {
-    let contexts = figure.contexts;
     let mut labels = [0u16; Sheet::LINKS];
-    step_labels(&mut labels, to, contexts, figure.context_count);
+    step_labels(&mut labels, to, contexts, rows);
     let mut owner = [0u16; Sheet::LINKS];
     let mut x = 0;
-    while x < figure.class_count {
+    while x < count {
         let y = to[x];
         if y != none {
             let at = (y - 1) as usize;

@@ -1,7 +1,7 @@
 // Figure links that go to one sheet link, and that are not linked there wherever the open links go.
 use crate::steps::step_labels;
+use rows::Context;
 use rows::Sheet;
-use sheet::normal::Normal;
 ghost use mathlib.Core.Path.{_≡_};
 ghost use mathlib.Core.Bool.{true};
 ghost use mathlib.Core.List.{List};
@@ -9,8 +9,9 @@ ghost use Prim.Native.Nat.{ℕ, suc, _<_, _≤_};
 ghost use lib.ListN.{length, getD};
 ghost use Rattle.hyperlmntal.specs.Link.{_∈_};
 ghost use Rattle.rows.specs.Limits.{sheetLinks};
+ghost use Rattle.sheet.specs.declared.normal.Normal.{Normal as NormalForm};
 ghost use Rattle.placing.specs.Net.{Net};
-ghost use Rattle.network.specs.NetIn.{netIn, Fit};
+ghost use Rattle.network.specs.NetIn.{netIn, Ports, ContextsIn};
 ghost use Rattle.network.specs.Ready.{stateIn};
 ghost use Rattle.completing.specs.Fault.{Torn};
 ghost use Rattle.stepping.specs.Labels.{Gathered, Two, Differ};
@@ -71,17 +72,23 @@ fn differ(labels: &[u16; Sheet::LINKS], to: &[u16; Sheet::LINKS], y: u16, count:
 
 // Two links that go to y are not linked there, even if all with a flag go there. Where y has one link or
 // none, there is nothing to look for.
-pub fn torn(figure: Normal, to: &[u16; Sheet::LINKS], flags: &[u8; Sheet::LINKS], y: u16) -> bool
-    requires { ⌜ Fit figure × ((x : ℕ) → x < figure .«class_count» → 1 ≤ getD (now to) x 0) ⌝ }
-    ensures { λ r. ⌜ (r ≡ true → (S : Net) (atoms un : List ℕ) → y ≤ S .links → ((x : ℕ) → suc x ∈ un → getD (now (flags .entry)) x 0 ≡ 1) → Torn S (netIn figure) (stateIn figure atoms (now (to .entry))) un y) ⌝ }
+pub fn torn(
+    contexts: [Context; Sheet::CONTEXT_ROOM],
+    rows: usize,
+    count: usize,
+    to: &[u16; Sheet::LINKS],
+    flags: &[u8; Sheet::LINKS],
+    y: u16,
+) -> bool
+    requires { ⌜ Ports contexts rows count × ((x : ℕ) → x < count → 1 ≤ getD (now to) x 0) ⌝ }
+    ensures { λ r. ⌜ (r ≡ true → (figure : NormalForm) → ContextsIn figure contexts rows count → (S : Net) (atoms un : List ℕ) → y ≤ S .links → ((x : ℕ) → suc x ∈ un → getD (now (flags .entry)) x 0 ≡ 1) → Torn S (netIn figure) (stateIn figure atoms (now (to .entry))) un y) ⌝ }
 {
-    if two_at(to, y, figure.class_count) {
-        let contexts = figure.contexts;
+    if two_at(to, y, count) {
         let mut all = [0u16; Sheet::LINKS];
         let mut labels = [0u16; Sheet::LINKS];
-        gathered(&mut all, to, flags, y, figure.class_count);
-        step_labels(&mut labels, &all, contexts, figure.context_count);
-        return differ(&labels, to, y, figure.class_count);
+        gathered(&mut all, to, flags, y, count);
+        step_labels(&mut labels, &all, contexts, rows);
+        return differ(&labels, to, y, count);
     }
     false
 }

@@ -12,8 +12,7 @@ use Rattle.rows.specs.Format.{rowWidth}
 use Rattle.rows.specs.Limits.{sheetAtoms, sheetLinks, sheetMarks}
 use Rattle.rows.specs.Held.{Held}
 use Rattle.rows.specs.Packed.{portTable, packed}
-use Rattle.rows.specs.declared.Sheet.{Sheet}
-use Rattle.rows.proofs.Padding.{take-padded}
+use Rattle.rows.proofs.Padding.{length-padded, take-padded}
 use Rattle.sheet.specs.Agrees.{Agrees}
 use Rattle.numbering.specs.Numbering.{Numberable}
 use Rattle.sheet.specs.Filling.{isPassed}
@@ -60,8 +59,8 @@ use Rattle.swapping.proofs.ReplacementBlanks.{replacement-covered}
 use Rattle.swapping.proofs.ListWhole.{written-lacks, written-exact}
 
 -- A filled figure, where it is written or too large.
-module _ (figure : Sheet) (list text : List ℕ) (I : FilledInputs figure list text) (r : form.Normal)
-    (M : (t : List ℕ) → figure ≡ packed (figureHeld t) → firstLacking (listHeld list .contexts) (figureHeld t .contexts) ≡ 0 → firstDiffering list (listHeld list .contexts) ≡ 0 → FilledIs t list r) where
+module _ (figure : form.Normal) (list text : List ℕ) (I : FilledInputs figure list text) (r : form.Normal)
+    (M : (t : List ℕ) → figure ≡ packedNormal (figureHeld t) → firstLacking (listHeld list .contexts) (figureHeld t .contexts) ≡ 0 → firstDiffering list (listHeld list .contexts) ≡ 0 → FilledIs t list r) where
   filled : FilledIs text list r
   filled = M text (I .of-figure) (I .none-lacking) (I .none-differing)
 
@@ -85,111 +84,108 @@ module _ (figure : Sheet) (list text : List ℕ) (I : FilledInputs figure list t
     done-slip n e slip = ap₂ (λ (t : List ℕ) (k : ℕ). t ++ drop k slip) (filled .rows few narrow) (sym e)
 
 -- The replacement can be filled from this list, and is then what swapping answers and writes.
-pub record ListSwaps (replacement : Sheet) (list s p q : List ℕ) : Type 0 where
+pub record ListSwaps (replacement : form.Normal) (list s p q : List ℕ) : Type 0 where
   pub fills : FilledInputs replacement list q
   pub answer : filledDone q list ≡ swapRead s p q
   pub text : filledText q list ≡ swapText s p q
 
-module _ (sheet pattern : form.Normal) (replacement : Sheet) (s p q : List ℕ) (I : SwapInputs sheet pattern replacement s p q) where
+module _ (sheet pattern replacement : form.Normal) (s p q : List ℕ) (I : SwapInputs sheet pattern replacement s p q) where
   abbrev ports : List ℕ
   ports = portTable (patternHeld p .contexts)
 
   abbrev R : Held
   R = replacementHeld p q
 
-  pub replacement-numberable : Numberable replacement
-  replacement-numberable = subst Numberable (sym (I .of-replacement)) (numberable-read Replacement ports q)
-
   -- The marks of the two figures.
-  module _ (n : form.Normal) (N : (h : Held) → Agrees h → replacement ≡ packed h → n ≡ packedNormal h) where
-    is-normal : n ≡ packedNormal R
-    is-normal = N R (agrees-read Replacement ports q refl) (I .of-replacement)
+  pub marks-room : (replacement .«mark_count» ≤ sheetMarks) × (pattern .«mark_count» ≤ sheetMarks) × (length (replacement .marks) ≡ sheetMarks + 1) × (length (pattern .marks) ≡ sheetMarks + 1)
+  marks-room =
+      let r = fit-read Replacement ports q refl .mark-count in
+      let f = fit-read Pattern noPorts p refl .mark-count in (
+        subst (λ (m : form.Normal). m .«mark_count» ≤ sheetMarks) (sym (I .of-replacement)) r,
+        subst (λ (m : form.Normal). m .«mark_count» ≤ sheetMarks) (sym (I .placed .of-pattern)) f,
+        subst (λ (m : form.Normal). length (m .marks) ≡ sheetMarks + 1) (sym (I .of-replacement)) (length-padded (sheetMarks + 1) 0 (normalMarks R) (omega (arith, r))),
+        subst (λ (m : form.Normal). length (m .marks) ≡ sheetMarks + 1) (sym (I .placed .of-pattern)) (length-padded (sheetMarks + 1) 0 (normalMarks (patternHeld p)) (omega (arith, f))),
+      )
 
-    pub marks-few : (n .«mark_count» ≤ sheetMarks) × (pattern .«mark_count» ≤ sheetMarks)
-    marks-few = (
-      subst (λ (m : form.Normal). m .«mark_count» ≤ sheetMarks) (sym is-normal) (fit-read Replacement ports q refl .mark-count),
-      subst (λ (m : form.Normal). m .«mark_count» ≤ sheetMarks) (sym (I .placed .of-pattern)) (fit-read Pattern noPorts p refl .mark-count),
-    )
+  module _ (b : Bool) (B : b ≡ sameList (take (replacement .«mark_count») (replacement .marks)) (take (pattern .«mark_count») (pattern .marks))) where
+    marks-same : b ≡ sameMarks R (patternHeld p)
+    marks-same =
+        B
+        ∙ ap₂ (λ (x y : form.Normal). sameList (take (x .«mark_count») (x .marks)) (take (y .«mark_count») (y .marks))) (I .of-replacement) (I .placed .of-pattern)
+        ∙ ap₂ sameList (take-padded (sheetMarks + 1) 0 (normalMarks R)) (take-padded (sheetMarks + 1) 0 (normalMarks (patternHeld p)))
 
-    module _ (b : Bool) (B : b ≡ sameList (take (n .«mark_count») (n .marks)) (take (pattern .«mark_count») (pattern .marks))) where
-      marks-same : b ≡ sameMarks R (patternHeld p)
-      marks-same =
-          B
-          ∙ ap₂ (λ (x y : form.Normal). sameList (take (x .«mark_count») (x .marks)) (take (y .«mark_count») (y .marks))) is-normal (I .placed .of-pattern)
-          ∙ ap₂ sameList (take-padded (sheetMarks + 1) 0 (normalMarks R)) (take-padded (sheetMarks + 1) 0 (normalMarks (patternHeld p)))
+    by-marks : (t : Bool) → b ≡ t → pick t (swappedAnswer (graphOf R) (placedFillings s p)) (done.EdgeDiffers 3 0) ≡ swapRead s p q
+    by-marks t e = ap (λ c. pick c (swappedAnswer (graphOf R) (placedFillings s p)) (done.EdgeDiffers 3 0)) (sym e ∙ marks-same)
 
-      by-marks : (t : Bool) → b ≡ t → pick t (swappedAnswer (graphOf R) (placedFillings s p)) (done.EdgeDiffers 3 0) ≡ swapRead s p q
-      by-marks t e = ap (λ c. pick c (swappedAnswer (graphOf R) (placedFillings s p)) (done.EdgeDiffers 3 0)) (sym e ∙ marks-same)
+    pub marks-differ : b ≡ false → done.EdgeDiffers 3 0 ≡ swapRead s p q
+    marks-differ e = by-marks false e
 
-      pub marks-differ : b ≡ false → done.EdgeDiffers 3 0 ≡ swapRead s p q
-      marks-differ e = by-marks false e
+    -- What the search found.
+    module _ (same : b ≡ true) (r : Found) (E : placedIn sheet pattern r ≡ smallest (netIn sheet) (netIn pattern)) where
+      pub swap-nothing : r .ok ≡ false → done.NoPlacing ≡ swapRead s p q
+      swap-nothing h = sym (ap (swappedAnswer (graphOf R)) (none-found sheet pattern s p (I .placed) r E h)) ∙ by-marks true same
 
-      -- What the search found.
-      module _ (same : b ≡ true) (r : Found) (E : placedIn sheet pattern r ≡ smallest (netIn sheet) (netIn pattern)) where
-        pub swap-nothing : r .ok ≡ false → done.NoPlacing ≡ swapRead s p q
-        swap-nothing h = sym (ap (swappedAnswer (graphOf R)) (none-found sheet pattern s p (I .placed) r E h)) ∙ by-marks true same
+      module _ (h : r .ok ≡ true) where
+        abbrev θ : List Filling
+        θ = foundFillings sheet pattern s p (I .placed) r E h
 
-        module _ (h : r .ok ≡ true) where
-          abbrev θ : List Filling
-          θ = foundFillings sheet pattern s p (I .placed) r E h
+        -- The fillings that are chosen fit, and are read back from their list.
+        good : Good (sheetNet s) (patternNet p) (foundPlacing sheet pattern s p (I .placed) r E)
+        good = smallest-good (sheetNet s) (patternNet p) (foundPlacing sheet pattern s p (I .placed) r E) (chosen sheet pattern s p (I .placed) r E h)
 
-          -- The fillings that are chosen fit, and are read back from their list.
-          good : Good (sheetNet s) (patternNet p) (foundPlacing sheet pattern s p (I .placed) r E)
-          good = smallest-good (sheetNet s) (patternNet p) (foundPlacing sheet pattern s p (I .placed) r E) (chosen sheet pattern s p (I .placed) r E h)
+        fits : Fits (patternNet p) θ
+        fits =
+            chosen-fillings s p (I .placed .passed .sheet-passes) (I .placed .passed .pattern-passes) (foundPlacing sheet pattern s p (I .placed) r E)
+            (chosen sheet pattern s p (I .placed) r E h) .1 .0
 
-          fits : Fits (patternNet p) θ
-          fits =
-              chosen-fillings s p (I .placed .passed .sheet-passes) (I .placed .passed .pattern-passes) (foundPlacing sheet pattern s p (I .placed) r E)
-              (chosen sheet pattern s p (I .placed) r E h) .1 .0
+        list-fits : ListFits θ
+        list-fits = text-fits s p (I .placed .passed .sheet-passes) (I .placed .passed .pattern-passes) (foundPlacing sheet pattern s p (I .placed) r E) good
 
-          list-fits : ListFits θ
-          list-fits = text-fits s p (I .placed .passed .sheet-passes) (I .placed .passed .pattern-passes) (foundPlacing sheet pattern s p (I .placed) r E) good
+        read-back : fillingsRead (listText θ) ≡ θ
+        read-back = placed-back s p (I .placed .passed .sheet-passes) (I .placed .passed .pattern-passes) (foundPlacing sheet pattern s p (I .placed) r E) good
 
-          read-back : fillingsRead (listText θ) ≡ θ
-          read-back = placed-back s p (I .placed .passed .sheet-passes) (I .placed .passed .pattern-passes) (foundPlacing sheet pattern s p (I .placed) r E) good
+        -- The list that is written, and the part of the buffer that holds it.
+        module _ (m : ℕ) (e : (atoms : List ℕ) → m ≡ length (fillingsText sheet pattern atoms (r .«links_to») (r .given))) where
+          size : m ≡ length (listText θ)
+          size = e (take (pattern .«atom_count») (r .«atoms_to»)) ∙ ap length (found-text sheet pattern s p (I .placed) r E h)
 
-          -- The list that is written, and the part of the buffer that holds it.
-          module _ (m : ℕ) (e : (atoms : List ℕ) → m ≡ length (fillingsText sheet pattern atoms (r .«links_to») (r .given))) where
-            size : m ≡ length (listText θ)
-            size = e (take (pattern .«atom_count») (r .«atoms_to»)) ∙ ap length (found-text sheet pattern s p (I .placed) r E h)
+          module _ (before after : List ℕ)
+              (o : (atoms : List ℕ) → after ≡ fillingsText sheet pattern atoms (r .«links_to») (r .given) ++ drop (length (fillingsText sheet pattern atoms (r .«links_to») (r .given))) before) where
+            part : take m after ≡ listText θ
+            part =
+                ap (take m) (o (take (pattern .«atom_count») (r .«atoms_to»)) ∙ ap (λ t. t ++ drop (length t) before) (found-text sheet pattern s p (I .placed) r E h))
+                ∙ take-at (listText θ) (drop (length (listText θ)) before) m (sym size)
 
-            module _ (before after : List ℕ)
-                (o : (atoms : List ℕ) → after ≡ fillingsText sheet pattern atoms (r .«links_to») (r .given) ++ drop (length (fillingsText sheet pattern atoms (r .«links_to») (r .given))) before) where
-              part : take m after ≡ listText θ
-              part =
-                  ap (take m) (o (take (pattern .«atom_count») (r .«atoms_to»)) ∙ ap (λ t. t ++ drop (length t) before) (found-text sheet pattern s p (I .placed) r E h))
-                  ∙ take-at (listText θ) (drop (length (listText θ)) before) m (sym size)
+            figure : outcomeOf Figure noPorts q ≡ outcomeOf Replacement ports q
+            figure = replacement-figure ports q (I .replacement-passes)
 
-              figure : outcomeOf Figure noPorts q ≡ outcomeOf Replacement ports q
-              figure = replacement-figure ports q (I .replacement-passes)
+            -- The replacement can be filled from it.
+            part-fills : FilledInputs replacement (take m after) q
+            part-fills =
+                subst (λ t. FilledInputs replacement t q) (sym part)
+                (record {
+                  of-figure = I .of-replacement ∙ ap (λ (x : Outcome). packedNormal (x .held)) (sym figure);
+                  passes = ap isPassed (list-passes θ list-fits);
+                  none-lacking = ap (λ (x : Outcome). firstLacking (listHeld (listText θ) .contexts) (x .held .contexts)) figure
+                      ∙ written-lacks θ list-fits read-back (fits .one) (fits .exact) (R .contexts) (replacement-covered p θ fits q);
+                  none-differing = written-exact θ list-fits read-back (fits .one) (fits .exact);
+                })
 
-              -- The replacement can be filled from it.
-              part-fills : FilledInputs replacement (take m after) q
-              part-fills =
-                  subst (λ t. FilledInputs replacement t q) (sym part)
-                  (record {
-                    of-figure = I .of-replacement ∙ ap (λ (x : Outcome). packed (x .held)) (sym figure);
-                    passes = ap isPassed (list-passes θ list-fits);
-                    none-lacking = ap (λ (x : Outcome). firstLacking (listHeld (listText θ) .contexts) (x .held .contexts)) figure
-                        ∙ written-lacks θ list-fits read-back (fits .one) (fits .exact) (R .contexts) (replacement-covered p θ fits q);
-                    none-differing = written-exact θ list-fits read-back (fits .one) (fits .exact);
-                  })
+            swap-done : filledDone q (take m after) ≡ swapRead s p q
+            swap-done =
+                ap (filledDone q) part
+                ∙ ap₂ (λ (x : Held) (η : List Filling). pick (tooLarge (filledGraph (graphOf x) η)) done.TooLarge (done.Written (length (textOf (filledNormal (graphOf x) η))))) (ap (λ (x : Outcome). x .held) figure) read-back
+                ∙ sym (ap (swappedAnswer (graphOf R)) (some-found sheet pattern s p (I .placed) r E h))
+                ∙ by-marks true same
 
-              swap-done : filledDone q (take m after) ≡ swapRead s p q
-              swap-done =
-                  ap (filledDone q) part
-                  ∙ ap₂ (λ (x : Held) (η : List Filling). pick (tooLarge (filledGraph (graphOf x) η)) done.TooLarge (done.Written (length (textOf (filledNormal (graphOf x) η))))) (ap (λ (x : Outcome). x .held) figure) read-back
-                  ∙ sym (ap (swappedAnswer (graphOf R)) (some-found sheet pattern s p (I .placed) r E h))
-                  ∙ by-marks true same
+            swap-text : filledText q (take m after) ≡ swapText s p q
+            swap-text =
+                ap (filledText q) part
+                ∙ ap₂ (λ (x : Held) (η : List Filling). textOf (filledNormal (graphOf x) η)) (ap (λ (x : Outcome). x .held) figure) read-back
+                ∙ sym (ap (swappedText (graphOf R)) (some-found sheet pattern s p (I .placed) r E h))
 
-              swap-text : filledText q (take m after) ≡ swapText s p q
-              swap-text =
-                  ap (filledText q) part
-                  ∙ ap₂ (λ (x : Held) (η : List Filling). textOf (filledNormal (graphOf x) η)) (ap (λ (x : Outcome). x .held) figure) read-back
-                  ∙ sym (ap (swappedText (graphOf R)) (some-found sheet pattern s p (I .placed) r E h))
-
-              pub swap-list : ListSwaps replacement (take m after) s p q
-              swap-list = record { fills = part-fills; answer = swap-done; text = swap-text }
+            pub swap-list : ListSwaps replacement (take m after) s p q
+            swap-list = record { fills = part-fills; answer = swap-done; text = swap-text }
 
 -- The bytes that were written are there.
 pub part-room : (sheet pattern : form.Normal) (links given before after : List ℕ) (m : ℕ)
@@ -206,11 +202,13 @@ part-length after m h = sym (length-take-le m after h)
 pub record TextsRead (S P T : Reading) (sheet pattern replacement : List ℕ) : Type 0 where
   pub first-numberable : Numberable (S .sheet)
   pub second-numberable : Numberable (P .sheet)
+  pub third-numberable : Numberable (T .sheet)
   pub first-answer : (t : Answer) → S .answer ≡ t → outcomeOf Plain noPorts sheet .answer ≡ t
   pub second-answer : (t : Answer) → P .answer ≡ t → outcomeOf Pattern noPorts pattern .answer ≡ t
   pub third-answer : (t : Answer) → T .answer ≡ t → replacementRead pattern replacement .answer ≡ t
-  pub inputs : S .answer ≡ Passed → P .answer ≡ Passed → T .answer ≡ Passed → (n m : form.Normal)
-      → ((h : Held) → Agrees h → S .sheet ≡ packed h → n ≡ packedNormal h) → ((h : Held) → Agrees h → P .sheet ≡ packed h → m ≡ packedNormal h) → SwapInputs n m (T .sheet) sheet pattern replacement
+  pub inputs : S .answer ≡ Passed → P .answer ≡ Passed → T .answer ≡ Passed → (n m o : form.Normal)
+      → ((h : Held) → Agrees h → S .sheet ≡ packed h → n ≡ packedNormal h) → ((h : Held) → Agrees h → P .sheet ≡ packed h → m ≡ packedNormal h) → ((h : Held) → Agrees h → T .sheet ≡ packed h → o ≡ packedNormal h)
+      → SwapInputs n m o sheet pattern replacement
 
 module _ (S P T : Reading) (sheet pattern replacement : List ℕ)
     (x : S ≡ readingOf (outcomeOf Plain noPorts sheet)) (y : P ≡ readingOf (outcomeOf Pattern noPorts pattern)) (z : T ≡ readingOf (outcomeOf Replacement (P .sheet .ports) replacement)) where
@@ -222,10 +220,11 @@ module _ (S P T : Reading) (sheet pattern replacement : List ℕ)
       record {
         first-numberable = subst (λ (r : Reading). Numberable (r .sheet)) (sym x) (numberable-read Plain noPorts sheet);
         second-numberable = subst (λ (r : Reading). Numberable (r .sheet)) (sym y) (numberable-read Pattern noPorts pattern);
+        third-numberable = subst (λ (r : Reading). Numberable (r .sheet)) (sym third) (numberable-read Replacement (portTable (patternHeld pattern .contexts)) replacement);
         first-answer = λ t e. sym (ap (λ (r : Reading). r .answer) x) ∙ e;
         second-answer = λ t e. sym (ap (λ (r : Reading). r .answer) y) ∙ e;
         third-answer = λ t e. sym (ap (λ (r : Reading). r .answer) third) ∙ e;
-        inputs = λ a b c n m N M.
+        inputs = λ a b c n m o N M O.
             record {
               placed = record {
                 passed = record { sheet-passes = sym (ap (λ (r : Reading). r .answer) x) ∙ a; pattern-passes = sym (ap (λ (r : Reading). r .answer) y) ∙ b };
@@ -233,7 +232,7 @@ module _ (S P T : Reading) (sheet pattern replacement : List ℕ)
                 of-pattern = M (patternHeld pattern) (agrees-read Pattern noPorts pattern refl) (ap (λ (r : Reading). r .sheet) y);
               };
               replacement-passes = sym (ap (λ (r : Reading). r .answer) third) ∙ c;
-              of-replacement = ap (λ (r : Reading). r .sheet) third;
+              of-replacement = O (replacementHeld pattern replacement) (agrees-read Replacement (portTable (patternHeld pattern .contexts)) replacement refl) (ap (λ (r : Reading). r .sheet) third);
             };
       }
 

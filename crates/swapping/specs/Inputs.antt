@@ -1,13 +1,12 @@
--- Texts that passed row by row, in the arrays in which they were read, and what swapping then answers.
+-- Texts that passed row by row, as their normal forms, and what swapping then answers.
 use Prim.Native.Nat.{ℕ}
 use mathlib.Core.Path.{_≡_}
 use mathlib.Core.List.{List}
 use lib.ListN.{length}
 use Rattle.rows.specs.Pick.{pick}
-use Rattle.rows.specs.Packed.{packed}
-use Rattle.rows.specs.declared.Sheet.{Sheet}
 use Rattle.sheet.specs.Graph.{graphOf}
 use Rattle.sheet.specs.Filling.{Passes}
+use Rattle.sheet.specs.NormalSheet.{packedNormal}
 use Rattle.sheet.specs.declared.normal.Normal as form
 use Rattle.sheet.specs.declared.answer.Answer.the-variants.{Passed}
 use Rattle.filling.specs.Read.{listHeld}
@@ -19,8 +18,8 @@ use Rattle.finding.specs.Inputs.{PlaceInputs}
 use Rattle.swapping.specs.Swap.{replacementRead, replacementHeld, sameMarks, swappedAnswer, swappedText}
 
 -- a list that passed, and no 8 and no 9 over whole texts
-pub record FilledInputs (figure : Sheet) (list figureText : List ℕ) : Type 0 where
-  pub of-figure : figure ≡ packed (figureHeld figureText)
+pub record FilledInputs (figure : form.Normal) (list figureText : List ℕ) : Type 0 where
+  pub of-figure : figure ≡ packedNormal (figureHeld figureText)
   pub passes : Passes list
   pub none-lacking : firstLacking (listHeld list .contexts) (figureHeld figureText .contexts) ≡ 0
   pub none-differing : firstDiffering list (listHeld list .contexts) ≡ 0
@@ -28,10 +27,10 @@ pub record FilledInputs (figure : Sheet) (list figureText : List ℕ) : Type 0 w
 abbrev pub filledDone : List ℕ → List ℕ → Done
 filledDone figure list = pick (tooLarge (filledBy figure list)) done.TooLarge (done.Written (length (filledText figure list)))
 
-pub record SwapInputs (sheet pattern : form.Normal) (replacement : Sheet) (sheetText patternText replacementText : List ℕ) : Type 0 where
+pub record SwapInputs (sheet pattern replacement : form.Normal) (sheetText patternText replacementText : List ℕ) : Type 0 where
   pub placed : PlaceInputs sheet pattern sheetText patternText
   pub replacement-passes : replacementRead patternText replacementText .answer ≡ Passed
-  pub of-replacement : replacement ≡ packed (replacementHeld patternText replacementText)
+  pub of-replacement : replacement ≡ packedNormal (replacementHeld patternText replacementText)
 
 abbrev pub swapRead : List ℕ → List ℕ → List ℕ → Done
 swapRead sheet pattern replacement =

@@ -13,7 +13,7 @@ use sheet::read::read_replacement;
 use sheet::read::read_sheet;
 ghost use mathlib.Core.Path.{_≡_};
 ghost use mathlib.Core.List.{List};
-ghost use Prim.Native.Nat.{ℕ, _≤_};
+ghost use Prim.Native.Nat.{ℕ, _+_, _≤_};
 ghost use lib.ListN.{length, take};
 ghost use Rattle.rows.specs.Limits.{sheetMarks};
 ghost use Rattle.sheet.specs.NormalText.{slipLength};
@@ -23,18 +23,22 @@ ghost use Rattle.filling.specs.Fill.{filledText};
 ghost use Rattle.swapping.specs.Swap.{swapAnswer, swapSlip};
 ghost use Rattle.swapping.specs.Inputs.{filledDone, FilledInputs, SwapInputs, swapRead, swapText};
 
-// Whether two normal forms have the same marks, which ascend in each.
-fn same_marks(a: Normal, b: Normal) -> bool
-    requires { ⌜ (a .«mark_count» ≤ sheetMarks) × (b .«mark_count» ≤ sheetMarks) ⌝ }
-    ensures { λ r. ⌜ r ≡ sameList (take (a .«mark_count») (a .marks)) (take (b .«mark_count») (b .marks)) ⌝ }
+// Whether the first m numbers of one table are the first n of another.
+fn same_marks<'a>(
+    a: &'a [u16; Sheet::MARK_ROOM],
+    m: usize,
+    b: &'a [u16; Sheet::MARK_ROOM],
+    n: usize,
+) -> bool
+    requires { ⌜ (m ≤ sheetMarks) × (n ≤ sheetMarks) × (length (now a) ≡ sheetMarks + 1) × (length (now b) ≡ sheetMarks + 1) ⌝ }
+    ensures { λ r. ⌜ r ≡ sameList (take m (now (a .entry))) (take n (now (b .entry))) ⌝ }
 {
-    let n = a.mark_count;
-    if n != b.mark_count {
+    if m != n {
         return false;
     }
     let mut k = 0;
-    while k < n {
-        if a.marks[k] != b.marks[k] {
+    while k < m {
+        if a[k] != b[k] {
             return false;
         }
         k += 1;
@@ -43,7 +47,7 @@ fn same_marks(a: Normal, b: Normal) -> bool
 }
 
 // A figure filled from a list that has a filling for each of its contexts.
-fn write_filled(figure: Sheet, list: &[u8], out: &mut [u8]) -> Done
+fn write_filled(figure: Normal, list: &[u8], out: &mut [u8]) -> Done
     requires { ⌜ ((text : List ℕ) × FilledInputs figure (now list) text) ⌝ }
     requires { ⌜ slipLength ≤ length (now out) ⌝ }
     ensures { λ r. ⌜ ((text : List ℕ) → FilledInputs figure (now (list .entry)) text → r ≡ filledDone text (now (list .entry))) ⌝ }
@@ -62,13 +66,14 @@ fn write_filled(figure: Sheet, list: &[u8], out: &mut [u8]) -> Done
 }
 
 // Texts that passed row by row: the list of the fillings is written, and the replacement filled from it.
-fn swap_read(sheet: Normal, pattern: Normal, replacement: Sheet, out: &mut [u8]) -> Done
+fn swap_read(sheet: Normal, pattern: Normal, replacement: Normal, out: &mut [u8]) -> Done
     requires { ⌜ ((s : List ℕ) × ((p : List ℕ) × ((q : List ℕ) × SwapInputs sheet pattern replacement s p q))) ⌝ }
     requires { ⌜ slipLength ≤ length (now out) ⌝ }
     ensures { λ r. ⌜ ((s p q : List ℕ) → SwapInputs sheet pattern replacement s p q → r ≡ swapRead s p q) ⌝ }
     ensures { λ r. ⌜ ((s p q : List ℕ) → SwapInputs sheet pattern replacement s p q → now (out .exit) ≡ slipAfter r (swapText s p q) (now (out .entry))) ⌝ }
 {
-    if !same_marks(normal_of(replacement), pattern) {
+    let m = replacement.mark_count;
+    if !same_marks(&replacement.marks, m, &pattern.marks, pattern.mark_count) {
         return Done::EdgeDiffers(3, 0);
     }
     let found = smallest_placing(sheet, pattern);
@@ -92,25 +97,30 @@ pub fn swap(sheet: &[u8], pattern: &[u8], replacement: &[u8], out: &mut [u8]) ->
     }
     let first = read_sheet(sheet);
     let one = first.answer;
-    let second = read_pattern(pattern);
-    let two = second.answer;
-    let part = second.sheet;
-    let ports = part.ports;
-    let third = read_replacement(ports, replacement);
-    let three = third.answer;
     match one {
         Answer::Refused(why, row) => Done::Refused(1, why, row),
-        Answer::Passed => match two {
-            Answer::Refused(why, row) => Done::Refused(2, why, row),
-            Answer::Passed => match three {
-                Answer::Refused(why, row) => Done::Refused(3, why, row),
+        Answer::Passed => {
+            let second = read_pattern(pattern);
+            let two = second.answer;
+            match two {
+                Answer::Refused(why, row) => Done::Refused(2, why, row),
                 Answer::Passed => {
-                    let whole = first.sheet;
-                    let other = third.sheet;
-                    let normal = normal_of(whole);
-                    swap_read(normal, normal_of(part), other, out)
+                    let part = second.sheet;
+                    let ports = part.ports;
+                    let third = read_replacement(ports, replacement);
+                    let three = third.answer;
+                    match three {
+                        Answer::Refused(why, row) => Done::Refused(3, why, row),
+                        Answer::Passed => {
+                            let whole = first.sheet;
+                            let other = third.sheet;
+                            let normal = normal_of(whole);
+                            let pattern = normal_of(part);
+                            swap_read(normal, pattern, normal_of(other), out)
+                        }
+                    }
                 }
-            },
-        },
+            }
+        }
     }
 }

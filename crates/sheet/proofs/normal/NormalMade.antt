@@ -26,7 +26,7 @@ use Rattle.sheet.specs.Graph.{atomCell, contextCell, graphOf}
 use Rattle.sheet.specs.Labels.{labelIn}
 use Rattle.sheet.specs.Agrees.{Agrees, Once as Placed}
 use Rattle.sheet.specs.Normal.{classOf, markNode, marksOf, shown, classesBy, numberBy}
-use Rattle.numbering.specs.Numbering.{Numbering, Numberable, labelAt, markLabelAt, linkRoom, noNumbers, withClasses, linkLabels, atomLabels, contextLabels, atomBy, contextBy, marksBy, sortedInto}
+use Rattle.numbering.specs.Numbering.{Numbering, Numberable, labelAt, markLabelAt, linkRoom, noNumbers, withClasses, linkLabels, atomLabels, contextLabels, atomNumbered, contextNumbered, marksBy, sortedInto}
 use Rattle.sheet.specs.NormalSheet.{numberIn, normalAtom, normalContext, packedNormal}
 use Rattle.sheet.specs.declared.normal.Normal.{Normal}
 use Rattle.sheet.proofs.normal.Merging.{at-indexOf, among-in}
@@ -53,9 +53,9 @@ numberingOf s =
 abbrev pub normalMade : Sheet → Normal
 normalMade s =
     record {
-      atoms = mapped (atomBy (numberingOf s .numbers) (labelAt s)) (s .«atom_count») (s .atoms);
+      atoms = mapped (atomNumbered (numberingOf s .numbers) (labelAt s)) (s .«atom_count») (s .atoms);
       «atom_count» = s .«atom_count»;
-      contexts = mapped (contextBy (numberingOf s .numbers) (labelAt s)) (s .«context_count») (s .contexts);
+      contexts = mapped (contextNumbered (numberingOf s .numbers) (labelAt s)) (s .«context_count») (s .contexts);
       «context_count» = s .«context_count»;
       marks = sortedMarks s;
       marked = marksBy (numberingOf s .numbers) (markLabelAt s) (take (s .«mark_count») (sortedMarks s));
@@ -133,7 +133,7 @@ module _ (h : Held) (A : Agrees h) where
   marks-made : sortedMarks (packed h) ≡ padded (sheetMarks + 1) 0 (marksOf (graphOf h))
   marks-made = rw (take-padded (sheetMarks + 1) 0 (h .wiring .marks)) (rw marks-sorted)
 
-  marks-taken : take (length (h .wiring .marks)) (sortedMarks (packed h)) ≡ marksOf (graphOf h)
+  pub marks-taken : take (length (h .wiring .marks)) (sortedMarks (packed h)) ≡ marksOf (graphOf h)
   marks-taken = rw marks-made (rw marks-count (take-padded (sheetMarks + 1) 0 (marksOf (graphOf h))))
 
   numbering-made : numberingOf (packed h) ≡ withClasses noNumbers (map (labelIn (h .wiring)) (shown (graphOf h)))
@@ -152,9 +152,9 @@ normal-≡ n k ea ec em ep ei ej t = record { atoms = ea t; «atom_count» = n; 
 -- those of the marks, and what is made of the atoms and contexts holds whatever is numbered later.
 pub normal-steps : (s : Sheet) (a b n : Numbering) (atoms : List Atom) (contexts : List Context) (marks marked : List ℕ)
     → a ≡ withClasses noNumbers (atomLabels (labelAt s) (take (s .«atom_count») (s .atoms)))
-    → ((later : List ℕ) → atoms ≡ mapped (atomBy (withClasses a later .numbers) (labelAt s)) (s .«atom_count») (s .atoms))
+    → ((later : List ℕ) → atoms ≡ mapped (atomNumbered (withClasses a later .numbers) (labelAt s)) (s .«atom_count») (s .atoms))
     → b ≡ withClasses a (contextLabels (labelAt s) (take (s .«context_count») (s .contexts)))
-    → ((later : List ℕ) → contexts ≡ mapped (contextBy (withClasses b later .numbers) (labelAt s)) (s .«context_count») (s .contexts))
+    → ((later : List ℕ) → contexts ≡ mapped (contextNumbered (withClasses b later .numbers) (labelAt s)) (s .«context_count») (s .contexts))
     → marks ≡ sortedMarks s
     → n ≡ withClasses b (map (markLabelAt s) (take (s .«mark_count») marks))
     → marked ≡ marksBy (n .numbers) (markLabelAt s) (take (s .«mark_count») marks)
@@ -162,8 +162,8 @@ pub normal-steps : (s : Sheet) (a b n : Numbering) (atoms : List Atom) (contexts
     (normalMade s)
 normal-steps s a b n atoms contexts marks marked ea fa eb fb em en ep =
     normal-≡ (s .«atom_count») (s .«context_count»)
-    (fa (C ++ M) ∙ ap (λ k. mapped (atomBy (k .numbers) (labelAt s)) (s .«atom_count») (s .atoms)) (with-classes-append a C M ∙ ap (λ k. withClasses k M) (sym eb) ∙ all))
-    (fb M ∙ ap (λ k. mapped (contextBy (k .numbers) (labelAt s)) (s .«context_count») (s .contexts)) all)
+    (fa (C ++ M) ∙ ap (λ k. mapped (atomNumbered (k .numbers) (labelAt s)) (s .«atom_count») (s .atoms)) (with-classes-append a C M ∙ ap (λ k. withClasses k M) (sym eb) ∙ all))
+    (fb M ∙ ap (λ k. mapped (contextNumbered (k .numbers) (labelAt s)) (s .«context_count») (s .contexts)) all)
     em (ep ∙ rw (em, end)) refl (rw end)
   where
     C : List ℕ
@@ -221,17 +221,17 @@ module _ (h : Held) (A : Agrees h) (N : Numberable (packed h)) where
       (map-agree (λ x. getD (numberingOf (packed h) .numbers) (labelAt (packed h) x) 0) (λ x. numberIn h (inner x)) l
       (λ x i. ap (λ c. getD (numberingOf (packed h) .numbers) c 0) (label-at h x) ∙ number-made (inner x) (port-shown (graphOf h) (p x i))))
 
-  atoms-made : mapped (atomBy (numberingOf (packed h) .numbers) (labelAt (packed h))) (length (h .atoms)) (packed h .atoms) ≡ packedNormal h .atoms
+  atoms-made : mapped (atomNumbered (numberingOf (packed h) .numbers) (labelAt (packed h))) (length (h .atoms)) (packed h .atoms) ≡ packedNormal h .atoms
   atoms-made =
-      mapped-padded (sheetAtoms + 1) noAtom (h .atoms) (atomBy (numberingOf (packed h) .numbers) (labelAt (packed h))) (length (h .atoms)) refl
-      ∙ ap (padded (sheetAtoms + 1) noAtom) (map-agree (atomBy (numberingOf (packed h) .numbers) (labelAt (packed h))) (normalAtom h) (h .atoms)
+      mapped-padded (sheetAtoms + 1) noAtom (h .atoms) (atomNumbered (numberingOf (packed h) .numbers) (labelAt (packed h))) (length (h .atoms)) refl
+      ∙ ap (padded (sheetAtoms + 1) noAtom) (map-agree (atomNumbered (numberingOf (packed h) .numbers) (labelAt (packed h))) (normalAtom h) (h .atoms)
       (λ a i. ap (λ (l : List ℕ). record { name = a .name; count = a .count; links = l }) (links-made (take (a .count) (a .links))
       (λ x j. ports-in (atomCell a) (inner x) (Memᴰ·append-left (map contextCell (h .contexts)) (Memᴰ·map atomCell i)) (Memᴰ·map inner j)))))
 
-  contexts-made : mapped (contextBy (numberingOf (packed h) .numbers) (labelAt (packed h))) (length (h .contexts)) (packed h .contexts) ≡ packedNormal h .contexts
+  contexts-made : mapped (contextNumbered (numberingOf (packed h) .numbers) (labelAt (packed h))) (length (h .contexts)) (packed h .contexts) ≡ packedNormal h .contexts
   contexts-made =
-      mapped-padded (figureContexts + 1) noContext (h .contexts) (contextBy (numberingOf (packed h) .numbers) (labelAt (packed h))) (length (h .contexts)) refl
-      ∙ ap (padded (figureContexts + 1) noContext) (map-agree (contextBy (numberingOf (packed h) .numbers) (labelAt (packed h))) (normalContext h) (h .contexts)
+      mapped-padded (figureContexts + 1) noContext (h .contexts) (contextNumbered (numberingOf (packed h) .numbers) (labelAt (packed h))) (length (h .contexts)) refl
+      ∙ ap (padded (figureContexts + 1) noContext) (map-agree (contextNumbered (numberingOf (packed h) .numbers) (labelAt (packed h))) (normalContext h) (h .contexts)
       (λ c i. ap (λ (l : List ℕ). record { number = c .number; count = c .count; links = l; row = c .row }) (links-made (take (c .count) (c .links))
       (λ x j. ports-in (contextCell c) (inner x) (Memᴰ·append-right (map atomCell (h .atoms)) (Memᴰ·map contextCell i)) (Memᴰ·map inner j)))))
 

@@ -9,8 +9,10 @@ use lib.ListN.{length, getD, set, take, drop, length-append}
 use lib.Seq.{take-suc, take-suc-set, take-all}
 use Rattle.rows.specs.Format.{rowWidth}
 use Rattle.rows.proofs.RowBytes.{row-width, over, over-more}
+use Rattle.rows.specs.declared.Atom.{Atom}
+use Rattle.rows.specs.declared.Context.{Context}
 use Rattle.sheet.specs.NormalText.{joined}
-use Rattle.sheet.specs.NormalRows.{rowsTo, atomRow, contextRow, markRow, normalRows, Narrow}
+use Rattle.sheet.specs.NormalRows.{rowsTo, atomRowIn, contextRowIn, markRowIn, atomRow, contextRow, markRow, normalRows, Narrow}
 use Rattle.sheet.specs.declared.normal.Normal.{Normal}
 
 -- one turn of copying links after two numbers
@@ -73,24 +75,24 @@ unfolding joined
 joined-append [] b = refl
 joined-append (r ∷ a) b = rw (joined-append a b) (sym (append-assoc r (joined a) (joined b)))
 
+pub atom-width : (atoms : List Atom) (k : ℕ) → length (atomRowIn atoms k) ≡ rowWidth
+atom-width atoms k = row-width _ _
+
+pub context-width : (contexts : List Context) (k : ℕ) → length (contextRowIn contexts k) ≡ rowWidth
+context-width contexts k = row-width _ _
+
+pub mark-width : (marked marks : List ℕ) (k : ℕ) → length (markRowIn marked marks k) ≡ rowWidth
+mark-width marked marks k = row-width _ _
+
 module _ (n : Normal) where
-  pub atom-width : (k : ℕ) → length (atomRow n k) ≡ rowWidth
-  atom-width k = row-width _ _
-
-  pub context-width : (k : ℕ) → length (contextRow n k) ≡ rowWidth
-  context-width k = row-width _ _
-
-  pub mark-width : (k : ℕ) → length (markRow n k) ≡ rowWidth
-  mark-width k = row-width _ _
-
   atoms-length : length (rowsTo (atomRow n) (n .«atom_count»)) ≡ n .«atom_count» * rowWidth
-  atoms-length = rows-length (atomRow n) atom-width (n .«atom_count»)
+  atoms-length = rows-length (atomRow n) (atom-width (n .atoms)) (n .«atom_count»)
 
   contexts-length : length (rowsTo (contextRow n) (n .«context_count»)) ≡ n .«context_count» * rowWidth
-  contexts-length = rows-length (contextRow n) context-width (n .«context_count»)
+  contexts-length = rows-length (contextRow n) (context-width (n .contexts)) (n .«context_count»)
 
   marks-length : length (rowsTo (markRow n) (n .«mark_count»)) ≡ n .«mark_count» * rowWidth
-  marks-length = rows-length (markRow n) mark-width (n .«mark_count»)
+  marks-length = rows-length (markRow n) (mark-width (n .marked) (n .marks)) (n .«mark_count»)
 
   pub normal-length : length (normalRows n) ≡ (n .«atom_count» + n .«context_count» + n .«mark_count») * rowWidth
   unfolding normalRows

@@ -3,7 +3,7 @@ use borrow.Author.Needs.{needs}
 use mathlib.Core.Path.{refl, ap, sym, _∙_}
 use Rattle.sheet.specs.Filling.{isPassed}
 use Rattle.sheet.specs.Reading.{noPorts}
-use Rattle.sheet.specs.declared.kind.Kind.the-variants.{Plain}
+use Rattle.sheet.specs.declared.kind.Kind.the-variants.{Plain, Figure}
 use Rattle.sheet.specs.declared.read.Reading.{Reading}
 use Rattle.sheet.proofs.normal.NormalReady.{numberable-read, normal-read}
 use Rattle.claiming.proofs.ClaimCode.{claim-first, claim-second, claim-third, claim-all}
@@ -39,43 +39,51 @@ enum-told-3 c = search needs
 
 normal-of-requires : tie.Need-normal-of-requires
 normal-of-requires c κs =
-    let l = c .before .before .before .before .before .before .before .before .before in
-    let r = l .before .before in
+    let r = c .before .before .before .before .before .before .before .before .before .before .before in
     rw (r .read-sheet .ensures) (numberable-read Plain noPorts (r .before .before .before .before .args .sheet .now))
+
+normal-of-requires-2 : tie.Need-normal-of-requires-2
+normal-of-requires-2 c κs =
+    let g = c .before .before .before .before .before .before .before .before .before in
+    rw (g .read-figure .ensures) (numberable-read Figure noPorts (g .before .before .before .before .before .before .before .args .figure .now))
 
 claim-read-requires : tie.Need-claim-read-requires
 claim-read-requires c κs =
-    let l = c .before .before .before .before .before .before .before .before .before .before in
-    let g = l .before in
-    let r = g .before in
+    let n = c .before in
+    let w = n .before .before .before .before in
+    let l = w .before .before in
+    let v = l .before in
+    let g = v .before .before in
+    let u = g .before in
+    let r = u .before .before in
     let a = r .before .before .before .before .args in (
       (
         a .sheet .now,
         (
           a .figure .now,
           record {
-            of-sheet = normal-read Plain noPorts (a .sheet .now) refl (c .normal-of .result) (rw (r .read-sheet .ensures) at (c .normal-of .ensures));
-            of-figure = ap (λ (x : Reading). x .sheet) (g .read-figure .ensures);
+            of-sheet = normal-read Plain noPorts (a .sheet .now) refl (n .normal-of .result) (rw (r .read-sheet .ensures) at (n .normal-of .ensures));
+            of-figure = normal-read Figure noPorts (a .figure .now) refl (c .normal-of2 .result) (rw (g .read-figure .ensures) at (c .normal-of2 .ensures));
           },
         ),
       ),
       ap (λ (x : Reading). x .sheet) (l .read-list .ensures),
-      ap isPassed (sym (ap (λ (x : Reading). x .answer) (l .read-list .ensures)) ∙ c .before .before .before .before .enum-told3 .given .1),
+      ap isPassed (sym (ap (λ (x : Reading). x .answer) (l .read-list .ensures)) ∙ w .enum-told3 .given .1),
     )
 
 returns : tie.Need-returns
 returns c =
     let k = c .before .one .given in
-    let r = c .before .before .before .before .before in
+    let r = c .before .before .before in
     let a = r .before .before .before .before .args in
     claim-first (a .sheet .now) (a .figure .now) (a .list .now) (k .0 .0) (k .0 .1 .0) (sym (ap (λ (x : Reading). x .answer) (r .read-sheet .ensures)) ∙ k .1)
 
 returns-2 : tie.Need-returns-2
 returns-2 c =
     let k = c .before .two .given in
-    let u = c .before .before .before in
-    let g = u .before .before .before in
-    let r = g .before in
+    let g = c .before .before .before in
+    let u = g .before in
+    let r = u .before .before in
     let a = r .before .before .before .before .args in
     claim-second (a .sheet .now) (a .figure .now) (a .list .now) (sym (ap (λ (x : Reading). x .answer) (r .read-sheet .ensures)) ∙ u .enum-told .given .1)
     (k .0 .0) (k .0 .1 .0) (sym (ap (λ (x : Reading). x .answer) (g .read-figure .ensures)) ∙ k .1)
@@ -83,11 +91,11 @@ returns-2 c =
 returns-3 : tie.Need-returns-3
 returns-3 c =
     let k = c .before .three .given in
-    let v = c .before .before .before in
-    let u = v .before .before in
-    let l = u .before .before in
-    let g = l .before in
-    let r = g .before in
+    let l = c .before .before .before in
+    let v = l .before in
+    let g = v .before .before in
+    let u = g .before in
+    let r = u .before .before in
     let a = r .before .before .before .before .args in
     claim-third (a .sheet .now) (a .figure .now) (a .list .now) (sym (ap (λ (x : Reading). x .answer) (r .read-sheet .ensures)) ∙ u .enum-told .given .1)
     (sym (ap (λ (x : Reading). x .answer) (g .read-figure .ensures)) ∙ v .enum-told2 .given .1)
@@ -95,17 +103,18 @@ returns-3 c =
 
 returns-4 : tie.Need-returns-4
 returns-4 c =
-    let n = c .before in
+    let m = c .before in
+    let n = m .before in
     let w = n .before .before .before .before in
-    let v = w .before .before in
-    let u = v .before .before in
-    let l = u .before .before in
-    let g = l .before in
-    let r = g .before in
+    let l = w .before .before in
+    let v = l .before in
+    let g = v .before .before in
+    let u = g .before in
+    let r = u .before .before in
     let a = r .before .before .before .before .args in
     c .claim-read .ensures (a .sheet .now) (a .figure .now) (record {
       of-sheet = normal-read Plain noPorts (a .sheet .now) refl (n .normal-of .result) (rw (r .read-sheet .ensures) at (n .normal-of .ensures));
-      of-figure = ap (λ (x : Reading). x .sheet) (g .read-figure .ensures);
+      of-figure = normal-read Figure noPorts (a .figure .now) refl (m .normal-of2 .result) (rw (g .read-figure .ensures) at (m .normal-of2 .ensures));
     })
     ∙ claim-all (a .sheet .now) (a .figure .now) (a .list .now) (sym (ap (λ (x : Reading). x .answer) (r .read-sheet .ensures)) ∙ u .enum-told .given .1)
     (sym (ap (λ (x : Reading). x .answer) (g .read-figure .ensures)) ∙ v .enum-told2 .given .1)
@@ -116,15 +125,16 @@ claim-spec =
     tie.close
     (tie.spec
     read-sheet-requires
-    read-figure-requires
-    read-list-requires
     enum-known-one
     enum-told
+    read-figure-requires
     enum-known-two
     enum-told-2
+    read-list-requires
     enum-known-three
     enum-told-3
     normal-of-requires
+    normal-of-requires-2
     claim-read-requires
     returns
     returns-2

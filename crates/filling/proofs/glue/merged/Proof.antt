@@ -9,15 +9,15 @@ use mathlib.Core.Logic.{⊎-elim}
 use Rattle.rows.specs.Held.{relabelled}
 use Rattle.rows.proofs.Lists.{mapped, relabel-hit, relabel-miss}
 use Rattle.filling.specs.Parts.{places}
-use Rattle.filling.proofs.Loops.{mapped-whole}
+use Rattle.filling.proofs.Fresh.{merged-first}
 use Rattle.filling.proofs.glue.merged.Statement.{statement}
 use Rattle.filling.proofs.glue.merged.Tie as tie
 
 abbrev Inv-loop : tie.InvT-loop
-Inv-loop labels₀ a b from to k₀ labels k = (k ≤ places) × (length labels ≡ places) × (labels ≡ mapped (relabelled from to) k labels₀)
+Inv-loop labels₀ n a b from to k₀ labels k = (k ≤ n) × (length labels ≡ places) × (labels ≡ mapped (relabelled from to) k labels₀)
 
 abbrev μ-loop : tie.MeasureT-loop
-μ-loop labels₀ a b from to k₀ labels k = places - k
+μ-loop labels₀ n a b from to k₀ labels k = n - k
 
 mul-from : tie.Need-mul-from Inv-loop μ-loop
 mul-from c = search needs
@@ -32,7 +32,7 @@ element-copy-out-to : tie.Need-element-copy-out-to Inv-loop μ-loop
 element-copy-out-to c = search needs
 
 loop-holds : tie.Need-loop-holds Inv-loop μ-loop
-loop-holds c = (search needs, c .before .before .pre .2, refl)
+loop-holds c = (search needs, c .before .before .pre .3 .size, refl)
 
 mul-label : tie.Need-mul-label Inv-loop μ-loop
 mul-label c = search needs
@@ -58,7 +58,7 @@ loop-again c = let l = c .before .before .before in
     let L = s .args .labels .now in
     let from = getD L (s .args .b) 0 in
     let to = getD L (s .args .a) 0 in
-    let h : l .loop .k < length L = omega (arith, s .pre .2) in (
+    let h : l .loop .k < length L = omega (arith, s .pre .2, s .pre .3 .size) in (
       search needs,
       simp length-set (l .loop .inv .1),
       ⊎-elim
@@ -71,8 +71,8 @@ returns : tie.Need-returns Inv-loop μ-loop
 returns c = let l = c .before in
     let s = l .before .before .before in
     let L = s .args .labels .now in
-    let e : l .loop .k ≡ places = omega arith in
-    (rw e at (l .loop .inv .2)) ∙ mapped-whole (relabelled (getD L (s .args .b) 0) (getD L (s .args .a) 0)) L places (s .pre .2)
+    let e : l .loop .k ≡ s .args .n = omega arith in
+    (rw e at (l .loop .inv .2)) ∙ merged-first L (s .args .n) (s .args .a) (s .args .b) (s .pre .0) (s .pre .1) (s .pre .3)
 
 pub merged-spec : {M : Type 1} → statement M
 merged-spec =

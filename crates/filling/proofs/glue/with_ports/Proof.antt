@@ -1,20 +1,20 @@
 -- Invariant: with the ports that are left, all are joined.
 use borrow.Author.Needs.{needs}
 use native.Mathlib.Omega.{arith}
-use Prim.Native.Nat.{ℕ, _≤_, _+_, _-_}
-use mathlib.Core.Path.{_≡_, refl, sym, _∙_, ap}
+use Prim.Native.Nat.{_≤_, _+_, _*_, _-_}
+use mathlib.Core.Path.{_≡_, refl, sym, _∙_, ap, subst}
 use lib.ListN.{length, getD, take, drop}
 use Rattle.rows.specs.Format.{mostLinks}
 use Rattle.rows.specs.Limits.{sheetMarks}
-use Rattle.filling.specs.Parts.{places}
-use Rattle.filling.specs.Glued.{placeOf, joinedAll, portPairs}
-use Rattle.filling.proofs.Join.{joined-length}
+use Rattle.filling.specs.Parts.{partRoom}
+use Rattle.filling.specs.Glued.{placeOf, FreshFrom, joinedAll, portPairs}
+use Rattle.filling.proofs.Fresh.{fresh-joined}
 use Rattle.filling.proofs.Loops.{ports-next, ports-end}
 use Rattle.filling.proofs.glue.with_ports.Statement.{statement}
 use Rattle.filling.proofs.glue.with_ports.Tie as tie
 
 abbrev Inv-loop : tie.InvT-loop
-Inv-loop labels₀ p count links marked k₀ labels k = (k ≤ count) × (length links ≡ mostLinks) × (length marked ≡ sheetMarks + 1) × (length labels ≡ places) × (joinedAll labels (portPairs p (drop k (take count links)) (drop k (take count marked))) ≡ joinedAll labels₀ (portPairs p (take count links) (take count marked)))
+Inv-loop labels₀ p count links marked k₀ labels k = (k ≤ count) × (length links ≡ mostLinks) × (length marked ≡ sheetMarks + 1) × FreshFrom ((p + 1) * partRoom) labels × (joinedAll labels (portPairs p (drop k (take count links)) (drop k (take count marked))) ≡ joinedAll labels₀ (portPairs p (take count links) (take count marked)))
 
 abbrev μ-loop : tie.MeasureT-loop
 μ-loop labels₀ p count links marked k₀ labels k = count - k
@@ -22,8 +22,16 @@ abbrev μ-loop : tie.MeasureT-loop
 loop-holds : tie.Need-loop-holds Inv-loop μ-loop
 loop-holds c = (search needs, search needs, search needs, c .pre .0 .2, refl)
 
+add-merged : tie.Need-add-merged Inv-loop μ-loop
+add-merged c = let l = c .before .before in
+    omega (arith, l .before .pre .0 .0, l .before .pre .0 .1, l .before .pre .1 (l .loop .k) .0, l .before .pre .1 (l .loop .k) .1)
+
 mul-merged : tie.Need-mul-merged Inv-loop μ-loop
 mul-merged c = let l = c .before .before in
+    omega (arith, l .before .pre .0 .0, l .before .pre .0 .1, l .before .pre .1 (l .loop .k) .0, l .before .pre .1 (l .loop .k) .1)
+
+mul-merged-2 : tie.Need-mul-merged-2 Inv-loop μ-loop
+mul-merged-2 c = let l = c .before .before in
     omega (arith, l .before .pre .0 .0, l .before .pre .0 .1, l .before .pre .1 (l .loop .k) .0, l .before .pre .1 (l .loop .k) .1)
 
 array-read-merged : tie.Need-array-read-merged Inv-loop μ-loop
@@ -34,12 +42,12 @@ cast-merged : tie.Need-cast-merged Inv-loop μ-loop
 cast-merged c = let l = c .before .before in
     omega (arith, l .before .pre .0 .0, l .before .pre .0 .1, l .before .pre .1 (l .loop .k) .0, l .before .pre .1 (l .loop .k) .1)
 
-mul-merged-2 : tie.Need-mul-merged-2 Inv-loop μ-loop
-mul-merged-2 c = let l = c .before .before in
-    omega (arith, l .before .pre .0 .0, l .before .pre .0 .1, l .before .pre .1 (l .loop .k) .0, l .before .pre .1 (l .loop .k) .1)
-
 mul-merged-3 : tie.Need-mul-merged-3 Inv-loop μ-loop
 mul-merged-3 c = let l = c .before .before in
+    omega (arith, l .before .pre .0 .0, l .before .pre .0 .1, l .before .pre .1 (l .loop .k) .0, l .before .pre .1 (l .loop .k) .1)
+
+mul-merged-4 : tie.Need-mul-merged-4 Inv-loop μ-loop
+mul-merged-4 c = let l = c .before .before in
     omega (arith, l .before .pre .0 .0, l .before .pre .0 .1, l .before .pre .1 (l .loop .k) .0, l .before .pre .1 (l .loop .k) .1)
 
 array-read-merged-2 : tie.Need-array-read-merged-2 Inv-loop μ-loop
@@ -50,14 +58,14 @@ cast-merged-2 : tie.Need-cast-merged-2 Inv-loop μ-loop
 cast-merged-2 c = let l = c .before .before in
     omega (arith, l .before .pre .0 .0, l .before .pre .0 .1, l .before .pre .1 (l .loop .k) .0, l .before .pre .1 (l .loop .k) .1)
 
-add-merged : tie.Need-add-merged Inv-loop μ-loop
-add-merged c = let l = c .before .before in
+add-merged-2 : tie.Need-add-merged-2 Inv-loop μ-loop
+add-merged-2 c = let l = c .before .before in
     omega (arith, l .before .pre .0 .0, l .before .pre .0 .1, l .before .pre .1 (l .loop .k) .0, l .before .pre .1 (l .loop .k) .1)
 
 merged-requires : tie.Need-merged-requires Inv-loop μ-loop
 merged-requires c κs = let l = c .before .before in
     let h = l .before .pre in
-    (omega (arith, h .1 (l .loop .k) .0), omega (arith, h .0 .0, h .1 (l .loop .k) .1), l .loop .inv .3)
+    (omega (arith, h .1 (l .loop .k) .0), omega (arith, h .1 (l .loop .k) .1), omega (arith, h .0 .0), l .loop .inv .3)
 
 add-k : tie.Need-add-k Inv-loop μ-loop
 add-k c = search needs
@@ -68,12 +76,12 @@ loop-less c = search needs
 loop-again : tie.Need-loop-again Inv-loop μ-loop
 loop-again c = let l = c .before .before .before in
     let a = l .before .args in
-    let h = l .before .pre in
-    let e : ℕ × ℕ = (getD (a .t3) (l .loop .k) 0, placeOf (a .p) (getD (a .t5) (l .loop .k) 0)) in (
+    let h = l .before .pre in (
       search needs,
       l .loop .inv .1,
       l .loop .inv .2,
-      ap length (c .merged .ensures) ∙ joined-length (l .loop .labels) e ∙ l .loop .inv .3,
+      subst (FreshFrom ((a .p + 1) * partRoom)) (sym (c .merged .ensures))
+          (fresh-joined (l .loop .labels) ((a .p + 1) * partRoom) (getD (a .t3) (l .loop .k) 0) (placeOf (a .p) (getD (a .t5) (l .loop .k) 0)) (omega (arith, h .1 (l .loop .k) .0)) (omega (arith, h .1 (l .loop .k) .1)) (l .loop .inv .3) (omega (arith, h .0 .0))),
       ap (λ m. joinedAll m (portPairs (a .p) (drop (l .loop .k + 1) (take (a .count) (a .t3))) (drop (l .loop .k + 1) (take (a .count) (a .t5))))) (c .merged .ensures)
           ∙ sym (ports-next (a .p) (a .count) (l .loop .k) (a .t3) (a .t5) (l .loop .labels) (omega (arith, l .loop .inv .1, h .0 .1)) (omega (arith, l .loop .inv .2, h .0 .1)) (c .before .before .loop-test .taken)) ∙ l .loop .inv .4,
     )
@@ -81,7 +89,7 @@ loop-again c = let l = c .before .before .before in
 returns : tie.Need-returns Inv-loop μ-loop
 returns c = let l = c .before in
     let a = l .before .args in
-    sym (ports-end (a .p) (a .count) (l .loop .k) (a .t3) (a .t5) (l .loop .labels) (c .loop-test .left)) ∙ l .loop .inv .4
+    (sym (ports-end (a .p) (a .count) (l .loop .k) (a .t3) (a .t5) (l .loop .labels) (c .loop-test .left)) ∙ l .loop .inv .4, l .loop .inv .3)
 
 pub with-ports-spec : {M : Type 1} → statement M
 with-ports-spec =
@@ -90,14 +98,16 @@ with-ports-spec =
     Inv-loop
     μ-loop
     loop-holds
+    add-merged
     mul-merged
+    mul-merged-2
     array-read-merged
     cast-merged
-    mul-merged-2
     mul-merged-3
+    mul-merged-4
     array-read-merged-2
     cast-merged-2
-    add-merged
+    add-merged-2
     merged-requires
     add-k
     loop-less

@@ -16,10 +16,10 @@ use Rattle.filling.proofs.part.first_differing.Statement.{statement}
 use Rattle.filling.proofs.part.first_differing.Tie as tie
 
 abbrev Inv-loop : tie.InvT-loop
-Inv-loop list exact heads i₀ i = (i ≤ heads .«context_count») × (length (heads .contexts) ≡ figureContexts + 1) × (firstDiffering list (drop i (take (heads .«context_count») (heads .contexts))) ≡ firstDiffering list (take (heads .«context_count») (heads .contexts)))
+Inv-loop count list exact heads i₀ i = (i ≤ count) × (length heads ≡ figureContexts + 1) × (firstDiffering list (drop i (take count heads)) ≡ firstDiffering list (take count heads))
 
 abbrev μ-loop : tie.MeasureT-loop
-μ-loop list exact heads i₀ i = heads .«context_count» - i
+μ-loop count list exact heads i₀ i = count - i
 
 loop-holds : tie.Need-loop-holds Inv-loop μ-loop
 loop-holds c = (search needs, search (needs, unmapped), refl)
@@ -27,8 +27,8 @@ loop-holds c = (search needs, search (needs, unmapped), refl)
 mul-head : tie.Need-mul-head Inv-loop μ-loop
 mul-head c = omega (arith, c .before .before .before .pre .0 .few)
 
-element-copy-out-head : tie.Need-element-copy-out-head Inv-loop μ-loop
-element-copy-out-head c = omega (arith, c .before .before .before .pre .0 .few)
+array-copy-out-head : tie.Need-array-copy-out-head Inv-loop μ-loop
+array-copy-out-head c = omega (arith, c .before .before .before .pre .0 .few)
 
 is-exact-requires : tie.Need-is-exact-requires Inv-loop μ-loop
 is-exact-requires c κs = let l = c .before .before in
@@ -44,8 +44,8 @@ returns c = let t = c .before in
     let l = x .before .before .before in
     let s = l .before .before in
     let a = s .args in
-    let h = getD (a .t1 .contexts) (l .loop .i) pastContexts in
-    sym (differing-next (a .list .now) (a .t1 .contexts) (a .t1 .«context_count») (l .loop .i) pastContexts (omega (arith, l .loop .inv .1, s .pre .0 .few)) (x .before .before .loop-test .taken) false
+    let h = getD (a .t1) (l .loop .i) pastContexts in
+    sym (differing-next (a .list .now) (a .t1) (a .count) (l .loop .i) pastContexts (omega (arith, l .loop .inv .1, s .pre .0 .few)) (x .before .before .loop-test .taken) false
     (sym (x .is-exact .ensures ∙ exact-part (a .list .now) (h .number) (h .count)) ∙ not-true _ (t .if1 .taken)))
     ∙ l .loop .inv .2
 
@@ -60,10 +60,10 @@ loop-again c = let x = c .before in
     let l = x .before .before .before in
     let s = l .before .before in
     let a = s .args in
-    let h = getD (a .t1 .contexts) (l .loop .i) pastContexts in (
+    let h = getD (a .t1) (l .loop .i) pastContexts in (
       search needs,
       l .loop .inv .1,
-      sym (differing-next (a .list .now) (a .t1 .contexts) (a .t1 .«context_count») (l .loop .i) pastContexts (omega (arith, l .loop .inv .1, s .pre .0 .few)) (x .before .before .loop-test .taken) true
+      sym (differing-next (a .list .now) (a .t1) (a .count) (l .loop .i) pastContexts (omega (arith, l .loop .inv .1, s .pre .0 .few)) (x .before .before .loop-test .taken) true
           (sym (x .is-exact .ensures ∙ exact-part (a .list .now) (h .number) (h .count)) ∙ not-false _ (c .if1 .left)))
           ∙ l .loop .inv .2,
     )
@@ -71,7 +71,7 @@ loop-again c = let x = c .before in
 returns-2 : tie.Need-returns-2 Inv-loop μ-loop
 returns-2 c = let l = c .before in
     let a = l .before .before .args in
-    sym (differing-end (a .list .now) (a .t1 .contexts) (a .t1 .«context_count») (l .loop .i) pastContexts (c .loop-test .left)) ∙ l .loop .inv .2
+    sym (differing-end (a .list .now) (a .t1) (a .count) (l .loop .i) pastContexts (c .loop-test .left)) ∙ l .loop .inv .2
 
 pub first-differing-spec : {M : Type 1} → statement M
 first-differing-spec =
@@ -81,7 +81,7 @@ first-differing-spec =
     μ-loop
     loop-holds
     mul-head
-    element-copy-out-head
+    array-copy-out-head
     is-exact-requires
     cast-result
     returns

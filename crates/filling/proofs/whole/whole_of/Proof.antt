@@ -1,7 +1,7 @@
 -- Invariant: with the contexts that are left, all have their fillings, and all atoms are there.
 use borrow.Author.Needs.{needs}
 use native.Mathlib.Omega.{arith}
-use Prim.Native.Nat.{ℕ, _≤_, _<_, _+_, _-_}
+use Prim.Native.Nat.{ℕ, _≤_, _<_, _+_, _*_, _-_}
 use mathlib.Core.Path.{_≡_, refl, sym, _∙_, ap, subst}
 use mathlib.Core.List.{List, _++_, append-nil, append-assoc}
 use lib.ListN.{length, getD, take, drop, length-take}
@@ -10,36 +10,36 @@ use Rattle.rows.specs.declared.Atom.{Atom}
 use Rattle.sheet.specs.NormalRows.{pastContexts}
 use Rattle.sheet.specs.declared.normal.Normal.{Normal}
 use Rattle.numbering.proofs.Turns.{unmapped}
-use Rattle.filling.specs.Parts.{partNormal, partRoom, places, Low, Exacts}
-use Rattle.filling.specs.Glued.{joinedAll, portPairs, allPairs}
+use Rattle.filling.specs.Parts.{partNormal, partRoom, Low, Exacts}
+use Rattle.filling.specs.Glued.{FreshFrom, joinedAll, portPairs, allPairs}
 use Rattle.filling.specs.Whole.{partAtoms, contextAtoms, roomFor, wholeAtoms}
 use Rattle.filling.proofs.Parts.{part-low, part-marks}
-use Rattle.filling.proofs.Join.{all-length}
-use Rattle.filling.proofs.Loops.{pairs-next, pairs-end, room-twice, room-all, atoms-next, atoms-end, own-places}
+use Rattle.filling.proofs.Fresh.{fresh-own, fresh-more}
+use Rattle.filling.proofs.Loops.{pairs-next, pairs-end, room-twice, room-all, atoms-next, atoms-end}
 use Rattle.filling.proofs.whole.whole_of.Statement.{statement}
 use Rattle.filling.proofs.whole.whole_of.Tie as tie
 
 abbrev Inv-loop : tie.InvT-loop
-Inv-loop list labels₀ exact₀ figure whole₀ i₀ labels exact whole i = (i ≤ figure .«context_count») × (length (figure .contexts) ≡ figureContexts + 1) × (length labels ≡ places) × (whole .count ≤ sheetAtoms + 1)
-    × (joinedAll labels (allPairs list (i + 1) (drop i (take (figure .«context_count») (figure .contexts)))) ≡ joinedAll labels₀ (allPairs list 1 (take (figure .«context_count») (figure .contexts))))
-    × (roomFor (wholeAtoms whole ++ contextAtoms list (i + 1) (drop i (take (figure .«context_count») (figure .contexts)))) ≡ roomFor (wholeAtoms whole₀ ++ contextAtoms list 1 (take (figure .«context_count») (figure .contexts))))
+Inv-loop count list labels₀ exact₀ contexts whole₀ i₀ labels exact whole i = (i ≤ count) × (length contexts ≡ figureContexts + 1) × FreshFrom ((i + 1) * partRoom) labels × (whole .count ≤ sheetAtoms + 1)
+    × (joinedAll labels (allPairs list (i + 1) (drop i (take count contexts))) ≡ joinedAll labels₀ (allPairs list 1 (take count contexts)))
+    × (roomFor (wholeAtoms whole ++ contextAtoms list (i + 1) (drop i (take count contexts))) ≡ roomFor (wholeAtoms whole₀ ++ contextAtoms list 1 (take count contexts)))
     × Exacts list exact
 
 abbrev μ-loop : tie.MeasureT-loop
-μ-loop list labels₀ exact₀ figure whole₀ i₀ labels exact whole i = figure .«context_count» - i
+μ-loop count list labels₀ exact₀ contexts whole₀ i₀ labels exact whole i = count - i
 
 loop-holds : tie.Need-loop-holds Inv-loop μ-loop
-loop-holds c = let s = c .before .before in
-    (search needs, search (needs, unmapped), s .pre .2, omega (arith, s .pre .0 .atoms), refl, refl, s .pre .3)
+loop-holds c = let s = c .before in
+    (search needs, search (needs, unmapped), fresh-own (s .args .labels .now) partRoom (omega arith) (s .pre .3), s .pre .1, refl, refl, s .pre .4)
 
 mul-context : tie.Need-mul-context Inv-loop μ-loop
-mul-context c = omega (arith, c .before .before .before .before .pre .0 .contexts)
+mul-context c = omega (arith, c .before .before .before .pre .0 .counted .few)
 
-element-copy-out-context : tie.Need-element-copy-out-context Inv-loop μ-loop
-element-copy-out-context c = omega (arith, c .before .before .before .before .pre .0 .contexts)
+array-copy-out-context : tie.Need-array-copy-out-context Inv-loop μ-loop
+array-copy-out-context c = omega (arith, c .before .before .before .pre .0 .counted .few)
 
 part-of-requires : tie.Need-part-of-requires Inv-loop μ-loop
-part-of-requires c κs = c .before .before .before .before .before .before .pre .1
+part-of-requires c κs = c .before .before .before .before .before .pre .2
 
 add-with-ports : tie.Need-add-with-ports Inv-loop μ-loop
 add-with-ports c = search needs
@@ -50,18 +50,18 @@ cast-with-ports c = search needs
 with-ports-requires : tie.Need-with-ports-requires Inv-loop μ-loop
 with-ports-requires c κs = let p = c .before .before .before in
     let l = p .before .before .before .before in
-    let s = l .before .before .before in
-    let x = getD (s .args .t1 .contexts) (l .loop .i) pastContexts in (
-      (omega (arith, s .pre .0 .contexts, p .before .before .before .loop-test .taken), s .pre .0 .contextCounts (l .loop .i), l .loop .inv .2),
-      λ k. (s .pre .0 .contextLinks (l .loop .i) k, subst (λ (n : Normal). getD (n .marked) k 0 < partRoom) (sym (p .part-of .ensures)) (part-low (s .args .list .now) (x .number) .marked k)),
+    let s = l .before .before in
+    let x = getD (s .args .t2) (l .loop .i) pastContexts in (
+      (omega (arith, s .pre .0 .counted .few, p .before .before .before .loop-test .taken), s .pre .0 .counted .count (l .loop .i), fresh-more (l .loop .labels) ((l .loop .i + 1) * partRoom) ((l .loop .i + 1 + 1) * partRoom) (omega arith) (omega (arith, s .pre .0 .counted .few, p .before .before .before .loop-test .taken)) (l .loop .inv .2)),
+      λ k. (s .pre .0 .links (l .loop .i) k, subst (λ (n : Normal). getD (n .marked) k 0 < partRoom) (sym (p .part-of .ensures)) (part-low (s .args .list .now) (x .number) .marked k)),
     )
 
 note-exact-requires : tie.Need-note-exact-requires Inv-loop μ-loop
 note-exact-requires c κs = let p = c .before .before .before .before .before .before .before in
     let l = p .before .before .before .before in
-    let s = l .before .before .before in
-    let x = getD (s .args .t1 .contexts) (l .loop .i) pastContexts in
-    (subst (λ (n : Normal). n .«mark_count» ≤ sheetMarks) (sym (p .part-of .ensures)) (part-low (s .args .list .now) (x .number) .marks), subst (λ (n : Normal). length (n .marks) ≡ sheetMarks + 1) (sym (p .part-of .ensures)) (part-marks (s .args .list .now) (x .number)), s .pre .0 .contextNumbers (l .loop .i), s .pre .0 .contextCounts (l .loop .i))
+    let s = l .before .before in
+    let x = getD (s .args .t2) (l .loop .i) pastContexts in
+    (subst (λ (n : Normal). n .«mark_count» ≤ sheetMarks) (sym (p .part-of .ensures)) (part-low (s .args .list .now) (x .number) .marks), subst (λ (n : Normal). length (n .marks) ≡ sheetMarks + 1) (sym (p .part-of .ensures)) (part-marks (s .args .list .now) (x .number)), s .pre .0 .counted .number (l .loop .i), s .pre .0 .counted .count (l .loop .i))
 
 add-with-part : tie.Need-add-with-part Inv-loop μ-loop
 add-with-part c = search needs
@@ -69,14 +69,14 @@ add-with-part c = search needs
 with-part-requires : tie.Need-with-part-requires Inv-loop μ-loop
 with-part-requires c κs = let p = c .before .before .before .before .before .before .before .before .before in
     let l = p .before .before .before .before in
-    let s = l .before .before .before in
-    let x = getD (s .args .t1 .contexts) (l .loop .i) pastContexts in
+    let s = l .before .before in
+    let x = getD (s .args .t2) (l .loop .i) pastContexts in
     let low : Low (p .part-of .result) = subst Low (sym (p .part-of .ensures)) (part-low (s .args .list .now) (x .number)) in
-    (l .loop .inv .3, omega (arith, s .pre .0 .contexts, p .before .before .before .loop-test .taken), low .atoms, low .atomLinks)
+    (l .loop .inv .3, omega (arith, s .pre .0 .counted .few, p .before .before .before .loop-test .taken), low .atoms, low .atomLinks)
 
 add-i : tie.Need-add-i Inv-loop μ-loop
 add-i c = let t = c .before .before .before .before .before .before .before .before .before .before .before .before .before in
-    omega (arith, t .loop-test .taken, t .before .before .before .before .pre .0 .contexts)
+    omega (arith, t .loop-test .taken, t .before .before .before .pre .0 .counted .few)
 
 loop-less : tie.Need-loop-less Inv-loop μ-loop
 loop-less c = search needs
@@ -86,11 +86,11 @@ loop-again c = let note = c .before .before in
     let w = note .before .before .before .before in
     let p = w .before .before .before .before in
     let l = p .before .before .before .before in
-    let s = l .before .before .before in
+    let s = l .before .before in
     let a = s .args in
-    let x = getD (a .t1 .contexts) (l .loop .i) pastContexts in
-    let left = drop (l .loop .i + 1) (take (a .t1 .«context_count») (a .t1 .contexts)) in
-    let many : a .t1 .«context_count» ≤ length (a .t1 .contexts) = omega (arith, l .loop .inv .1, s .pre .0 .contexts) in
+    let x = getD (a .t2) (l .loop .i) pastContexts in
+    let left = drop (l .loop .i + 1) (take (a .count) (a .t2)) in
+    let many : a .count ≤ length (a .t2) = omega (arith, l .loop .inv .1, s .pre .0 .counted .few) in
     let in-loop = p .before .before .before .loop-test .taken in
     let pairs = allPairs (a .list .now) (l .loop .i + 1 + 1) left in
     let rest = contextAtoms (a .list .now) (l .loop .i + 1 + 1) left in
@@ -99,27 +99,26 @@ loop-again c = let note = c .before .before in
     let g : wholeAtoms (c .with-part .result) ≡ roomFor (W ++ P) = c .with-part .ensures .atoms ∙ ap (λ (n : Normal). roomFor (W ++ partAtoms (l .loop .i + 1) n)) (p .part-of .ensures) in (
       search needs,
       l .loop .inv .1,
-      ap length (w .with-ports .ensures) ∙ all-length (portPairs (l .loop .i + 1) (take (x .count) (x .links)) (take (x .count) (p .part-of .result .marked))) (l .loop .labels) ∙ l .loop .inv .2,
+      w .with-ports .ensures .1,
       c .with-part .ensures .few,
-      ap (λ (m : List ℕ). joinedAll m pairs) (w .with-ports .ensures ∙ ap (λ (n : Normal). joinedAll (l .loop .labels) (portPairs (l .loop .i + 1) (take (x .count) (x .links)) (take (x .count) (n .marked)))) (p .part-of .ensures))
-          ∙ sym (pairs-next (a .list .now) (a .t1 .contexts) (a .t1 .«context_count») (l .loop .i) pastContexts (l .loop .labels) (l .loop .i + 1) many in-loop) ∙ l .loop .inv .4,
+      ap (λ (m : List ℕ). joinedAll m pairs) (w .with-ports .ensures .0 ∙ ap (λ (n : Normal). joinedAll (l .loop .labels) (portPairs (l .loop .i + 1) (take (x .count) (x .links)) (take (x .count) (n .marked)))) (p .part-of .ensures))
+          ∙ sym (pairs-next (a .list .now) (a .t2) (a .count) (l .loop .i) pastContexts (l .loop .labels) (l .loop .i + 1) many in-loop) ∙ l .loop .inv .4,
       ap (λ (w : List Atom). roomFor (w ++ rest)) g ∙ room-twice (W ++ P) rest ∙ ap roomFor (append-assoc W P rest)
-          ∙ ap (λ (t : List Atom). roomFor (W ++ t)) (sym (atoms-next (a .list .now) (a .t1 .contexts) (a .t1 .«context_count») (l .loop .i) pastContexts (l .loop .i + 1) many in-loop)) ∙ l .loop .inv .5,
+          ∙ ap (λ (t : List Atom). roomFor (W ++ t)) (sym (atoms-next (a .list .now) (a .t2) (a .count) (l .loop .i) pastContexts (l .loop .i + 1) many in-loop)) ∙ l .loop .inv .5,
       note .note-exact .ensures (a .list .now) (ap (λ (n : Normal). take (n .«mark_count») (n .marks)) (p .part-of .ensures)) (l .loop .inv .6),
     )
 
 returns : tie.Need-returns Inv-loop μ-loop
 returns c = let l = c .before in
-    let a = l .before .before .before .args in
-    let W = wholeAtoms (l .loop .whole) in
-    let rest = contextAtoms (a .list .now) 1 (take (a .t1 .«context_count») (a .t1 .contexts)) in (
+    let a = l .before .before .args in
+    let W = wholeAtoms (l .loop .whole) in (
       l .loop .inv .6,
       record {
         atoms = sym (room-all W (omega (arith, length-take (l .loop .whole .count) (l .loop .whole .atoms), l .loop .inv .3))) ∙ ap roomFor (sym (append-nil W))
-            ∙ ap (λ (t : List Atom). roomFor (W ++ t)) (sym (atoms-end (a .list .now) (a .t1 .contexts) (a .t1 .«context_count») (l .loop .i) pastContexts (l .loop .i + 1) (c .loop-test .left)))
-            ∙ l .loop .inv .5 ∙ ap (λ (t : List Atom). roomFor (t ++ rest)) (sym (own-places (take (a .t1 .«atom_count») (a .t1 .atoms))));
+            ∙ ap (λ (t : List Atom). roomFor (W ++ t)) (sym (atoms-end (a .list .now) (a .t2) (a .count) (l .loop .i) pastContexts (l .loop .i + 1) (c .loop-test .left)))
+            ∙ l .loop .inv .5;
         few = l .loop .inv .3;
-        labels = sym (pairs-end (a .list .now) (a .t1 .contexts) (a .t1 .«context_count») (l .loop .i) pastContexts (l .loop .labels) (l .loop .i + 1) (c .loop-test .left)) ∙ l .loop .inv .4;
+        labels = sym (pairs-end (a .list .now) (a .t2) (a .count) (l .loop .i) pastContexts (l .loop .labels) (l .loop .i + 1) (c .loop-test .left)) ∙ l .loop .inv .4;
       },
     )
 
@@ -131,7 +130,7 @@ whole-of-spec =
     μ-loop
     loop-holds
     mul-context
-    element-copy-out-context
+    array-copy-out-context
     part-of-requires
     add-with-ports
     cast-with-ports

@@ -1,27 +1,29 @@
--- No candidate before the first, and none after it.
+-- Nothing but the first is in the set.
 use borrow.Author.Needs.{needs}
-use native.Mathlib.Omega.{arith}
 use Rattle.matching.proofs.Forcing.{only-one}
 use Rattle.matching.proofs.forced.forced.Statement.{statement}
 use Rattle.matching.proofs.forced.forced.Tie as tie
 
-next-candidate-requires : tie.Need-next-candidate-requires
-next-candidate-requires c κs = search needs
+mul-row : tie.Need-mul-row
+mul-row c = search needs
+
+element-copy-out-row : tie.Need-element-copy-out-row
+element-copy-out-row c = search needs
 
 returns : tie.Need-returns
 returns c = search needs
 
-add-next-candidate : tie.Need-add-next-candidate
-add-next-candidate c = search needs
+first-requires : tie.Need-first-requires
+first-requires c κs = search needs
 
-next-candidate-requires-2 : tie.Need-next-candidate-requires-2
-next-candidate-requires-2 c κs = search needs
+one-requires : tie.Need-one-requires
+one-requires c κs = search needs
+
+minus-requires : tie.Need-minus-requires
+minus-requires c κs = search needs
 
 returns-2 : tie.Need-returns-2
 returns-2 c = search needs
-
-is-shared-requires : tie.Need-is-shared-requires
-is-shared-requires c κs = search needs
 
 returns-3 : tie.Need-returns-3
 returns-3 c = search needs
@@ -30,21 +32,23 @@ add-result : tie.Need-add-result
 add-result c = search needs
 
 returns-4 : tie.Need-returns-4
-returns-4 c = let d = c .before .before .before in
-    let f = c .before .before .before .before .before in
-    let a = f .before .args in
-    only-one (a .atoms .now) (a .k) (a .n) (f .next-candidate .result) (d .next-candidate2 .result) (omega (arith, d .before .if1 .left)) (f .next-candidate .ensures .1) (omega (arith, c .before .before .if2 .left)) (d .next-candidate2 .ensures .1)
+returns-4 c = let m = c .before .before .minus in
+    let o = c .before .before .before .one in
+    let f = c .before .before .before .before .first in
+    let a = c .before .before .before .before .before .before .before .args in
+    only-one (a .atoms .now) (a .k) (a .n) (f .result) (o .result) (m .result) (c .if3 .left) (o .ensures .1) (m .ensures .1) (c .before .if2 .left)
 
 pub forced-spec : {M : Type 1} → statement M
 forced-spec =
     tie.close
     (tie.spec
-    next-candidate-requires
+    mul-row
+    element-copy-out-row
     returns
-    add-next-candidate
-    next-candidate-requires-2
+    first-requires
+    one-requires
+    minus-requires
     returns-2
-    is-shared-requires
     returns-3
     add-result
     returns-4)

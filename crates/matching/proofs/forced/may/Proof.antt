@@ -4,18 +4,18 @@ use Rattle.matching.specs.Search.{mayIn}
 use Rattle.matching.proofs.forced.may.Statement.{statement}
 use Rattle.matching.proofs.forced.may.Tie as tie
 
-mul-result : tie.Need-mul-result
-mul-result c = search needs
+mul-has : tie.Need-mul-has
+mul-has c = search needs
 
-add-result : tie.Need-add-result
-add-result c = search needs
+element-copy-out-has : tie.Need-element-copy-out-has
+element-copy-out-has c = search needs
 
-element-copy-out-result : tie.Need-element-copy-out-result
-element-copy-out-result c = search needs
+has-requires : tie.Need-has-requires
+has-requires c κs = search needs
 
 returns : tie.Need-returns
 unfolding mayIn
-returns c = search needs
+returns c = c .has .ensures
 
 pub may-spec : {M : Type 1} → statement M
-may-spec = tie.close (tie.spec mul-result add-result element-copy-out-result returns)
+may-spec = tie.close (tie.spec mul-has element-copy-out-has has-requires returns)

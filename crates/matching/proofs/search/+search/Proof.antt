@@ -2,7 +2,7 @@
 -- fail. The measure of the recursion is the count still unplaced. Assumes nothing.
 use borrow.Author.Needs.{needs}
 use Prim.Native.Nat.{ℕ, _+_, _-_, _<_}
-use mathlib.Core.Path.{_≡_, _∙_, sym, refl, ap, subst}
+use mathlib.Core.Path.{_∙_, sym, refl, ap, subst}
 use mathlib.Core.Logic.{⊎-elim}
 use native.Mathlib.Omega.{arith}
 use mathlib.Core.List.{List}
@@ -12,7 +12,12 @@ use borrow.Fn.PlainCycle.{Measures, is, falls, and}
 use Rattle.network.specs.NetIn.{netIn}
 use Rattle.network.specs.Ready.{AtomsIn}
 use Rattle.matching.specs.Search.{Kept, searchFrom, Onward}
-use Rattle.narrowing.proofs.Laying.{laid-rowed}
+use Rattle.sheet.specs.declared.normal.Normal.{Normal as NormalForm}
+use Rattle.candidates.specs.Frames.{whole}
+use Rattle.candidates.specs.Laid.{LaidOut}
+use Rattle.candidates.proofs.Laying.{laid-rowed}
+use Rattle.candidates.proofs.Marks.{own-marks}
+use Rattle.lawful.specs.Checks.{Lent}
 use Rattle.matching.proofs.SearchTurns.{Tries, tries-same, pre-length, nothing-begun, tries-start, tries-end, tries-skip, next-begin, next-atoms, tries-hit, tries-miss}
 use Rattle.matching.proofs.search.search.Reads as search′
 use Rattle.matching.proofs.search.search.Kinds as search-kinds
@@ -27,9 +32,13 @@ use Rattle.matching.proofs.search.worthwhile.Reads as worthwhile-reads
 use Rattle.matching.proofs.search.+search.{statement}
 use Rattle.matching.proofs.search.+search.Tie.{close}
 
+-- the sheet as it is lent to what excuses candidates
+lent : (sheet : NormalForm) (laid : List ℕ) → LaidOut sheet laid (sheet .«atom_count») → Lent sheet laid (sheet .«atom_count») (sheet .marked) (sheet .«mark_count») (sheet .«class_count»)
+lent sheet laid o = record { atoms = o; marks = own-marks sheet (o .fit) (o .normal); count = refl }
+
 -- the count still unplaced
 abbrev μ-search : Measures 1 search-kinds.ps ℕ
-μ-search κs a = a .1 .0 .«atom_count» - a .1 .1 .1 .1 .1 .1 .1 .0
+μ-search κs a = a .1 .0 .«atom_count» - a .1 .1 .1 .1 .1 .1 .1 .1 .1 .0
 
 abbrev search-at : ℕ → In 1 search-kinds.ps
 search-at t = and 1 search-kinds.ps (is 1 search-kinds.ps μ-search t) search′.Pre
@@ -38,10 +47,10 @@ abbrev search-below : ℕ → In 1 search-kinds.ps
 search-below t = and 1 search-kinds.ps (falls 1 search-kinds.ps _<_ μ-search t) search′.Pre
 
 abbrev Inv-loop : search-lts.InvT-loop
-Inv-loop sheet figure atoms links laid parts from lost n m placed k failed₀ work₀ t₀ failed work t = Tries sheet figure (take k placed) failed work t
+Inv-loop figure users owners atoms links laid parts from lost sheet n m placed k failed₀ work₀ t₀ failed work t = Tries (whole sheet laid) (whole figure parts) (take k placed) failed work t
 
 abbrev μ-loop : search-lts.MeasureT-loop
-μ-loop sheet figure atoms links laid parts from lost n m placed k failed₀ work₀ t₀ failed work t = n - t
+μ-loop figure users owners atoms links laid parts from lost sheet n m placed k failed₀ work₀ t₀ failed work t = n - t
 
 abbrev claims : ℕ → search-lts.Claims
 claims n = (
@@ -64,10 +73,17 @@ claims n = (
 )
 
 module _ (n : ℕ) where
+  -- the sheet and the figure
+  abbrev sheet-of : search-lts.Start (claims n) (search-at n) search′.Post Inv-loop μ-loop → NormalForm
+  sheet-of b = whole (b .args .t1) (b .args .laid .now)
+
+  abbrev figure-of : search-lts.Start (claims n) (search-at n) search′.Post Inv-loop μ-loop → NormalForm
+  figure-of b = whole (b .args .figure) (b .args .parts .now)
+
   -- what is placed where the search begins to try
   onward : (d : search-lts.After-advance (claims n) (search-at n) search′.Post Inv-loop μ-loop)
-      → let b = d .before .before .before in Onward (b .args .sheet) (b .args .figure) (b .args .atoms .now) (b .args .links .now) (b .args .from) (b .args .chosen) (d .advance .result) (d .advance .last .1 .0)
-  onward d = let b = d .before .before .before in d .advance .ensures .onward (b .args .sheet) (b .args .figure) (b .args .links .now) (b .pre .1 .0) refl refl (b .pre .1 .2) (b .pre .1 .3 .keeps)
+      → let b = d .before .before .before in Onward (sheet-of b) (figure-of b) (b .args .atoms .now) (b .args .links .now) (b .args .from) (b .args .chosen) (d .advance .result) (d .advance .last .1 .0)
+  onward d = let b = d .before .before .before in d .advance .ensures .onward (sheet-of b) (figure-of b) (b .args .links .now) (b .pre .1 .0) refl refl (b .pre .1 .2) (b .pre .1 .3 .keeps)
 
   -- some figure atom is left
   unfinished : (c : search-lts.Else2 (claims n) (search-at n) search′.Post Inv-loop μ-loop) → c .before .advance .result < c .before .before .before .before .args .figure .«atom_count»
@@ -79,7 +95,7 @@ module _ (n : ℕ) where
   returns : search-lts.Need-returns (claims n) (search-at n) search′.Post Inv-loop μ-loop
   returns c =
       let b = c .before .before in
-      nothing-begun (b .args .sheet) (b .args .figure) (b .pre .1 .0) (b .args .chosen) (b .args .from) (b .pre .1 .1) (b .pre .1 .2) (b .pre .1 .3 .none (c .before .if1 .taken)) (c .nothing .result) (c .nothing .ensures)
+      nothing-begun (sheet-of b) (figure-of b) (b .pre .1 .0) (b .args .chosen) (b .args .from) (b .pre .1 .1) (b .pre .1 .2) (b .pre .1 .3 .none (c .before .if1 .taken)) (c .nothing .result) (c .nothing .ensures)
 
   advance-requires : search-lts.Need-advance-requires (claims n) (search-at n) search′.Post Inv-loop μ-loop
   advance-requires c κs =
@@ -89,19 +105,19 @@ module _ (n : ℕ) where
   leaf-requires c κs =
       let d = c .before in
       let b = d .before .before .before in
-      (b .pre .1 .0, subst (λ (i : ℕ). AtomsIn (b .args .sheet) i (d .advance .last .1 .0)) (c .if2 .taken) (onward d .atoms-in), b .pre .1 .4, b .pre .1 .5)
+      (b .pre .1 .0, subst (λ (i : ℕ). AtomsIn (sheet-of b) i (d .advance .last .1 .0)) (c .if2 .taken) (onward d .atoms-in), b .pre .1 .4, b .pre .1 .5)
 
   returns-2 : search-lts.Need-returns-2 (claims n) (search-at n) search′.Post Inv-loop μ-loop
   returns-2 c =
       let d = c .before .before in
       let b = d .before .before .before in
-      c .leaf .ensures ∙ ap (λ (i : ℕ). searchFrom (netIn (b .args .sheet)) (netIn (b .args .figure)) (take i (d .advance .last .1 .0))) (sym (c .before .if2 .taken)) ∙ onward d .same
+      c .leaf .ensures ∙ ap (λ (i : ℕ). searchFrom (netIn (sheet-of b)) (netIn (figure-of b)) (take i (d .advance .last .1 .0))) (sym (c .before .if2 .taken)) ∙ onward d .same
 
   loop-holds : search-lts.Need-loop-holds (claims n) (search-at n) search′.Post Inv-loop μ-loop
   loop-holds c =
       let d = c .before in
       let b = d .before .before .before in
-      tries-start (b .args .sheet) (b .args .figure) (b .pre .1 .0) (d .advance .last .1 .0) (d .advance .result) (d .advance .ensures .within) (onward d .atoms-in) (unfinished c) _ refl
+      tries-start (sheet-of b) (figure-of b) (b .pre .1 .0) (d .advance .last .1 .0) (d .advance .result) (d .advance .ensures .within) (onward d .atoms-in) (unfinished c) _ refl
 
   worthwhile-requires : search-lts.Need-worthwhile-requires (claims n) (search-at n) search′.Post Inv-loop μ-loop
   worthwhile-requires c κs =
@@ -143,7 +159,7 @@ module _ (n : ℕ) where
       let l = c .before .before .before .before .before .before .before .before in
       let d = l .before .before in
       let b = d .before .before .before in
-      (laid-rowed (b .args .sheet) (b .args .laid .now) _ (b .pre .1 .4), laid-rowed (b .args .figure) (b .args .parts .now) _ (b .pre .1 .5), unfinished (l .before), c .before .before .before .before .before .before .before .loop-test .taken)
+      (laid-rowed (sheet-of b) (b .args .laid .now) _ (b .pre .1 .4), b .pre .1 .6, laid-rowed (figure-of b) (b .args .parts .now) _ (b .pre .1 .5), b .pre .1 .7, unfinished (l .before), c .before .before .before .before .before .before .before .loop-test .taken)
 
   add-search : search-lts.Need-add-search (claims n) (search-at n) search′.Post Inv-loop μ-loop
   add-search c =
@@ -160,16 +176,18 @@ module _ (n : ℕ) where
       let u = unfinished (l .before) in
       let h = c .before .before .before .before .before .before .before .before .before .before .loop-test .taken in
       let w = c .before .before .try-atom in
-      let e = next-begin (b .args .sheet) (b .args .figure) (b .pre .1 .0) (d .advance .last .1 .0) (d .advance .result) (d .advance .ensures .within) (onward d .atoms-in) u (l .loop .failed) (l .loop .work) (l .loop .t) (l .loop .inv) h in (
+      let e = next-begin (sheet-of b) (figure-of b) (b .pre .1 .0) (d .advance .last .1 .0) (d .advance .result) (d .advance .ensures .within) (onward d .atoms-in) u (l .loop .failed) (l .loop .work) (l .loop .t) (l .loop .inv) h in (
         omega (arith, b .pre .0, u, d .advance .ensures .after),
         (
           b .pre .1 .0,
           omega (arith, u),
-          next-atoms (b .args .sheet) (b .args .figure) (b .pre .1 .0) (d .advance .last .1 .0) (d .advance .result) (d .advance .ensures .within) (onward d .atoms-in) u (l .loop .failed) (l .loop .work) (l .loop .t) (l .loop .inv) h,
-          subst (λ (m : List ℕ). Kept (b .args .sheet) (b .args .figure) m (w .last .1 .1 .1 .1 .1 .1 .0) (w .last .1 .1 .1 .1 .1 .1 .1 .0) (w .result)) (sym e)
-              (w .ensures (b .args .sheet) (b .args .figure) (b .pre .1 .4) (b .pre .1 .5) (take (d .advance .result) (d .advance .last .1 .0)) (pre-length (b .args .sheet) (b .args .figure) (b .pre .1 .0) (d .advance .last .1 .0) (d .advance .result) (d .advance .ensures .within) (onward d .atoms-in)) (onward d .keeps)),
+          next-atoms (sheet-of b) (figure-of b) (b .pre .1 .0) (d .advance .last .1 .0) (d .advance .result) (d .advance .ensures .within) (onward d .atoms-in) u (l .loop .failed) (l .loop .work) (l .loop .t) (l .loop .inv) h,
+          subst (λ (m : List ℕ). Kept (sheet-of b) (figure-of b) m (w .last .1 .1 .1 .1 .1 .1 .1 .1 .0) (w .last .1 .1 .1 .1 .1 .1 .1 .1 .1 .0) (w .result)) (sym e)
+              (w .ensures (sheet-of b) (figure-of b) (b .pre .1 .4) (b .pre .1 .5) (take (d .advance .result) (d .advance .last .1 .0)) (pre-length (sheet-of b) (figure-of b) (b .pre .1 .0) (d .advance .last .1 .0) (d .advance .result) (d .advance .ensures .within) (onward d .atoms-in)) (onward d .keeps)),
           b .pre .1 .4,
           b .pre .1 .5,
+          b .pre .1 .6,
+          b .pre .1 .7,
         ),
       )
 
@@ -178,21 +196,21 @@ module _ (n : ℕ) where
       let l = c .before .before .before .before .before .before .before .before .before .before .before .before .before in
       let d = l .before .before in
       let b = d .before .before .before in
-      tries-hit (b .args .sheet) (b .args .figure) (b .pre .1 .0) (d .advance .last .1 .0) (d .advance .result) (d .advance .ensures .within) (onward d .atoms-in) (unfinished (l .before)) (l .loop .failed) (l .loop .work) (l .loop .t) (l .loop .inv) (c .before .before .before .before .before .before .before .before .before .before .before .before .loop-test .taken) (c .before .search .result) (c .before .search .ensures) (c .if4 .taken) ∙ onward d .same
+      tries-hit (sheet-of b) (figure-of b) (b .pre .1 .0) (d .advance .last .1 .0) (d .advance .result) (d .advance .ensures .within) (onward d .atoms-in) (unfinished (l .before)) (l .loop .failed) (l .loop .work) (l .loop .t) (l .loop .inv) (c .before .before .before .before .before .before .before .before .before .before .before .before .loop-test .taken) (c .before .search .result) (c .before .search .ensures) (c .if4 .taken) ∙ onward d .same
 
   tally-requires : search-lts.Need-tally-requires (claims n) (search-at n) search′.Post Inv-loop μ-loop
   tally-requires c κs = search needs
 
   excuse-requires : search-lts.Need-excuse-requires (claims n) (search-at n) search′.Post Inv-loop μ-loop
   excuse-requires c κs =
-      let l = c .before .before .before .before .before .before .before .before .before .before .before .before .before .before .before in
+      let l = c .before .before .before .before .before .before .before .before .before .before .before .before .before .before .before .before .before .before in
       let d = l .before .before in
       let b = d .before .before .before in
-      (b .pre .1 .4, omega (arith, unfinished (l .before), b .pre .1 .0 .figure-fit .atom-count), c .before .before .before .before .before .before .before .before .before .before .before .before .before .before .loop-test .taken, b .pre .1 .0 .sheet-fit .atom-count)
+      (laid-rowed (sheet-of b) (b .args .laid .now) _ (b .pre .1 .4), b .pre .1 .0 .sheet-fit .mark-count, omega (arith, unfinished (l .before), b .pre .1 .0 .figure-fit .atom-count), c .before .before .before .before .before .before .before .before .before .before .before .before .before .before .before .before .before .loop-test .taken)
 
   tally-requires-2 : search-lts.Need-tally-requires-2 (claims n) (search-at n) search′.Post Inv-loop μ-loop
   tally-requires-2 c κs =
-      c .before .before .before .before .before .before .before .before .before .before .before .before .before .before .before .before .loop .inv .worked
+      c .before .before .before .before .before .before .before .before .before .before .before .before .before .before .before .before .before .before .before .loop .inv .worked
 
   add-t : search-lts.Need-add-t (claims n) (search-at n) search′.Post Inv-loop μ-loop
   add-t c =
@@ -213,8 +231,8 @@ module _ (n : ℕ) where
       let u = unfinished (l .before) in
       let h = c .before .before .before .loop-test .taken in
       ⊎-elim
-      (λ w. tries-same (w .14) (w .15) (tries-miss (b .args .sheet) (b .args .figure) (b .pre .1 .0) (d .advance .last .1 .0) (d .advance .result) (d .advance .ensures .within) (onward d .atoms-in) u (l .loop .failed) (l .loop .work) (l .loop .t) (l .loop .inv) h (w .8 .result) (w .8 .ensures) (w .9 .left) (w .12 .last .1 .1 .1 .1 .1 .1 .0) (w .12 .ensures) (w .13 .result) (w .13 .ensures)))
-      (λ w. tries-same (w .1) (w .2) (tries-skip (b .args .sheet) (b .args .figure) (b .pre .1 .0) (d .advance .last .1 .0) (d .advance .result) (d .advance .ensures .within) (onward d .atoms-in) u (l .loop .failed) (l .loop .work) (l .loop .t) (l .loop .inv) h (b .args .atoms .now) (b .args .links .now) (onward d .keeps) (c .before .worthwhile .ensures (w .0 .left))))
+      (λ w. tries-same (w .17) (w .18) (tries-miss (sheet-of b) (figure-of b) (b .pre .1 .0) (d .advance .last .1 .0) (d .advance .result) (d .advance .ensures .within) (onward d .atoms-in) u (l .loop .failed) (l .loop .work) (l .loop .t) (l .loop .inv) h (w .8 .result) (w .8 .ensures) (w .9 .left) (w .15 .last .1 .1 .1 .1 .1 .1 .1 .1 .1 .0) (w .15 .ensures (sheet-of b) (lent (sheet-of b) (b .args .laid .now) (b .pre .1 .4))) (w .16 .result) (w .16 .ensures)))
+      (λ w. tries-same (w .1) (w .2) (tries-skip (sheet-of b) (figure-of b) (b .pre .1 .0) (d .advance .last .1 .0) (d .advance .result) (d .advance .ensures .within) (onward d .atoms-in) u (l .loop .failed) (l .loop .work) (l .loop .t) (l .loop .inv) h (b .args .atoms .now) (b .args .links .now) (onward d .keeps) (c .before .worthwhile .ensures (w .0 .left))))
       (c .if3 .came)
 
   nothing-requires-2 : search-lts.Need-nothing-requires-2 (claims n) (search-at n) search′.Post Inv-loop μ-loop
@@ -225,7 +243,7 @@ module _ (n : ℕ) where
       let l = c .before .before in
       let d = l .before .before in
       let b = d .before .before .before in
-      tries-end (b .args .sheet) (b .args .figure) (b .pre .1 .0) (d .advance .last .1 .0) (d .advance .result) (d .advance .ensures .within) (onward d .atoms-in) (unfinished (l .before)) (l .loop .failed) (l .loop .work) (l .loop .t) (l .loop .inv) (omega arith) (c .nothing2 .result) (c .nothing2 .ensures) ∙ onward d .same
+      tries-end (sheet-of b) (figure-of b) (b .pre .1 .0) (d .advance .last .1 .0) (d .advance .result) (d .advance .ensures .within) (onward d .atoms-in) (unfinished (l .before)) (l .loop .failed) (l .loop .work) (l .loop .t) (l .loop .inv) (omega arith) (c .nothing2 .result) (c .nothing2 .ensures) ∙ onward d .same
 
 pub +search-spec : {M : Type 1} → statement M
 +search-spec = close μ-search λ n. search-lts.spec (claims n)

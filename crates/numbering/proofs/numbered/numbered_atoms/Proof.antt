@@ -9,7 +9,7 @@ use Rattle.rows.specs.Format.{mostLinks}
 use Rattle.rows.specs.Limits.{sheetAtoms}
 use Rattle.rows.specs.declared.Atom.{Atom}
 use Rattle.rows.proofs.Lists.{mapped}
-use Rattle.numbering.specs.Numbering.{numbering, labelIn, withClasses, linkLabels, atomLabels, atomBy}
+use Rattle.numbering.specs.Numbering.{numbering, labelIn, withClasses, linkLabels, atomLabels, atomNumbered}
 use Rattle.numbering.proofs.Turns.{unmapped, with-links-count, atoms-next, atoms-end}
 use Rattle.numbering.proofs.Kept.{pass-same, pass-put}
 use Rattle.numbering.proofs.numbered.numbered_atoms.Statement.{statement}
@@ -25,7 +25,7 @@ linked a w = record { name = a .name; count = a .count; links = w }
 abbrev Inv-loop : tie.InvT-loop
 Inv-loop numbers₀ count₀ links classes n atom-count atoms₀ i₀ numbers count atoms i = (i ≤ atom-count) × (length atoms₀ ≡ sheetAtoms + 1) × (count ≤ count₀ + mostLinks * i)
     × (withClasses (numbering numbers count) (atomLabels (labelIn links classes n) (drop i (take atom-count atoms₀))) ≡ withClasses (numbering numbers₀ count₀) (atomLabels (labelIn links classes n) (take atom-count atoms₀)))
-    × ((later : List ℕ) → atoms ≡ mapped (atomBy (withClasses (withClasses (numbering numbers₀ count₀) (atomLabels (labelIn links classes n) (take atom-count atoms₀))) later .numbers) (labelIn links classes n)) i atoms₀)
+    × ((later : List ℕ) → atoms ≡ mapped (atomNumbered (withClasses (withClasses (numbering numbers₀ count₀) (atomLabels (labelIn links classes n) (take atom-count atoms₀))) later .numbers) (labelIn links classes n)) i atoms₀)
 
 abbrev μ-loop : tie.MeasureT-loop
 μ-loop numbers₀ count₀ links classes n atom-count atoms₀ i₀ numbers count atoms i = atom-count - i

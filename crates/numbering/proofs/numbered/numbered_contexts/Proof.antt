@@ -9,7 +9,7 @@ use Rattle.rows.specs.Format.{mostLinks}
 use Rattle.rows.specs.Limits.{figureContexts}
 use Rattle.rows.specs.declared.Context.{Context}
 use Rattle.rows.proofs.Lists.{mapped}
-use Rattle.numbering.specs.Numbering.{numbering, labelIn, withClasses, linkLabels, contextLabels, contextBy}
+use Rattle.numbering.specs.Numbering.{numbering, labelIn, withClasses, linkLabels, contextLabels, contextNumbered}
 use Rattle.numbering.proofs.Turns.{unmapped, with-links-count, contexts-next, contexts-end}
 use Rattle.numbering.proofs.Kept.{pass-same, pass-put}
 use Rattle.numbering.proofs.numbered.numbered_contexts.Statement.{statement}
@@ -25,7 +25,7 @@ linked a w = record { number = a .number; count = a .count; links = w; row = a .
 abbrev Inv-loop : tie.InvT-loop
 Inv-loop numbers₀ count₀ links classes n context-count contexts₀ i₀ numbers count contexts i = (i ≤ context-count) × (length contexts₀ ≡ figureContexts + 1) × (count ≤ count₀ + mostLinks * i)
     × (withClasses (numbering numbers count) (contextLabels (labelIn links classes n) (drop i (take context-count contexts₀))) ≡ withClasses (numbering numbers₀ count₀) (contextLabels (labelIn links classes n) (take context-count contexts₀)))
-    × ((later : List ℕ) → contexts ≡ mapped (contextBy (withClasses (withClasses (numbering numbers₀ count₀) (contextLabels (labelIn links classes n) (take context-count contexts₀))) later .numbers) (labelIn links classes n)) i contexts₀)
+    × ((later : List ℕ) → contexts ≡ mapped (contextNumbered (withClasses (withClasses (numbering numbers₀ count₀) (contextLabels (labelIn links classes n) (take context-count contexts₀))) later .numbers) (labelIn links classes n)) i contexts₀)
 
 abbrev μ-loop : tie.MeasureT-loop
 μ-loop numbers₀ count₀ links classes n context-count contexts₀ i₀ numbers count contexts i = context-count - i

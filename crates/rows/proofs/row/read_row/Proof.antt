@@ -10,37 +10,44 @@ use native.Mathlib.Omega.{arith}
 use borrow.Author.Tests.{eq-eqb, ne-eqb, not-true, not-false}
 use lib.Dec.{eqb}
 use lib.ListN.{length, getD, drop, set, length-set}
+use lib.Seq.{getD-set-other}
 use Rattle.rows.specs.Pick.{pick}
 use Rattle.rows.specs.Format.{fieldCount}
 use Rattle.rows.specs.Row.{malformed, fieldOf, fieldsOf, rowOf, rowWith}
-use Rattle.rows.proofs.RowLaws.{digit-more, digit-none, digits-fit, letter-small, misplaced-digit, columns, field-end, field-column, fields-end, fields-malformed, fields-held, row-strange, row-fields}
+use Rattle.rows.proofs.RowLaws.{digit-more, digit-none, digits-fit, letter-small, misplaced-digit, columns, field-end, field-column, fields-malformed, fields-held, row-strange, row-fields}
+use Rattle.rows.proofs.ShortRow.{fields-rest}
+use Rattle.rows.proofs.Padding.{getD-filled}
 use Rattle.rows.proofs.row.read_row.Statement.{statement}
 use Rattle.rows.proofs.row.read_row.Tie as tie
 
 abbrev Inv-loop : tie.InvT-loop
-Inv-loop row letter nums good₀ own f at col₀ n₀ filled₀ good col n filled = (col ≤ 4) × (n < 10 ^ col) × (good ≡ true) × (fieldOf false 0 (columns row at) ≡ fieldOf filled n (drop col (columns row at)))
+Inv-loop row letter own fields nums good₀ f at col₀ n₀ filled₀ good col n filled = (col ≤ 4) × (n < 10 ^ col) × (good ≡ good₀) × (fieldOf false 0 (columns row at) ≡ fieldOf filled n (drop col (columns row at)))
 
 abbrev μ-loop : tie.MeasureT-loop
-μ-loop row letter nums good₀ own f at col₀ n₀ filled₀ good col n filled = 4 - col
+μ-loop row letter own fields nums good₀ f at col₀ n₀ filled₀ good col n filled = 4 - col
 
 abbrev Inv-row : tie.InvT-row
-Inv-row row letter nums₀ good₀ own f₀ nums good f = (f ≤ fieldCount) × (length nums ≡ fieldCount) × (good ≡ true) × (rowOf row ≡ fieldsOf row letter f nums (fieldCount - f))
+Inv-row row letter own fields nums₀ good₀ f₀ nums good f = (f ≤ fields) × (length nums ≡ fieldCount) × (good ≡ good₀) × (rowOf row ≡ fieldsOf row letter f nums (fieldCount - f)) × ((k : ℕ) → f ≤ k → getD nums k 0 ≡ 0)
 
 abbrev μ-row : tie.MeasureT-row
-μ-row row letter nums₀ good₀ own f₀ nums good f = fieldCount - f
+μ-row row letter own fields nums₀ good₀ f₀ nums good f = fields - f
 
 -- at a column: the row's bytes, its letter's place, the field's first column, the column's byte
 abbrev bytes : tie.At-loop Inv-loop μ-loop Inv-row μ-row → List ℕ
-bytes l = l .before .before .before .before .before .before .before .before .args .row .now
+bytes l = l .before .before .before .before .before .before .before .before .before .before .args .row .now
 
 abbrev place : tie.At-loop Inv-loop μ-loop Inv-row μ-row → ℕ
-place l = l .before .before .before .before .before .letter-of .result
+place l = l .before .before .before .before .before .before .before .letter-of .result
 
 abbrev start : tie.At-loop Inv-loop μ-loop Inv-row μ-row → ℕ
 start l = l .before .before .row .f * 4 + 1
 
 abbrev byte : tie.At-loop Inv-loop μ-loop Inv-row μ-row → ℕ
 byte l = getD (bytes l) (start l + l .loop .col) 0
+
+-- the field is one of the row's
+small : (l : tie.At-loop Inv-loop μ-loop Inv-row μ-row) → l .before .before .row .f < fieldCount
+small l = omega (arith, l .before .row-test .taken, l .before .before .before .before .most-fields .ensures .0)
 
 -- what the field holds, by the two tests of a column's byte
 column : (c : tie.After-misplaced Inv-loop μ-loop Inv-row μ-row) →
@@ -68,8 +75,8 @@ judgement c good e =
     let l = c .before .before .before in
     let r = l .before .before .row in
     let held = l .loop .inv .3 ∙ field-end (bytes l) (start l) (l .loop .col) (l .loop .filled) (l .loop .n) (c .before .before .loop-test .left) in
-    r .inv .3 ∙ fields-held (bytes l) (place l) (r .f) (r .nums) (l .before .row-test .taken) (l .loop .filled) (l .loop .n) good held
-    (cc (c .before .rule-of .ensures (place l) (l .before .before .before .rules-of .ensures), c .field-suits .ensures))
+    r .inv .3 ∙ fields-held (bytes l) (place l) (r .f) (r .nums) (small l) (l .loop .filled) (l .loop .n) good held
+    (cc (c .before .rule-of .ensures (place l) (l .before .before .before .before .before .rules-of .ensures), c .field-suits .ensures))
 
 shared-slice-read-letter-of : tie.Need-shared-slice-read-letter-of Inv-loop μ-loop Inv-row μ-row
 shared-slice-read-letter-of c = search needs
@@ -88,8 +95,14 @@ rules-of-requires : tie.Need-rules-of-requires Inv-loop μ-loop Inv-row μ-row
 rules-of-requires c κs = let k = c .before .letter-of .ensures in
     rw k (letter-small _ (λ e. c .if1 .left (k ∙ e)))
 
+most-fields-requires : tie.Need-most-fields-requires Inv-loop μ-loop Inv-row μ-row
+most-fields-requires c κs = search needs
+
+rest-empty-requires : tie.Need-rest-empty-requires Inv-loop μ-loop Inv-row μ-row
+rest-empty-requires c κs = search needs
+
 row-holds : tie.Need-row-holds Inv-loop μ-loop Inv-row μ-row
-row-holds c = (omega arith, refl, refl, row-fields _ (c .before .before .letter-of .result) (c .before .before .letter-of .ensures) (c .before .if1 .left))
+row-holds c = (omega arith, refl, refl, row-fields _ (c .before .before .before .before .letter-of .result) (c .before .before .before .before .letter-of .ensures) (c .before .before .before .if1 .left), λ k h. getD-filled 0 fieldCount k)
 
 mul-at : tie.Need-mul-at Inv-loop μ-loop Inv-row μ-row
 mul-at c = search needs
@@ -98,7 +111,7 @@ add-at : tie.Need-add-at Inv-loop μ-loop Inv-row μ-row
 add-at c = search needs
 
 loop-holds : tie.Need-loop-holds Inv-loop μ-loop Inv-row μ-row
-loop-holds c = (omega arith, omega arith, c .before .row .inv .2, refl)
+loop-holds c = (omega arith, omega arith, refl, refl)
 
 add-b : tie.Need-add-b Inv-loop μ-loop Inv-row μ-row
 add-b c = search needs
@@ -174,18 +187,21 @@ row-again c = let l = c .before .before .before .before in
     let r = l .before .before .row in (
       omega arith,
       simp length-set (r .inv .1),
-      l .loop .inv .2,
+      l .loop .inv .2 ∙ r .inv .2,
       judgement (c .before) true (not-false _ (c .if4 .left)),
+      λ k h. getD-set-other (r .nums) (r .f) k (l .loop .n) 0 (λ e. omega arith) ∙ r .inv .4 k (omega arith),
     )
 
 returns-2 : tie.Need-returns-2 Inv-loop μ-loop Inv-row μ-row
 returns-2 c = let r = c .before .row in
-    rw (r .inv .2) (sym (r .inv .3 ∙ fields-end _ _ (r .f) (r .nums) (c .row-test .left)))
+    let most = c .before .before .before .most-fields .ensures .1 in
+    let e : r .f ≡ c .before .before .before .most-fields .result = omega (arith, c .row-test .left) in
+    rw (r .inv .2 ∙ c .before .before .rest-empty .ensures) (sym (r .inv .3 ∙ fields-rest _ _ (r .f) (r .nums) (e ∙ most) (r .inv .4)))
 
 returns-3 : tie.Need-returns-3 Inv-loop μ-loop Inv-row μ-row
 returns-3 c = let l = c .before .before .before .before in
     let r = l .before .before .row in
-    sym (r .inv .3 ∙ fields-malformed _ _ (r .f) (r .nums) (l .before .row-test .taken) (column (c .before) true (eqb (byte l) 32) (c .if2 .taken) refl))
+    sym (r .inv .3 ∙ fields-malformed _ _ (r .f) (r .nums) (small l) (column (c .before) true (eqb (byte l) 32) (c .if2 .taken) refl))
 
 returns-4 : tie.Need-returns-4 Inv-loop μ-loop Inv-row μ-row
 returns-4 c = sym (judgement (c .before) false (not-true _ (c .if4 .taken)))
@@ -203,6 +219,8 @@ read-row-spec =
     none-requires
     returns
     rules-of-requires
+    most-fields-requires
+    rest-empty-requires
     row-holds
     mul-at
     add-at

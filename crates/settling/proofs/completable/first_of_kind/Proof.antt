@@ -8,13 +8,13 @@ use Rattle.settling.proofs.completable.first_of_kind.Statement.{stateme
 use Rattle.settling.proofs.completable.first_of_kind.Tie as tie
 
 abbrev Inv-loop : tie.InvT-loop
-Inv-loop x flags kinds kind z₀ z = z ≤ x
+Inv-loop flags kinds x kind z₀ z = z ≤ x
 
 abbrev μ-loop : tie.MeasureT-loop
-μ-loop x flags kinds kind z₀ z = x - z
+μ-loop flags kinds x kind z₀ z = x - z
 
-array-read-if1 : tie.Need-array-read-if1 Inv-loop μ-loop
-array-read-if1 c = search needs
+element-copy-out-if1 : tie.Need-element-copy-out-if1 Inv-loop μ-loop
+element-copy-out-if1 c = search needs
 
 returns : tie.Need-returns Inv-loop μ-loop
 returns c = record { first = λ g. both-ways g refl; earlier = λ g e. absurd (c .if1 .taken e) }
@@ -22,25 +22,25 @@ returns c = record { first = λ g. both-ways g refl; earlier = λ g e. absurd (c
 mul-kind : tie.Need-mul-kind Inv-loop μ-loop
 mul-kind c = search needs
 
-array-read-kind : tie.Need-array-read-kind Inv-loop μ-loop
-array-read-kind c = search needs
+element-copy-out-kind : tie.Need-element-copy-out-kind Inv-loop μ-loop
+element-copy-out-kind c = search needs
 
 loop-holds : tie.Need-loop-holds Inv-loop μ-loop
 loop-holds c = search needs
 
-array-read-if2 : tie.Need-array-read-if2 Inv-loop μ-loop
-array-read-if2 c = search needs
+element-copy-out-if2 : tie.Need-element-copy-out-if2 Inv-loop μ-loop
+element-copy-out-if2 c = search needs
 
 mul-if3 : tie.Need-mul-if3 Inv-loop μ-loop
 mul-if3 c = search needs
 
-array-read-if3 : tie.Need-array-read-if3 Inv-loop μ-loop
-array-read-if3 c = search needs
+element-copy-out-if3 : tie.Need-element-copy-out-if3 Inv-loop μ-loop
+element-copy-out-if3 c = search needs
 
 returns-2 : tie.Need-returns-2 Inv-loop μ-loop
 returns-2 c = record {
   first = λ g. both-ways g refl;
-  earlier = λ g e. (c .before .before .before .loop .z, c .before .before .loop-test .taken, c .before .if2 .taken, eqb-true _ _ (c .if3 .taken));
+  earlier = λ g e. (c .before .before .before .before .before .loop .z, c .before .before .before .before .loop-test .taken, c .before .before .if2 .taken, eqb-true _ _ (c .if3 .taken));
 }
 
 add-z : tie.Need-add-z Inv-loop μ-loop
@@ -53,7 +53,7 @@ loop-again : tie.Need-loop-again Inv-loop μ-loop
 loop-again c = search needs
 
 returns-3 : tie.Need-returns-3 Inv-loop μ-loop
-returns-3 c = record { first = λ g. c .before .before .if1 .left; earlier = λ g. both-ways refl g }
+returns-3 c = record { first = λ g. c .before .before .before .if1 .left; earlier = λ g. both-ways refl g }
 
 pub first-of-kind-spec : {M : Type 1} → statement M
 first-of-kind-spec =
@@ -61,14 +61,14 @@ first-of-kind-spec =
     (tie.spec
     Inv-loop
     μ-loop
-    array-read-if1
+    element-copy-out-if1
     returns
     mul-kind
-    array-read-kind
+    element-copy-out-kind
     loop-holds
-    array-read-if2
+    element-copy-out-if2
     mul-if3
-    array-read-if3
+    element-copy-out-if3
     returns-2
     add-z
     loop-less

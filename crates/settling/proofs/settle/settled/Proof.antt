@@ -1,57 +1,70 @@
--- `settle::settled` meets its contract. The loop's invariant: the links before x are settled. Assumes nothing.
-use borrow.Author.Needs.{needs}
+-- `settle::settled` meets its contract. The loop's invariant: the links before x are settled, on any sheet and figure of which this is
+-- read. Assumes nothing.
 use Prim.Native.Nat.{_-_, _≤_}
 use mathlib.Core.Logic.{⊎-elim}
 use native.Mathlib.Omega.{arith}
+use Rattle.sheet.specs.declared.normal.Normal as form
+use Rattle.network.proofs.NetIn.{ports-of}
+use Rattle.settling.specs.Completes.{Tables}
+use Rattle.settling.proofs.Trying.{tables-links}
 use Rattle.settling.proofs.SettleLaws.{SettledTo, settled-same, settled-start, settled-skip, settled-next, settled-end}
 use Rattle.settling.proofs.settle.settled.Statement.{statement}
 use Rattle.settling.proofs.settle.settled.Tie as tie
 
 abbrev Inv-loop : tie.InvT-loop
-Inv-loop sheet figure laid chains taken kinds next₀ rest₀ x₀ next rest x = (x ≤ figure .«class_count») × SettledTo sheet figure taken next₀ rest₀ next rest x
+Inv-loop nets laid chains taken kinds to flags next₀ rest₀ x₀ next rest x =
+    (x ≤ nets .count) × ((sheet figure : form.Normal) → Tables sheet figure nets laid chains kinds to → SettledTo sheet figure taken to flags next rest x)
 
 abbrev μ-loop : tie.MeasureT-loop
-μ-loop sheet figure laid chains taken kinds next₀ rest₀ x₀ next rest x = figure .«class_count» - x
+μ-loop nets laid chains taken kinds to flags next₀ rest₀ x₀ next rest x = nets .count - x
 
 loop-holds : tie.Need-loop-holds Inv-loop μ-loop
-loop-holds c = (omega arith, settled-start (c .args .sheet) (c .args .figure) (c .pre .ready) (c .args .taken) (c .args .to) (c .args .flags) (c .pre .links-in) (search (needs, c .good .1 .1 .1 .1 .1 .1 .1 .0)))
+loop-holds c = let b = c .before .before in
+    let a = b .args in
+    (omega arith, λ sheet figure u. settled-start sheet figure (u .over .nets-in .ready) (a .taken .now) (a .to .now) (a .flags .now) (u .over .links-in) (b .pre .1))
 
 array-read-if2 : tie.Need-array-read-if2 Inv-loop μ-loop
-array-read-if2 c = omega (arith, c .if1 .taken, c .before .before .before .pre .ready .figure-fit .class-count)
+array-read-if2 c = omega (arith, c .if1 .taken, ports-of (c .before .before .before .before .before .pre .0 .2 .over .nets-in .contexts-in) .links-few)
 
 first-link-requires : tie.Need-first-link-requires Inv-loop μ-loop
-first-link-requires c κs = let p = c .before .before .before .before .pre in
-    (record { ready = p .ready; laid-out = p .laid-out; chains-in = p .chains-in; kinds-in = p .kinds-in; links-in = c .before .before .before .loop .inv .1 .links-in }, c .before .if1 .taken, c .if2 .taken)
+first-link-requires c κs = let p = c .before .before .before .before .before .before .before .before .pre in
+    let w = c .before .before .before .before .before .loop .inv .1 (p .0 .0) (p .0 .1) (p .0 .2) in
+    ((p .0 .0, p .0 .1, tables-links (p .0 .2) (w .links-in)), w .room, c .before .before .before .if1 .taken, c .before .before .if2 .taken)
 
 mul-next : tie.Need-mul-next Inv-loop μ-loop
-mul-next c = omega (arith, c .before .before .if1 .taken, c .before .before .before .before .before .pre .ready .figure-fit .class-count)
+mul-next c = omega (arith, c .before .before .before .before .if1 .taken, ports-of (c .before .before .before .before .before .before .before .before .before .pre .0 .2 .over .nets-in .contexts-in) .links-few)
 
 array-write-next : tie.Need-array-write-next Inv-loop μ-loop
-array-write-next c = omega (arith, c .before .before .if1 .taken, c .before .before .before .before .before .pre .ready .figure-fit .class-count)
+array-write-next c = omega (arith, c .before .before .before .before .if1 .taken, ports-of (c .before .before .before .before .before .before .before .before .before .pre .0 .2 .over .nets-in .contexts-in) .links-few)
 
 array-write-rest : tie.Need-array-write-rest Inv-loop μ-loop
-array-write-rest c = omega (arith, c .before .before .if1 .taken, c .before .before .before .before .before .pre .ready .figure-fit .class-count)
+array-write-rest c = omega (arith, c .before .before .before .before .if1 .taken, ports-of (c .before .before .before .before .before .before .before .before .before .pre .0 .2 .over .nets-in .contexts-in) .links-few)
 
 add-x : tie.Need-add-x Inv-loop μ-loop
-add-x c = omega (arith, c .before .if1 .taken, c .before .before .before .before .pre .ready .figure-fit .class-count)
+add-x c = omega (arith, c .before .if1 .taken, ports-of (c .before .before .before .before .before .before .pre .0 .2 .over .nets-in .contexts-in) .links-few)
 
 loop-less : tie.Need-loop-less Inv-loop μ-loop
 loop-less c = omega (arith, c .before .if1 .taken)
 
 loop-again : tie.Need-loop-again Inv-loop μ-loop
-loop-again c = let b = c .before .before .before .before in
-    let l = c .before .before .before in (
+loop-again c = let b = c .before .before .before .before .before .before in
+    let a = b .args in
+    let l = c .before .before .before .loop in (
       omega (arith, c .before .if1 .taken),
-      ⊎-elim
-          (λ w. settled-same (w .2) (w .3) (settled-next (b .args .sheet) (b .args .figure) (b .pre .ready) (b .args .taken) (b .args .to) (b .args .flags) (l .loop .next) (l .loop .rest) (l .loop .x) (l .loop .inv .1)
-          (c .before .if1 .taken) (w .0 .taken) (w .1 .result) (w .1 .ensures)))
-          (λ w. settled-same (w .1) (w .2) (settled-skip (b .args .sheet) (b .args .figure) (b .pre .ready) (b .args .taken) (b .args .to) (b .args .flags) (l .loop .next) (l .loop .rest) (l .loop .x) (l .loop .inv .1) (w .0 .left)))
+      λ sheet figure u. let n = u .over .nets-in in
+          let v = l .inv .1 sheet figure u in
+          ⊎-elim
+          (λ w. settled-same (w .4) (w .5) (settled-next sheet figure (n .ready) (a .taken .now) (a .to .now) (a .flags .now) (l .next) (l .rest) (l .x) v (omega (arith, c .before .if1 .taken, n .contexts-in .link-count)) (w .0 .taken) (w .3 .result)
+          (w .3 .ensures sheet figure (tables-links u (v .links-in)))))
+          (λ w. settled-same (w .1) (w .2) (settled-skip sheet figure (n .ready) (a .taken .now) (a .to .now) (a .flags .now) (l .next) (l .rest) (l .x) v (w .0 .left)))
           (c .if2 .came),
     )
 
 returns : tie.Need-returns Inv-loop μ-loop
-returns c = let b = c .before .before .before in
-    settled-end (b .args .sheet) (b .args .figure) (b .pre .ready) (b .args .taken) (b .args .to) (b .args .flags) (c .before .before .loop .next) (c .before .before .loop .rest) (c .before .before .loop .x) (c .if1 .left) (c .before .before .loop .inv .1)
+returns c = let a = c .before .before .before .before .before .args in
+    let l = c .before .before .loop in
+    λ sheet figure u. let n = u .over .nets-in in
+    settled-end sheet figure (n .ready) (a .taken .now) (a .to .now) (a .flags .now) (l .next) (l .rest) (l .x) (omega (arith, c .if1 .left, n .contexts-in .link-count)) (l .inv .1 sheet figure u)
 
 pub settled-spec : {M : Type 1} → statement M
 settled-spec =

@@ -6,17 +6,17 @@ use native.Mathlib.Omega.{arith}
 use lib.ListN.{length}
 use Rattle.rows.specs.Format.{rowWidth}
 use Rattle.rows.proofs.RowBytes.{over, over-none}
-use Rattle.sheet.specs.NormalRows.{rowsTo, atomRow}
+use Rattle.sheet.specs.NormalRows.{rowsTo, atomRowIn}
 use Rattle.sheet.proofs.normal_text.NormalRows.{rows-put, atom-width}
 use borrow.Author.Needs.{needs}
 use Rattle.sheet.proofs.normal_text.put_atoms.Statement.{statement}
 use Rattle.sheet.proofs.normal_text.put_atoms.Tie as tie
 
 abbrev Inv-loop : tie.InvT-loop
-Inv-loop out₀ at normal k₀ out k = (k ≤ normal .«atom_count») × (length out ≡ length out₀) × (out ≡ over out₀ at (rowsTo (atomRow normal) k) (k * rowWidth))
+Inv-loop count out₀ at atoms k₀ out k = (k ≤ count) × (length out ≡ length out₀) × (out ≡ over out₀ at (rowsTo (atomRowIn atoms) k) (k * rowWidth))
 
 abbrev μ-loop : tie.MeasureT-loop
-μ-loop out₀ at normal k₀ out k = normal .«atom_count» - k
+μ-loop count out₀ at atoms k₀ out k = count - k
 
 loop-holds : tie.Need-loop-holds Inv-loop μ-loop
 unfolding rowsTo
@@ -25,8 +25,8 @@ loop-holds c = (omega arith, refl, over-none (c .before .args .out .now) (c .bef
 mul-atom : tie.Need-mul-atom Inv-loop μ-loop
 mul-atom c = search needs
 
-element-copy-out-atom : tie.Need-element-copy-out-atom Inv-loop μ-loop
-element-copy-out-atom c = search needs
+array-copy-out-atom : tie.Need-array-copy-out-atom Inv-loop μ-loop
+array-copy-out-atom c = search needs
 
 mul-put-linked : tie.Need-mul-put-linked Inv-loop μ-loop
 mul-put-linked c = search needs
@@ -37,7 +37,7 @@ add-put-linked c = search needs
 put-linked-requires : tie.Need-put-linked-requires Inv-loop μ-loop
 put-linked-requires c κs = let l = c .before .before .before .before in
     let s = l .before .before in
-    (omega (arith, l .loop .inv .1, s .pre .1), s .pre .0 .atomNumbers (l .loop .k) (c .before .before .before .loop-test .taken))
+    (omega (arith, l .loop .inv .1, s .pre .1), s .pre .0 .1 (l .loop .k) (c .before .before .before .loop-test .taken))
 
 add-k : tie.Need-add-k Inv-loop μ-loop
 add-k c = search needs
@@ -51,7 +51,7 @@ loop-again c = let p = c .before .before .put-linked in
     let s = l .before .before in (
       omega arith,
       p .kept .0 ∙ l .loop .inv .1,
-      rows-put (atomRow (s .args .t1)) (atom-width (s .args .t1)) (s .args .out .now) (p .last .0) (s .args .at) (l .loop .k) (omega (arith, s .pre .1)) (rw (l .loop .inv .2) at (p .ensures)),
+      rows-put (atomRowIn (s .args .t1)) (atom-width (s .args .t1)) (s .args .out .now) (p .last .0) (s .args .at) (l .loop .k) (omega (arith, s .pre .1)) (rw (l .loop .inv .2) at (p .ensures)),
     )
 
 mul-result : tie.Need-mul-result Inv-loop μ-loop
@@ -65,7 +65,7 @@ same-length c = search needs
 
 returns : tie.Need-returns Inv-loop μ-loop
 returns c = let l = c .before .loop in
-    let e : l .k ≡ c .before .before .before .args .t1 .«atom_count» = omega arith in
+    let e : l .k ≡ c .before .before .before .args .count = omega arith in
     (omega arith, rw e at (l .inv .2))
 
 pub put-atoms-spec : {M : Type 1} → statement M
@@ -76,7 +76,7 @@ put-atoms-spec =
     μ-loop
     loop-holds
     mul-atom
-    element-copy-out-atom
+    array-copy-out-atom
     mul-put-linked
     add-put-linked
     put-linked-requires

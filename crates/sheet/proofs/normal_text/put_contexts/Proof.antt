@@ -6,17 +6,17 @@ use native.Mathlib.Omega.{arith}
 use lib.ListN.{length}
 use Rattle.rows.specs.Format.{rowWidth}
 use Rattle.rows.proofs.RowBytes.{over, over-none}
-use Rattle.sheet.specs.NormalRows.{rowsTo, contextRow}
+use Rattle.sheet.specs.NormalRows.{rowsTo, contextRowIn}
 use Rattle.sheet.proofs.normal_text.NormalRows.{rows-put, context-width}
 use borrow.Author.Needs.{needs}
 use Rattle.sheet.proofs.normal_text.put_contexts.Statement.{statement}
 use Rattle.sheet.proofs.normal_text.put_contexts.Tie as tie
 
 abbrev Inv-loop : tie.InvT-loop
-Inv-loop out₀ at normal k₀ out k = (k ≤ normal .«context_count») × (length out ≡ length out₀) × (out ≡ over out₀ at (rowsTo (contextRow normal) k) (k * rowWidth))
+Inv-loop count out₀ at contexts k₀ out k = (k ≤ count) × (length out ≡ length out₀) × (out ≡ over out₀ at (rowsTo (contextRowIn contexts) k) (k * rowWidth))
 
 abbrev μ-loop : tie.MeasureT-loop
-μ-loop out₀ at normal k₀ out k = normal .«context_count» - k
+μ-loop count out₀ at contexts k₀ out k = count - k
 
 loop-holds : tie.Need-loop-holds Inv-loop μ-loop
 unfolding rowsTo
@@ -25,8 +25,8 @@ loop-holds c = (omega arith, refl, over-none (c .before .args .out .now) (c .bef
 mul-context : tie.Need-mul-context Inv-loop μ-loop
 mul-context c = search needs
 
-element-copy-out-context : tie.Need-element-copy-out-context Inv-loop μ-loop
-element-copy-out-context c = search needs
+array-copy-out-context : tie.Need-array-copy-out-context Inv-loop μ-loop
+array-copy-out-context c = search needs
 
 mul-put-linked : tie.Need-mul-put-linked Inv-loop μ-loop
 mul-put-linked c = search needs
@@ -37,7 +37,7 @@ add-put-linked c = search needs
 put-linked-requires : tie.Need-put-linked-requires Inv-loop μ-loop
 put-linked-requires c κs = let l = c .before .before .before .before in
     let s = l .before .before in
-    (omega (arith, l .loop .inv .1, s .pre .1), s .pre .0 .contextNumbers (l .loop .k) (c .before .before .before .loop-test .taken))
+    (omega (arith, l .loop .inv .1, s .pre .1), s .pre .0 .1 (l .loop .k) (c .before .before .before .loop-test .taken))
 
 add-k : tie.Need-add-k Inv-loop μ-loop
 add-k c = search needs
@@ -51,7 +51,7 @@ loop-again c = let p = c .before .before .put-linked in
     let s = l .before .before in (
       omega arith,
       p .kept .0 ∙ l .loop .inv .1,
-      rows-put (contextRow (s .args .t1)) (context-width (s .args .t1)) (s .args .out .now) (p .last .0) (s .args .at) (l .loop .k) (omega (arith, s .pre .1)) (rw (l .loop .inv .2) at (p .ensures)),
+      rows-put (contextRowIn (s .args .t1)) (context-width (s .args .t1)) (s .args .out .now) (p .last .0) (s .args .at) (l .loop .k) (omega (arith, s .pre .1)) (rw (l .loop .inv .2) at (p .ensures)),
     )
 
 mul-result : tie.Need-mul-result Inv-loop μ-loop
@@ -65,7 +65,7 @@ same-length c = search needs
 
 returns : tie.Need-returns Inv-loop μ-loop
 returns c = let l = c .before .loop in
-    let e : l .k ≡ c .before .before .before .args .t1 .«context_count» = omega arith in
+    let e : l .k ≡ c .before .before .before .args .count = omega arith in
     (omega arith, rw e at (l .inv .2))
 
 pub put-contexts-spec : {M : Type 1} → statement M
@@ -76,7 +76,7 @@ put-contexts-spec =
     μ-loop
     loop-holds
     mul-context
-    element-copy-out-context
+    array-copy-out-context
     mul-put-linked
     add-put-linked
     put-linked-requires

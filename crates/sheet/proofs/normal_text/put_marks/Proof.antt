@@ -6,17 +6,17 @@ use native.Mathlib.Omega.{arith}
 use lib.ListN.{length}
 use Rattle.rows.specs.Format.{rowWidth}
 use Rattle.rows.proofs.RowBytes.{over, over-none}
-use Rattle.sheet.specs.NormalRows.{rowsTo, markRow}
+use Rattle.sheet.specs.NormalRows.{rowsTo, markRowIn}
 use Rattle.sheet.proofs.normal_text.NormalRows.{rows-put, mark-width}
 use borrow.Author.Needs.{needs}
 use Rattle.sheet.proofs.normal_text.put_marks.Statement.{statement}
 use Rattle.sheet.proofs.normal_text.put_marks.Tie as tie
 
 abbrev Inv-loop : tie.InvT-loop
-Inv-loop out₀ at normal k₀ out k = (k ≤ normal .«mark_count») × (length out ≡ length out₀) × (out ≡ over out₀ at (rowsTo (markRow normal) k) (k * rowWidth))
+Inv-loop count out₀ at marked marks k₀ out k = (k ≤ count) × (length out ≡ length out₀) × (out ≡ over out₀ at (rowsTo (markRowIn marked marks) k) (k * rowWidth))
 
 abbrev μ-loop : tie.MeasureT-loop
-μ-loop out₀ at normal k₀ out k = normal .«mark_count» - k
+μ-loop count out₀ at marked marks k₀ out k = count - k
 
 loop-holds : tie.Need-loop-holds Inv-loop μ-loop
 unfolding rowsTo
@@ -31,19 +31,19 @@ add-put-mark c = search needs
 mul-put-mark-2 : tie.Need-mul-put-mark-2 Inv-loop μ-loop
 mul-put-mark-2 c = search needs
 
-element-copy-out-put-mark : tie.Need-element-copy-out-put-mark Inv-loop μ-loop
-element-copy-out-put-mark c = search needs
+array-read-put-mark : tie.Need-array-read-put-mark Inv-loop μ-loop
+array-read-put-mark c = search needs
 
 mul-put-mark-3 : tie.Need-mul-put-mark-3 Inv-loop μ-loop
 mul-put-mark-3 c = search needs
 
-element-copy-out-put-mark-2 : tie.Need-element-copy-out-put-mark-2 Inv-loop μ-loop
-element-copy-out-put-mark-2 c = search needs
+array-read-put-mark-2 : tie.Need-array-read-put-mark-2 Inv-loop μ-loop
+array-read-put-mark-2 c = search needs
 
 put-mark-requires : tie.Need-put-mark-requires Inv-loop μ-loop
-put-mark-requires c κs = let l = c .before .before .before .before in
+put-mark-requires c κs = let l = c .before .before in
     let s = l .before .before in
-    (omega (arith, l .loop .inv .1, s .pre .1), s .pre .0 .markNumbers (l .loop .k) (c .before .before .before .loop-test .taken))
+    (omega (arith, l .loop .inv .1, s .pre .1), s .pre .0 .1 (l .loop .k) (c .before .loop-test .taken))
 
 add-k : tie.Need-add-k Inv-loop μ-loop
 add-k c = search needs
@@ -53,11 +53,11 @@ loop-less c = search needs
 
 loop-again : tie.Need-loop-again Inv-loop μ-loop
 loop-again c = let p = c .before .before .put-mark in
-    let l = c .before .before .before .before .before .before .before in
+    let l = c .before .before .before .before .before in
     let s = l .before .before in (
       omega arith,
       p .kept .0 ∙ l .loop .inv .1,
-      rows-put (markRow (s .args .t1)) (mark-width (s .args .t1)) (s .args .out .now) (p .last .0) (s .args .at) (l .loop .k) (omega (arith, s .pre .1)) (rw (l .loop .inv .2) at (p .ensures)),
+      rows-put (markRowIn (s .args .t1) (s .args .t2)) (mark-width (s .args .t1) (s .args .t2)) (s .args .out .now) (p .last .0) (s .args .at) (l .loop .k) (omega (arith, s .pre .1)) (rw (l .loop .inv .2) at (p .ensures)),
     )
 
 mul-result : tie.Need-mul-result Inv-loop μ-loop
@@ -71,7 +71,7 @@ same-length c = search needs
 
 returns : tie.Need-returns Inv-loop μ-loop
 returns c = let l = c .before .loop in
-    let e : l .k ≡ c .before .before .before .args .t1 .«mark_count» = omega arith in
+    let e : l .k ≡ c .before .before .before .args .count = omega arith in
     (omega arith, rw e at (l .inv .2))
 
 pub put-marks-spec : {M : Type 1} → statement M
@@ -84,9 +84,9 @@ put-marks-spec =
     mul-put-mark
     add-put-mark
     mul-put-mark-2
-    element-copy-out-put-mark
+    array-read-put-mark
     mul-put-mark-3
-    element-copy-out-put-mark-2
+    array-read-put-mark-2
     put-mark-requires
     add-k
     loop-less

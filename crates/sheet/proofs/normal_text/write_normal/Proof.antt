@@ -24,12 +24,12 @@ returns : tie.Need-returns
 returns c = let m = c .before .before in
     let p = m .before .before .before .before in
     let a = p .before .before .before .before in
-    let s = a .before .before .before in
+    let s = a .before .before .before .before .before .before .before in
     let n = s .args .normal in
     let one = a .put-atoms .ensures in
     let two : p .put-contexts .result ≡ 0 + n .«atom_count» * rowWidth + n .«context_count» * rowWidth = rw (one .0) at (p .put-contexts .ensures .0) in (
       m .put-marks .ensures .0 ∙ rw two (omega (arith, normal-length n)),
-      normal-put n (s .args .out .now) (a .put-atoms .last .1 .0) (p .put-contexts .last .1 .0) (m .put-marks .last .1 .0) (s .pre .1) (one .1)
+      normal-put n (s .args .out .now) (a .put-atoms .last .1 .1 .0) (p .put-contexts .last .1 .1 .0) (m .put-marks .last .1 .1 .1 .0) (s .pre .1) (one .1)
           (rw (one .0) at (p .put-contexts .ensures .1)) (rw two at (m .put-marks .ensures .1)),
     )
 

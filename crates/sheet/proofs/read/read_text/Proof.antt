@@ -1,7 +1,7 @@
--- Invariant: the arrays hold what k rows hold, and what is left decides the outcome.
+-- Invariant: the arrays hold what k rows hold, what is left decides the outcome, and no link is without a hint.
 use borrow.Author.Needs.{needs}
 use Prim.Native.Nat.{ℕ, _≤_, _+_, _-_, _*_}
-use mathlib.Core.Path.{_≡_, _∙_, sym, ap}
+use mathlib.Core.Path.{_≡_, refl, _∙_, sym, ap}
 use mathlib.Core.List.{[]}
 use mathlib.Core.Bool.{Bool, true, false}
 use borrow.Author.Tests.{not-true, not-false}
@@ -12,8 +12,9 @@ use Rattle.rows.specs.Pick.{pick}
 use Rattle.rows.specs.Format.{rowWidth}
 use Rattle.rows.specs.Held.{withRow}
 use Rattle.rows.specs.Packed.{padded, portsOf, packed}
-use Rattle.rows.specs.Steps.{Room, Ranged}
+use Rattle.rows.specs.Steps.{Hinted, Room, Ranged}
 use Rattle.rows.specs.declared.Sheet.{Sheet}
+use Rattle.rows.proofs.Hints.{hinted-none}
 use Rattle.sheet.specs.Filling.{isPassed}
 use Rattle.sheet.proofs.read.Taken.{rowAt}
 use Rattle.sheet.proofs.read.Turn.{Kept, kept-room, Widths, kept-widths, kept-start, kept-end, turned-early, row-ranged, row-made, turned-late, kept-next}
@@ -21,7 +22,7 @@ use Rattle.sheet.proofs.read.read_text.Statement.{statement}
 use Rattle.sheet.proofs.read.read_text.Tie as tie
 
 abbrev Inv-loop : tie.InvT-loop
-Inv-loop kind pattern text atoms₀ contexts₀ ports₀ links₀ labels₀ marks₀ on₀ a₀ c₀ n₀ m₀ k₀ atoms contexts ports links labels marks on a c n m k =
+Inv-loop kind pattern text atoms₀ contexts₀ ports₀ links₀ labels₀ marks₀ on₀ hints₀ a₀ c₀ n₀ m₀ k₀ atoms contexts ports links labels marks on hints a c n m k =
     Kept kind pattern text k (record {
       atoms = atoms;
       «atom_count» = a;
@@ -34,10 +35,10 @@ Inv-loop kind pattern text atoms₀ contexts₀ ports₀ links₀ labels₀ mark
       marks = marks;
       marked = on;
       «mark_count» = m;
-    })
+    }) × Hinted hints links n
 
 abbrev μ-loop : tie.MeasureT-loop
-μ-loop kind pattern text atoms₀ contexts₀ ports₀ links₀ labels₀ marks₀ on₀ a₀ c₀ n₀ m₀ k₀ atoms contexts ports links labels marks on a c n m k = length text - k * rowWidth
+μ-loop kind pattern text atoms₀ contexts₀ ports₀ links₀ labels₀ marks₀ on₀ hints₀ a₀ c₀ n₀ m₀ k₀ atoms contexts ports links labels marks on hints a c n m k = length text - k * rowWidth
 
 -- what the arrays hold where a turn begins, and their room
 abbrev state : tie.At-loop Inv-loop μ-loop → Sheet
@@ -57,10 +58,10 @@ state l =
     }
 
 room : (l : tie.At-loop Inv-loop μ-loop) → Room (state l)
-room l = let a = l .before .before .before .before .args in kept-room (a .kind) (a .pattern) (a .text .now) (l .loop .k) (state l) (l .loop .inv)
+room l = let a = l .before .before .before .before .args in kept-room (a .kind) (a .pattern) (a .text .now) (l .loop .k) (state l) (l .loop .inv .0)
 
 widths : (l : tie.At-loop Inv-loop μ-loop) → Widths (state l)
-widths l = let a = l .before .before .before .before .args in kept-widths (a .kind) (a .pattern) (a .text .now) (l .loop .k) (state l) (l .loop .inv)
+widths l = let a = l .before .before .before .before .args in kept-widths (a .kind) (a .pattern) (a .text .now) (l .loop .k) (state l) (l .loop .inv .0)
 
 -- the places of a turn before the one given: its beginning, the tests that ask nothing of what is held, and the calls
 abbrev top : tie.Else1 Inv-loop μ-loop → tie.At-loop Inv-loop μ-loop
@@ -69,8 +70,8 @@ top c = c .before .before .before .before .before
 abbrev tested : tie.After-counted Inv-loop μ-loop → tie.Else1 Inv-loop μ-loop
 tested c = c .before .before .before .before .before
 
-abbrev counted-too : tie.After-labels Inv-loop μ-loop → tie.After-counted Inv-loop μ-loop
-counted-too c = c .before .before .before .before .before .before
+abbrev counted-too : tie.After-hints Inv-loop μ-loop → tie.After-counted Inv-loop μ-loop
+counted-too c = c .before .before .before .before .before .before .before
 
 abbrev linked : tie.After-on Inv-loop μ-loop → tie.After-add-row-links Inv-loop μ-loop
 linked c = c .before .before .before .before .before .before
@@ -87,13 +88,13 @@ none-requires-2 c κs = search needs
 
 loop-holds : tie.Need-loop-holds Inv-loop μ-loop
 unfolding padded portsOf
-loop-holds c = kept-start _ _ _ _ (rw (c .before .none .ensures) (rw (c .none2 .ensures)))
+loop-holds c = (kept-start _ _ _ _ (rw (c .before .none .ensures) (rw (c .none2 .ensures))), hinted-none _ _ refl)
 
 mul-loop : tie.Need-mul-loop Inv-loop μ-loop
-mul-loop c = omega (arith, c .loop .inv .few)
+mul-loop c = omega (arith, c .loop .inv .0 .few)
 
 next-row-requires : tie.Need-next-row-requires Inv-loop μ-loop
-next-row-requires c κs = (c .before .loop .inv .few, c .before .loop .inv .before)
+next-row-requires c κs = (c .before .loop .inv .0 .few, c .before .loop .inv .0 .before)
 
 is-passed-requires : tie.Need-is-passed-requires Inv-loop μ-loop
 is-passed-requires c κs = search needs
@@ -106,7 +107,7 @@ returns c =
     let l = c .before .before .before .before .before .before in
     let a = l .before .before .before .before .args in
     let x = c .before .before .before .before .next-row in
-    c .turned-down .ensures ∙ turned-early (a .kind) (a .pattern) (a .text .now) (l .loop .k) (state l) (l .loop .inv) (c .before .before .before .before .before .loop-test .taken) (x .result) (x .ensures) (sym (c .before .before .is-passed .ensures) ∙ not-true _ (c .before .if1 .taken))
+    c .turned-down .ensures ∙ turned-early (a .kind) (a .pattern) (a .text .now) (l .loop .k) (state l) (l .loop .inv .0) (c .before .before .before .before .before .loop-test .taken) (x .result) (x .ensures) (sym (c .before .before .is-passed .ensures) ∙ not-true _ (c .before .if1 .taken))
 
 -- the row passes the tests before it is taken in, so it is in range
 passes : (c : tie.Else1 Inv-loop μ-loop) → isPassed (c .before .before .before .next-row .result .answer) ≡ true
@@ -117,7 +118,7 @@ ranged c =
     let l = top c in
     let a = l .before .before .before .before .args in
     let x = c .before .before .before .next-row in
-    row-ranged (a .kind) (a .pattern) (a .text .now) (l .loop .k) (state l) (l .loop .inv) (c .before .before .before .before .loop-test .taken) (x .result) (x .ensures) (passes c)
+    row-ranged (a .kind) (a .pattern) (a .text .now) (l .loop .k) (state l) (l .loop .inv .0) (c .before .before .before .before .loop-test .taken) (x .result) (x .ensures) (passes c)
 
 before-requires : tie.Need-before-requires Inv-loop μ-loop
 before-requires c κs = search needs
@@ -147,10 +148,10 @@ add-a : tie.Need-add-a Inv-loop μ-loop
 add-a c = omega (arith, room (top (tested c)) .atoms, c .counted .ensures, one (eqb (tested c .before .before .before .next-row .result .row .letter) 0))
 
 add-context-of : tie.Need-add-context-of Inv-loop μ-loop
-add-context-of c = omega (arith, top (tested c) .loop .inv .few)
+add-context-of c = omega (arith, top (tested c) .loop .inv .0 .few)
 
 cast-context-of : tie.Need-cast-context-of Inv-loop μ-loop
-cast-context-of c = omega (arith, top (tested c) .loop .inv .few)
+cast-context-of c = omega (arith, top (tested c) .loop .inv .0 .few)
 
 context-of-requires : tie.Need-context-of-requires Inv-loop μ-loop
 context-of-requires c κs = search needs
@@ -177,13 +178,13 @@ slice-aggregate-add-row-links : tie.Need-slice-aggregate-add-row-links Inv-loop 
 slice-aggregate-add-row-links c = sym (widths (top (tested (c .before .before .before .before .before))) .0)
 
 slice-aggregate-add-row-links-2 : tie.Need-slice-aggregate-add-row-links-2 Inv-loop μ-loop
-slice-aggregate-add-row-links-2 c = sym (widths (top (tested (counted-too c))) .1)
+slice-aggregate-add-row-links-2 c = sym (widths (top (tested (c .before .before .before .before .before .before))) .1)
 
 add-row-links-requires : tie.Need-add-row-links-requires Inv-loop μ-loop
 add-row-links-requires c κs =
     let e = tested (counted-too c) in
     let w = widths (top e) in
-    (room (top e) .links, ranged e, w .0, w .1)
+    (room (top e) .links, ranged e, w .0, w .1, top e .loop .inv .1)
 
 slice-aggregate-add-row-mark : tie.Need-slice-aggregate-add-row-mark Inv-loop μ-loop
 slice-aggregate-add-row-mark c =
@@ -220,7 +221,7 @@ abbrev row-in : tie.After-on2 Inv-loop μ-loop → tie.Else1 Inv-loop μ-loop
 row-in c = tested (counts-in c)
 
 add-k : tie.Need-add-k Inv-loop μ-loop
-add-k c = omega (arith, top (row-in c) .loop .inv .few)
+add-k c = omega (arith, top (row-in c) .loop .inv .0 .few)
 
 late-answer-requires : tie.Need-late-answer-requires Inv-loop μ-loop
 late-answer-requires c κs = search needs
@@ -234,9 +235,9 @@ after c =
     record {
       atoms = set (s .atoms) (s .«atom_count») (counts-in c .before .before .atom-of .result);
       «atom_count» = s .«atom_count» + counts-in c .counted .result;
-      contexts = set (s .contexts) (s .«context_count») (x .before .before .before .before .before .before .context-of .result);
-      «context_count» = s .«context_count» + x .before .before .before .before .counted2 .result;
-      ports = x .before .before .before .row-ports .result;
+      contexts = set (s .contexts) (s .«context_count») (x .before .before .before .before .before .before .before .context-of .result);
+      «context_count» = s .«context_count» + x .before .before .before .before .before .counted2 .result;
+      ports = x .before .before .before .before .row-ports .result;
       links = x .add-row-links .last .0;
       classes = y .last .1 .0;
       «link_count» = x .add-row-links .result;
@@ -245,7 +246,7 @@ after c =
       «mark_count» = y .result;
     }
 
-made : (c : tie.After-on2 Inv-loop μ-loop) → let l = top (row-in c) in after c ≡ packed (withRow (l .loop .inv .held) (rowAt (drop (l .loop .k * rowWidth) (l .before .before .before .before .args .text .now))))
+made : (c : tie.After-on2 Inv-loop μ-loop) → let l = top (row-in c) in after c ≡ packed (withRow (l .loop .inv .0 .held) (rowAt (drop (l .loop .k * rowWidth) (l .before .before .before .before .args .text .now))))
 made c =
     let e = row-in c in
     let l = top e in
@@ -255,9 +256,9 @@ made c =
     let w = linked (marks-in c .before) in
     let x = w .add-row-links in
     let y = marks-in c .add-row-mark in
-    row-made (a .kind) (a .pattern) (a .text .now) (l .loop .k) (state l) (l .loop .inv) (e .before .before .before .before .loop-test .taken) (z .result) (z .ensures) (passes e)
-    (d .before .before .atom-of .result) (d .counted .result) (w .before .before .before .before .before .before .context-of .result) (w .before .before .before .before .before .is-context .result) (w .before .before .before .before .counted2 .result) (w .before .before .before .row-ports .result) (x .last .0) (x .last .1 .0) (x .result) (y .last .1 .0) (y .last .1 .1 .0) (y .last .1 .1 .1 .0) (y .result)
-    (d .before .before .atom-of .ensures) (d .counted .ensures) (w .before .before .before .before .before .before .context-of .ensures) (w .before .before .before .before .before .is-context .ensures) (w .before .before .before .before .counted2 .ensures) (w .before .before .before .row-ports .ensures) (x .ensures .1) (y .ensures)
+    row-made (a .kind) (a .pattern) (a .text .now) (l .loop .k) (state l) (l .loop .inv .0) (e .before .before .before .before .loop-test .taken) (z .result) (z .ensures) (passes e)
+    (d .before .before .atom-of .result) (d .counted .result) (w .before .before .before .before .before .before .before .context-of .result) (w .before .before .before .before .before .before .is-context .result) (w .before .before .before .before .before .counted2 .result) (w .before .before .before .before .row-ports .result) (x .last .0) (x .last .1 .0) (x .result) (y .last .1 .0) (y .last .1 .1 .0) (y .last .1 .1 .1 .0) (y .result)
+    (d .before .before .atom-of .ensures) (d .counted .ensures) (w .before .before .before .before .before .before .before .context-of .ensures) (w .before .before .before .before .before .before .is-context .ensures) (w .before .before .before .before .before .counted2 .ensures) (w .before .before .before .before .row-ports .ensures) (x .ensures .1) (y .ensures)
 
 is-passed-requires-2 : tie.Need-is-passed-requires-2 Inv-loop μ-loop
 is-passed-requires-2 c κs = search needs
@@ -273,7 +274,7 @@ returns-2 c =
     let a = l .before .before .before .before .args in
     let z = e .before .before .before .next-row in
     let d = counts-in (f .before) in
-    c .turned-down2 .ensures ∙ turned-late (a .kind) (a .pattern) (a .text .now) (l .loop .k) (state l) (l .loop .inv) (e .before .before .before .before .loop-test .taken) (z .result) (z .ensures) (passes e)
+    c .turned-down2 .ensures ∙ turned-late (a .kind) (a .pattern) (a .text .now) (l .loop .k) (state l) (l .loop .inv .0) (e .before .before .before .before .loop-test .taken) (z .result) (z .ensures) (passes e)
     (after (f .before)) (made (f .before)) (d .before .before .before .row-clash .result) (f .late-answer .result)
     (λ r q p. d .before .before .before .row-clash .ensures r (ap (λ (j : ℕ). getD (l .loop .contexts) j (record { number = 0; count = 0; links = []; row = 0 }) .number) (d .before .before .before .before .before2 .ensures) ∙ q) p)
     (f .late-answer .ensures) (sym (c .before .before .is-passed2 .ensures) ∙ not-true _ (c .before .if2 .taken))
@@ -288,11 +289,13 @@ loop-again c =
     let l = top e in
     let a = l .before .before .before .before .args in
     let z = e .before .before .before .next-row in
-    let d = counts-in (f .before) in
-    kept-next (a .kind) (a .pattern) (a .text .now) (l .loop .k) (state l) (l .loop .inv) (e .before .before .before .before .loop-test .taken) (z .result) (z .ensures) (passes e)
-    (after (f .before)) (made (f .before)) (d .before .before .before .row-clash .result) (f .late-answer .result)
-    (λ r q p. d .before .before .before .row-clash .ensures r (ap (λ (j : ℕ). getD (l .loop .contexts) j (record { number = 0; count = 0; links = []; row = 0 }) .number) (d .before .before .before .before .before2 .ensures) ∙ q) p)
-    (f .late-answer .ensures) (sym (c .before .is-passed2 .ensures) ∙ not-false _ (c .if2 .left))
+    let d = counts-in (f .before) in (
+      kept-next (a .kind) (a .pattern) (a .text .now) (l .loop .k) (state l) (l .loop .inv .0) (e .before .before .before .before .loop-test .taken) (z .result) (z .ensures) (passes e)
+          (after (f .before)) (made (f .before)) (d .before .before .before .row-clash .result) (f .late-answer .result)
+          (λ r q p. d .before .before .before .row-clash .ensures r (ap (λ (j : ℕ). getD (l .loop .contexts) j (record { number = 0; count = 0; links = []; row = 0 }) .number) (d .before .before .before .before .before2 .ensures) ∙ q) p)
+          (f .late-answer .ensures) (sym (c .before .is-passed2 .ensures) ∙ not-false _ (c .if2 .left)),
+      linked (marks-in (f .before) .before) .add-row-links .ensures .2,
+    )
 
 passed-requires : tie.Need-passed-requires Inv-loop μ-loop
 passed-requires c κs = search needs
@@ -301,7 +304,7 @@ returns-3 : tie.Need-returns-3 Inv-loop μ-loop
 returns-3 c =
     let l = c .before .before in
     let a = l .before .before .before .before .args in
-    c .passed .ensures ∙ kept-end (a .kind) (a .pattern) (a .text .now) (l .loop .k) (state l) (l .loop .inv) (c .before .loop-test .left)
+    c .passed .ensures ∙ kept-end (a .kind) (a .pattern) (a .text .now) (l .loop .k) (state l) (l .loop .inv .0) (c .before .loop-test .left)
 
 pub read-text-spec : {M : Type 1} → statement M
 read-text-spec =

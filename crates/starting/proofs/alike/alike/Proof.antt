@@ -1,61 +1,63 @@
--- Invariant: k is at most the number of links.
+-- Names and counts as they are laid out.
 use borrow.Author.Needs.{needs}
-use Prim.Native.Nat.{_≤_, _-_}
-use mathlib.Core.Path.{refl}
-use borrow.Author.Tests.{not-true}
-use Rattle.placing.proofs.FirstLaws.{both-ways}
+use mathlib.Core.Path.{sym, subst}
+use Rattle.rows.specs.declared.Atom.{Atom}
+use Rattle.candidates.specs.Laid.{laidAtom}
+use Rattle.starting.specs.Steps.{Alike}
 use Rattle.starting.proofs.alike.alike.Statement.{statement}
 use Rattle.starting.proofs.alike.alike.Tie as tie
 
-abbrev Inv-loop : tie.InvT-loop
-Inv-loop here there count k₀ k = k ≤ count
+mul-at : tie.Need-mul-at
+mul-at c = search needs
 
-abbrev μ-loop : tie.MeasureT-loop
-μ-loop here there count k₀ k = count - k
+mul-if1 : tie.Need-mul-if1
+mul-if1 c = search needs
 
-returns : tie.Need-returns Inv-loop μ-loop
-returns c = λ f. absurd (c .if1 .taken (f .names))
+element-copy-out-if1 : tie.Need-element-copy-out-if1
+element-copy-out-if1 c = search needs
 
-returns-2 : tie.Need-returns-2 Inv-loop μ-loop
-returns-2 c = λ f. absurd (c .if2 .taken (f .counts))
+returns : tie.Need-returns
+unfolding laidAtom
+returns c = λ f. absurd (c .if1 .taken (sym (f .names)))
 
-cast-count : tie.Need-cast-count Inv-loop μ-loop
-cast-count c = search needs
+add-if2 : tie.Need-add-if2
+add-if2 c = search needs
 
-loop-holds : tie.Need-loop-holds Inv-loop μ-loop
-loop-holds c = search needs
+mul-if2 : tie.Need-mul-if2
+mul-if2 c = search needs
 
-echoes-requires : tie.Need-echoes-requires Inv-loop μ-loop
-echoes-requires c κs = search needs
+element-copy-out-if2 : tie.Need-element-copy-out-if2
+element-copy-out-if2 c = search needs
 
-returns-3 : tie.Need-returns-3 Inv-loop μ-loop
-returns-3 c = λ f. both-ways (c .before .echoes .ensures (f .echoes (c .before .before .before .loop .k) (c .before .before .loop-test .taken))) (not-true _ (c .if3 .taken))
+returns-2 : tie.Need-returns-2
+unfolding laidAtom
+returns-2 c = λ f. absurd (c .if2 .taken (sym (f .counts)))
 
-add-k : tie.Need-add-k Inv-loop μ-loop
-add-k c = search needs
+returns-3 : tie.Need-returns-3
+returns-3 c = search needs
 
-loop-less : tie.Need-loop-less Inv-loop μ-loop
-loop-less c = search needs
+laid-atom-requires : tie.Need-laid-atom-requires
+laid-atom-requires c κs = search needs
 
-loop-again : tie.Need-loop-again Inv-loop μ-loop
-loop-again c = search needs
+echoes-all-requires : tie.Need-echoes-all-requires
+echoes-all-requires c κs = search needs
 
-returns-4 : tie.Need-returns-4 Inv-loop μ-loop
-returns-4 c = λ f. refl
+returns-4 : tie.Need-returns-4
+returns-4 c = λ f. c .echoes-all .ensures (subst (λ (a : Atom). Alike (c .before .before .before .before .before .before .before .before .before .args .here) a) (sym (c .before .laid-atom .ensures)) f .echoes)
 
 pub alike-spec : {M : Type 1} → statement M
 alike-spec =
     tie.close
     (tie.spec
-    Inv-loop
-    μ-loop
+    mul-at
+    mul-if1
+    element-copy-out-if1
     returns
+    add-if2
+    mul-if2
+    element-copy-out-if2
     returns-2
-    cast-count
-    loop-holds
-    echoes-requires
     returns-3
-    add-k
-    loop-less
-    loop-again
+    laid-atom-requires
+    echoes-all-requires
     returns-4)

@@ -7,8 +7,8 @@ use borrow.Author.Count.{below-more}
 use lib.ListN.{getD}
 use Rattle.rows.specs.Limits.{sheetLinks}
 use Rattle.placing.specs.Net.{Range}
-use Rattle.narrowing.specs.Tables.{StaysCleared}
-use Rattle.narrowing.proofs.Staying.{zero-there, zero-stays}
+use Rattle.candidates.specs.Tables.{StaysCleared}
+use Rattle.candidates.proofs.Staying.{zero-there, zero-stays}
 use Rattle.starting.proofs.profile.clear_ports.Statement.{statement}
 use Rattle.starting.proofs.profile.clear_ports.Tie as tie
 

@@ -37,7 +37,8 @@ cast-result c = let l = c .before .before .before .before in
 returns : tie.Need-returns Inv-loop μ-loop
 returns c = let l = c .before .before .before .before in
     let s = l .before .args in
-    λ net o. mark-found net (s .marks .now) (s .marked .now) (s .n) o (s .m) (l .loop .p) (c .before .before .before .loop-test .taken) (c .before .if1 .taken)
+    let h = c .before .before .before .loop-test .taken in
+    (l .before .pre .numbered (l .loop .p) h .1, λ net o. mark-found net (s .marks .now) (s .marked .now) (s .n) o (s .m) (l .loop .p) h (c .before .if1 .taken))
 
 add-p : tie.Need-add-p Inv-loop μ-loop
 add-p c = search needs
@@ -51,7 +52,7 @@ loop-again c = (search needs, below-more _ _ (c .before .before .before .loop .i
 returns-2 : tie.Need-returns-2 Inv-loop μ-loop
 returns-2 c = let l = c .before in
     let s = l .before .args in
-    λ net o x i. absurd (mark-nowhere net (s .marks .now) (s .marked .now) (s .n) o (s .m) (λ p h. l .loop .inv .1 p (omega arith)) x i)
+    (omega arith, λ net o x i. absurd (mark-nowhere net (s .marks .now) (s .marked .now) (s .n) o (s .m) (λ p h. l .loop .inv .1 p (omega arith)) x i))
 
 pub link-of-spec : {M : Type 1} → statement M
 link-of-spec =

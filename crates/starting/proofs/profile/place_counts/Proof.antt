@@ -11,7 +11,7 @@ use Rattle.rows.specs.declared.Atom.{Atom}
 use Rattle.sheet.specs.declared.normal.Normal.{Normal as NormalForm}
 use Rattle.placing.specs.Net.{cellLinks}
 use Rattle.network.specs.NetIn.{atomIn, Used}
-use Rattle.narrowing.specs.Laid.{LaidOut}
+use Rattle.candidates.specs.Laid.{LaidOut}
 use Rattle.starting.specs.Count.{count}
 use Rattle.starting.specs.Steps.{Tally}
 use Rattle.starting.proofs.Tallies.{rows-counted}

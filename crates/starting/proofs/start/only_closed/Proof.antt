@@ -1,21 +1,29 @@
--- Invariant: what is not taken out of the column stays marked.
-use native.Mathlib.Omega.{arith}
+-- Invariant: what is not taken out stays.
 use borrow.Author.Needs.{needs}
-use Prim.Native.Nat.{_≤_, _+_, _-_}
-use mathlib.Core.Path.{_≡_, refl}
+use Prim.Native.Nat.{ℕ, _≤_, _+_, _-_}
+use mathlib.Core.Path.{_≡_, sym, subst}
 use mathlib.Core.Logic.{⊎-elim}
+use mathlib.Core.List.{List}
 use lib.ListN.{getD}
-use Rattle.rows.specs.Limits.{sheetLinks}
-use Rattle.narrowing.specs.Tables.{Stays}
-use Rattle.narrowing.proofs.Staying.{stays-clear}
+use Rattle.candidates.specs.Words.{InPair}
+use Rattle.candidates.specs.Tables.{LinksStay}
+use Rattle.candidates.proofs.Staying.{links-put}
+use Rattle.candidates.proofs.Halves.{pair-in}
+use Rattle.starting.proofs.Filling.{empty-pair}
 use Rattle.starting.proofs.start.only_closed.Statement.{statement}
 use Rattle.starting.proofs.start.only_closed.Tie as tie
 
 abbrev Inv-loop : tie.InvT-loop
-Inv-loop x y closed links₀ z₀ links z = (z ≤ sheetLinks) × Stays sheetLinks links₀ links (λ w v. v ≡ y - 1 → getD closed w 0 ≡ 1 → w + 1 ≡ x)
+Inv-loop x y n closed links₀ only z₀ links z = (z ≤ n) × LinksStay links₀ links (λ w v. v ≡ y - 1 → getD closed w 0 ≡ 1 → w + 1 ≡ x)
 
 abbrev μ-loop : tie.MeasureT-loop
-μ-loop x y closed links₀ z₀ links z = sheetLinks - z
+μ-loop x y n closed links₀ only z₀ links z = n - z
+
+sub-put : tie.Need-sub-put Inv-loop μ-loop
+sub-put c = search needs
+
+put-requires : tie.Need-put-requires Inv-loop μ-loop
+put-requires c κs = search needs
 
 loop-holds : tie.Need-loop-holds Inv-loop μ-loop
 loop-holds c = (search needs, λ w v h m p. m)
@@ -26,17 +34,14 @@ element-copy-out-if1 c = search needs
 add-if2 : tie.Need-add-if2 Inv-loop μ-loop
 add-if2 c = search needs
 
-mul-links : tie.Need-mul-links Inv-loop μ-loop
-mul-links c = search needs
+pair-at-requires : tie.Need-pair-at-requires Inv-loop μ-loop
+pair-at-requires c κs = search needs
 
-sub-links : tie.Need-sub-links Inv-loop μ-loop
-sub-links c = search needs
+without-requires : tie.Need-without-requires Inv-loop μ-loop
+without-requires c κs = search needs
 
-add-links : tie.Need-add-links Inv-loop μ-loop
-add-links c = search needs
-
-element-write-links : tie.Need-element-write-links Inv-loop μ-loop
-element-write-links c = search needs
+set-pair-requires : tie.Need-set-pair-requires Inv-loop μ-loop
+set-pair-requires c κs = search needs
 
 add-z : tie.Need-add-z Inv-loop μ-loop
 add-z c = search needs
@@ -46,10 +51,16 @@ loop-less c = search needs
 
 loop-again : tie.Need-loop-again Inv-loop μ-loop
 loop-again c = let l = c .before .before .before in
-    let s = l .before .args in
-    let r = l .before .pre in
+    let s = l .before .before .before .args in
+    let put = l .before .put in
+    let P : ℕ → ℕ → Type 0 = λ z v. v ≡ s .y - 1 → getD (s .closed .now) z 0 ≡ 1 → z + 1 ≡ s .x in
     ⊎-elim
-    (λ w. (search needs, rw (w .2) (stays-clear sheetLinks (s .links .now) (l .loop .links) (λ z v. v ≡ s .y - 1 → getD (s .closed .now) z 0 ≡ 1 → z + 1 ≡ s .x) (l .loop .inv .1) (l .loop .z) (s .y - 1) (omega (arith, r .0, r .1)) (λ f. w .1 .taken (f refl (w .0 .taken))))))
+    (λ w. (
+      search needs,
+      rw (w .7) (rw (w .6 .ensures) (links-put (s .links .now) (l .loop .links) P (l .loop .inv .1) (l .loop .z) (w .5 .result)
+          (λ v h p m. w .5 .ensures .0 v h (subst (λ (k : List ℕ). InPair k v) (sym (w .3 .ensures)) (pair-in (l .loop .links) (l .loop .z) v h m))
+          (λ i. ⊎-elim (empty-pair v) (λ e. w .1 .taken (p e (w .0 .taken))) (put .ensures .1 .1 .0 v h i))))),
+    ))
     (λ w. ⊎-elim (λ u. (search needs, rw (u .2) (l .loop .inv .1))) (λ u. (search needs, rw (u .1) (l .loop .inv .1))) w)
     (c .if1 .came)
 
@@ -62,13 +73,14 @@ only-closed-spec =
     (tie.spec
     Inv-loop
     μ-loop
+    sub-put
+    put-requires
     loop-holds
     element-copy-out-if1
     add-if2
-    mul-links
-    sub-links
-    add-links
-    element-write-links
+    pair-at-requires
+    without-requires
+    set-pair-requires
     add-z
     loop-less
     loop-again

@@ -1,68 +1,53 @@
--- Invariant: what is not taken out of the row stays marked.
+-- What is common to the set and link y alone.
 use borrow.Author.Needs.{needs}
-use Prim.Native.Nat.{_≤_, _+_, _-_}
-use mathlib.Core.Path.{_≡_, refl}
+use native.Mathlib.Omega.{arith}
+use Prim.Native.Nat.{ℕ, _+_, _-_}
+use mathlib.Core.Path.{_≡_, refl, sym, subst}
 use mathlib.Core.Logic.{⊎-elim}
-use Rattle.rows.specs.Limits.{sheetLinks}
-use Rattle.narrowing.specs.Tables.{Stays}
-use Rattle.narrowing.proofs.Staying.{stays-clear}
+use mathlib.Core.List.{List}
+use Rattle.candidates.specs.Words.{InPair}
+use Rattle.candidates.proofs.Staying.{links-put}
+use Rattle.candidates.proofs.Halves.{pair-in}
 use Rattle.starting.proofs.start.only_link.Statement.{statement}
 use Rattle.starting.proofs.start.only_link.Tie as tie
 
-abbrev Inv-loop : tie.InvT-loop
-Inv-loop x y links₀ v₀ links v = (v ≤ sheetLinks) × Stays sheetLinks links₀ links (λ z u. z ≡ x - 1 → u + 1 ≡ y)
+sub-put : tie.Need-sub-put
+sub-put c = search needs
 
-abbrev μ-loop : tie.MeasureT-loop
-μ-loop x y links₀ v₀ links v = sheetLinks - v
+put-requires : tie.Need-put-requires
+put-requires c κs = search needs
 
-loop-holds : tie.Need-loop-holds Inv-loop μ-loop
-loop-holds c = (search needs, λ z u h m p. m)
+sub-pair-at : tie.Need-sub-pair-at
+sub-pair-at c = search needs
 
-add-if1 : tie.Need-add-if1 Inv-loop μ-loop
-add-if1 c = search needs
+pair-at-requires : tie.Need-pair-at-requires
+pair-at-requires c κs = search needs
 
-sub-links : tie.Need-sub-links Inv-loop μ-loop
-sub-links c = search needs
+sub-set-pair : tie.Need-sub-set-pair
+sub-set-pair c = search needs
 
-mul-links : tie.Need-mul-links Inv-loop μ-loop
-mul-links c = search needs
+common-requires : tie.Need-common-requires
+common-requires c κs = search needs
 
-add-links : tie.Need-add-links Inv-loop μ-loop
-add-links c = search needs
+set-pair-requires : tie.Need-set-pair-requires
+set-pair-requires c κs = search needs
 
-element-write-links : tie.Need-element-write-links Inv-loop μ-loop
-element-write-links c = search needs
-
-add-v : tie.Need-add-v Inv-loop μ-loop
-add-v c = search needs
-
-loop-less : tie.Need-loop-less Inv-loop μ-loop
-loop-less c = search needs
-
-loop-again : tie.Need-loop-again Inv-loop μ-loop
-loop-again c = let l = c .before .before in
-    let s = l .before .args in
-    ⊎-elim
-    (λ w. (search needs, rw (w .1) (stays-clear sheetLinks (s .links .now) (l .loop .links) (λ z u. z ≡ s .x - 1 → u + 1 ≡ s .y) (l .loop .inv .1) (s .x - 1) (l .loop .v) (c .before .loop-test .taken) (λ f. w .0 .taken (f refl)))))
-    (λ w. (search needs, rw (w .1) (l .loop .inv .1)))
-    (c .if1 .came)
-
-returns : tie.Need-returns Inv-loop μ-loop
-returns c = c .before .loop .inv .1
+returns : tie.Need-returns
+returns c = let j = c .before .before .before .before .before in
+    let s = j .before .args in
+    rw (c .set-pair .ensures) (links-put (s .links .now) (s .links .now) (λ z v. z ≡ s .x - 1 → v + 1 ≡ s .y) (λ z v h m p. m) (s .x - 1) (c .before .common .result)
+    (λ v h p m. c .before .common .ensures v h (subst (λ (l : List ℕ). InPair l v) (sym (c .before .before .before .pair-at .ensures)) (pair-in (s .links .now) (s .x - 1) v h m))
+    (⊎-elim (λ w. rw (w .3) (subst (InPair (w .2 .last .0)) (let q : s .y - 1 ≡ v = omega (arith, p refl) in q) (w .2 .ensures .1 .0 refl))) (λ w. absurd (omega (arith, p refl, w .0 .left))) (j .if1 .came))))
 
 pub only-link-spec : {M : Type 1} → statement M
 only-link-spec =
     tie.close
     (tie.spec
-    Inv-loop
-    μ-loop
-    loop-holds
-    add-if1
-    sub-links
-    mul-links
-    add-links
-    element-write-links
-    add-v
-    loop-less
-    loop-again
+    sub-put
+    put-requires
+    sub-pair-at
+    pair-at-requires
+    sub-set-pair
+    common-requires
+    set-pair-requires
     returns)

@@ -1,24 +1,23 @@
--- Invariant: what has no other marks stays marked.
+-- Invariant: what has no other marks stays.
 use native.Mathlib.Omega.{arith}
 use borrow.Author.Needs.{needs}
 use Prim.Native.Nat.{_≤_, _+_, _-_}
 use mathlib.Core.Path.{_≡_}
 use lib.ListN.{getD}
-use Rattle.rows.specs.Limits.{sheetLinks}
 use Rattle.sheet.specs.declared.normal.Normal.{Normal as NormalForm}
-use Rattle.narrowing.specs.Marks.{MarksIn}
-use Rattle.narrowing.specs.Tables.{Stays}
-use Rattle.narrowing.proofs.Staying.{stays-then}
+use Rattle.candidates.specs.Marks.{MarksIn}
+use Rattle.candidates.specs.Tables.{LinksStay}
+use Rattle.candidates.proofs.Staying.{links-then}
 use Rattle.starting.specs.Steps.{MarksBack}
 use Rattle.starting.proofs.Marking.{mark-back}
 use Rattle.starting.proofs.start.start_closed.Statement.{statement}
 use Rattle.starting.proofs.start.start_closed.Tie as tie
 
 abbrev Inv-loop : tie.InvT-loop
-Inv-loop marks marked n figure-marks figure-marked m closed links₀ q₀ links q = (q ≤ n) × ((sheet figure : NormalForm) → MarksIn sheet marks marked n → MarksIn figure figure-marks figure-marked m → Stays sheetLinks links₀ links (λ x y. getD closed x 0 ≡ 1 → MarksBack sheet figure x y))
+Inv-loop marks marked n figure-marks figure-marked m c closed links₀ q₀ links q = (q ≤ n) × ((sheet figure : NormalForm) → MarksIn sheet marks marked n → MarksIn figure figure-marks figure-marked m → LinksStay links₀ links (λ x y. getD closed x 0 ≡ 1 → MarksBack sheet figure x y))
 
 abbrev μ-loop : tie.MeasureT-loop
-μ-loop marks marked n figure-marks figure-marked m closed links₀ q₀ links q = n - q
+μ-loop marks marked n figure-marks figure-marked m c closed links₀ q₀ links q = n - q
 
 loop-holds : tie.Need-loop-holds Inv-loop μ-loop
 loop-holds c = (search needs, λ sheet figure os of z v h m p. m)
@@ -44,7 +43,7 @@ link-of-requires c κs = c .before .before .before .before .pre .1
 
 only-closed-requires : tie.Need-only-closed-requires Inv-loop μ-loop
 only-closed-requires c κs = let l = c .before .before .before .before .before in
-    l .before .pre .0 .numbered (l .loop .q) (c .before .before .before .before .loop-test .taken)
+    (l .before .pre .0 .numbered (l .loop .q) (c .before .before .before .before .loop-test .taken), l .before .pre .2)
 
 add-q : tie.Need-add-q Inv-loop μ-loop
 add-q c = search needs
@@ -57,8 +56,8 @@ loop-again c = let l = c .before .before .before .before .before .before in
     let s = l .before .args in
     let t = c .before .before .link-of in (
       search needs,
-      λ sheet figure os of. stays-then sheetLinks (s .links .now) (l .loop .links) (λ x y. getD (s .closed .now) x 0 ≡ 1 → MarksBack sheet figure x y) (l .loop .inv .1 sheet figure os of) (c .only-closed .last .1 .1 .1 .0) (λ z v. v ≡ getD (s .marked .now) (l .loop .q) 0 - 1 → getD (s .closed .now) z 0 ≡ 1 → z + 1 ≡ t .result) (c .only-closed .ensures)
-          (λ z v h f e k. mark-back sheet figure (s .marks .now) (s .marked .now) (s .n) os (l .loop .q) (t .result) (c .before .before .before .before .before .loop-test .taken) (t .ensures figure of) z v (f k) e),
+      λ sheet figure os of. links-then (s .links .now) (l .loop .links) (c .only-closed .last .1 .1 .1 .1 .0) (λ x y. getD (s .closed .now) x 0 ≡ 1 → MarksBack sheet figure x y) (λ z v. v ≡ getD (s .marked .now) (l .loop .q) 0 - 1 → getD (s .closed .now) z 0 ≡ 1 → z + 1 ≡ t .result) (l .loop .inv .1 sheet figure os of) (c .only-closed .ensures)
+          (λ z v h f e k. mark-back sheet figure (s .marks .now) (s .marked .now) (s .n) os (l .loop .q) (t .result) (c .before .before .before .before .before .loop-test .taken) (t .ensures .1 figure of) z v (f k) e),
     )
 
 returns : tie.Need-returns Inv-loop μ-loop

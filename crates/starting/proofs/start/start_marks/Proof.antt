@@ -1,21 +1,20 @@
--- Invariant: what has a link's marks stays marked.
+-- Invariant: what has a link's marks stays.
 use native.Mathlib.Omega.{arith}
 use borrow.Author.Needs.{needs}
 use Prim.Native.Nat.{_≤_, _+_, _-_}
 use mathlib.Core.Path.{_≡_}
 use lib.ListN.{getD}
-use Rattle.rows.specs.Limits.{sheetLinks}
 use Rattle.sheet.specs.declared.normal.Normal.{Normal as NormalForm}
-use Rattle.narrowing.specs.Marks.{MarksIn}
-use Rattle.narrowing.specs.Tables.{Stays}
-use Rattle.narrowing.proofs.Staying.{stays-then}
+use Rattle.candidates.specs.Marks.{MarksIn}
+use Rattle.candidates.specs.Tables.{LinksStay}
+use Rattle.candidates.proofs.Staying.{links-then}
 use Rattle.starting.specs.Steps.{MarksOn}
 use Rattle.starting.proofs.Marking.{mark-on}
 use Rattle.starting.proofs.start.start_marks.Statement.{statement}
 use Rattle.starting.proofs.start.start_marks.Tie as tie
 
 abbrev Inv-loop : tie.InvT-loop
-Inv-loop marks marked n figure-marks figure-marked m links₀ p₀ links p = (p ≤ m) × ((sheet figure : NormalForm) → MarksIn sheet marks marked n → MarksIn figure figure-marks figure-marked m → Stays sheetLinks links₀ links (MarksOn sheet figure))
+Inv-loop marks marked n figure-marks figure-marked m links₀ p₀ links p = (p ≤ m) × ((sheet figure : NormalForm) → MarksIn sheet marks marked n → MarksIn figure figure-marks figure-marked m → LinksStay links₀ links (MarksOn sheet figure))
 
 abbrev μ-loop : tie.MeasureT-loop
 μ-loop marks marked n figure-marks figure-marked m links₀ p₀ links p = m - p
@@ -44,7 +43,7 @@ link-of-requires c κs = c .before .before .before .before .pre .0
 
 only-link-requires : tie.Need-only-link-requires Inv-loop μ-loop
 only-link-requires c κs = let l = c .before .before .before .before .before in
-    l .before .pre .1 .numbered (l .loop .p) (c .before .before .before .before .loop-test .taken)
+    (l .before .pre .1 .numbered (l .loop .p) (c .before .before .before .before .loop-test .taken), c .before .link-of .ensures .0)
 
 add-p : tie.Need-add-p Inv-loop μ-loop
 add-p c = search needs
@@ -57,8 +56,8 @@ loop-again c = let l = c .before .before .before .before .before .before in
     let s = l .before .args in
     let t = c .before .before .link-of in (
       search needs,
-      λ sheet figure os of. stays-then sheetLinks (s .links .now) (l .loop .links) (MarksOn sheet figure) (l .loop .inv .1 sheet figure os of) (c .only-link .last .1 .1 .0) (λ z v. z ≡ getD (s .figure-marked .now) (l .loop .p) 0 - 1 → v + 1 ≡ t .result) (c .only-link .ensures)
-          (λ z v h. mark-on sheet figure (s .figure-marks .now) (s .figure-marked .now) (s .m) of (l .loop .p) (t .result) (c .before .before .before .before .before .loop-test .taken) (t .ensures sheet os) z v),
+      λ sheet figure os of. links-then (s .links .now) (l .loop .links) (c .only-link .last .1 .1 .0) (MarksOn sheet figure) (λ z v. z ≡ getD (s .figure-marked .now) (l .loop .p) 0 - 1 → v + 1 ≡ t .result) (l .loop .inv .1 sheet figure os of) (c .only-link .ensures)
+          (λ z v h. mark-on sheet figure (s .figure-marks .now) (s .figure-marked .now) (s .m) of (l .loop .p) (t .result) (c .before .before .before .before .before .loop-test .taken) (t .ensures .1 sheet os) z v),
     )
 
 returns : tie.Need-returns Inv-loop μ-loop

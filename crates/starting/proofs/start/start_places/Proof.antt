@@ -1,69 +1,59 @@
--- Invariant: what has places enough stays marked.
+-- Invariant: the sets of the first x figure links have what has places enough.
 use native.Mathlib.Omega.{arith}
 use borrow.Author.Needs.{needs}
-use Prim.Native.Nat.{ℕ, _≤_, _+_, _-_, _<_}
-use mathlib.Core.Path.{_≡_, refl, ap}
-use lib.ListN.{getD}
+use Prim.Native.Nat.{ℕ, _≤_, _-_, _*_, _<_}
+use mathlib.Core.Path.{_≡_}
+use lib.ListN.{length, getD, length-set}
 use Rattle.rows.specs.Limits.{sheetLinks}
-use Rattle.placing.specs.Net.{Range}
-use Rattle.narrowing.specs.Tables.{Stays}
-use Rattle.narrowing.proofs.Staying.{stays-then}
+use Rattle.candidates.specs.Tables.{LinkIn}
 use Rattle.starting.specs.Steps.{Enough}
-use Rattle.starting.proofs.Marking.{enough-same}
+use Rattle.starting.proofs.Filling.{links-next}
 use Rattle.starting.proofs.start.start_places.Statement.{statement}
 use Rattle.starting.proofs.start.start_places.Tie as tie
 
 abbrev Inv-loop : tie.InvT-loop
-Inv-loop n closed wanted counts links₀ x₀ links x = (1 ≤ x) × (x ≤ n + 1) × Stays sheetLinks links₀ links (λ z y. z < n → Enough (getD closed z 0) (getD wanted z 0) (getD counts y 0))
+Inv-loop m n closed wanted counts links₀ x₀ links x = (x ≤ m) × (length links ≡ sheetLinks * 2) × ((z y : ℕ) → z < x → y < n → Enough (getD closed z 0) (getD wanted z 0) (getD counts y 0) → LinkIn links z y)
 
 abbrev μ-loop : tie.MeasureT-loop
-μ-loop n closed wanted counts links₀ x₀ links x = n + 1 - x
+μ-loop m n closed wanted counts links₀ x₀ links x = m - x
 
 loop-holds : tie.Need-loop-holds Inv-loop μ-loop
-loop-holds c = (search needs, search needs, λ z y h m p. m)
+loop-holds c = (search needs, c .pre .2, λ z y h. absurd (omega arith))
 
--- x is a link
-link-there : (c : tie.In-loop Inv-loop μ-loop) → Range sheetLinks (c .before .loop .x)
-link-there c = (c .before .loop .inv .0, omega (arith, c .loop-test .taken, c .before .before .pre))
+element-copy-out-enough-links : tie.Need-element-copy-out-enough-links Inv-loop μ-loop
+element-copy-out-enough-links c = search needs
 
-sub-enough-row : tie.Need-sub-enough-row Inv-loop μ-loop
-sub-enough-row c = link-there c .0
+mul-enough-links : tie.Need-mul-enough-links Inv-loop μ-loop
+mul-enough-links c = search needs
 
-element-copy-out-enough-row : tie.Need-element-copy-out-enough-row Inv-loop μ-loop
-element-copy-out-enough-row c = omega (arith, link-there c .0, link-there c .1)
+element-copy-out-enough-links-2 : tie.Need-element-copy-out-enough-links-2 Inv-loop μ-loop
+element-copy-out-enough-links-2 c = search needs
 
-sub-enough-row-2 : tie.Need-sub-enough-row-2 Inv-loop μ-loop
-sub-enough-row-2 c = search needs
+enough-links-requires : tie.Need-enough-links-requires Inv-loop μ-loop
+enough-links-requires c κs = search needs
 
-mul-enough-row : tie.Need-mul-enough-row Inv-loop μ-loop
-mul-enough-row c = omega (arith, link-there (c .before) .1)
-
-element-copy-out-enough-row-2 : tie.Need-element-copy-out-enough-row-2 Inv-loop μ-loop
-element-copy-out-enough-row-2 c = omega (arith, link-there (c .before) .0, link-there (c .before) .1)
-
-enough-row-requires : tie.Need-enough-row-requires Inv-loop μ-loop
-enough-row-requires c κs = link-there (c .before .before .before)
+set-pair-requires : tie.Need-set-pair-requires Inv-loop μ-loop
+set-pair-requires c κs = search needs
 
 add-x : tie.Need-add-x Inv-loop μ-loop
-add-x c = omega (arith, link-there (c .before .before .before .before) .1)
+add-x c = search needs
 
 loop-less : tie.Need-loop-less Inv-loop μ-loop
-loop-less c = omega (arith, c .before .before .before .before .loop-test .taken)
+loop-less c = search needs
 
 loop-again : tie.Need-loop-again Inv-loop μ-loop
-loop-again c = let t = c .before .before .before .before in
-    let l = t .before in
+loop-again c = let l = c .before .before .before .before .before .before in
     let s = l .before .args in
-    let x = l .loop .x in
-    let r = link-there t in (
-      omega arith,
-      omega (arith, t .loop-test .taken),
-      stays-then sheetLinks (s .links .now) (l .loop .links) (λ z y. z < s .n → Enough (getD (s .closed .now) z 0) (getD (s .wanted .now) z 0) (getD (s .counts .now) y 0)) (l .loop .inv .2) (c .enough-row .last .1 .1 .1 .1 .0) (λ z y. z ≡ x - 1 → Enough (getD (s .closed .now) (x - 1) 0) (getD (s .wanted .now) (x - 1) 0) (getD (s .counts .now) y 0)) (c .enough-row .ensures)
-          (λ z y h f e. enough-same (f (omega (arith, e, r .0, t .loop-test .taken))) (ap (λ (j : ℕ). getD (s .closed .now) j 0) e) (ap (λ (j : ℕ). getD (s .wanted .now) j 0) e) refl),
+    let h = c .before .before .before .before .before .loop-test .taken in
+    let w = c .before .before .enough-links in (
+      search needs,
+      rw (c .set-pair .ensures) (simp length-set (l .loop .inv .1)),
+      rw (c .set-pair .ensures) (links-next (λ z y. Enough (getD (s .closed .now) z 0) (getD (s .wanted .now) z 0) (getD (s .counts .now) y 0)) (l .loop .links) (l .loop .x) (s .n) (w .result) (omega (arith, h, l .before .pre .0, l .loop .inv .1)) (l .before .pre .1) (l .loop .inv .2) (w .ensures)),
     )
 
 returns : tie.Need-returns Inv-loop μ-loop
-returns c = c .before .loop .inv .2
+returns c = let l = c .before in
+    λ x y h. l .loop .inv .2 x y (omega arith)
 
 pub start-places-spec : {M : Type 1} → statement M
 start-places-spec =
@@ -72,12 +62,11 @@ start-places-spec =
     Inv-loop
     μ-loop
     loop-holds
-    sub-enough-row
-    element-copy-out-enough-row
-    sub-enough-row-2
-    mul-enough-row
-    element-copy-out-enough-row-2
-    enough-row-requires
+    element-copy-out-enough-links
+    mul-enough-links
+    element-copy-out-enough-links-2
+    enough-links-requires
+    set-pair-requires
     add-x
     loop-less
     loop-again

@@ -6,7 +6,8 @@ use mathlib.Core.Logic.{⊎-elim}
 use native.Mathlib.Omega.{arith}
 use lib.ListN.{length, getD}
 use Rattle.rows.specs.Limits.{sheetLinks}
-use Rattle.stepping.specs.Flags.{rowAt, portOf, atPort}
+use Rattle.network.specs.NetIn.{rowAt}
+use Rattle.stepping.specs.Flags.{portOf, atPort}
 use Rattle.stepping.proofs.Tables.{Marked, marked-start, marked-more, marked-skip, flag-as}
 use Rattle.stepping.proofs.lookup.port_rows.Statement.{statement}
 use Rattle.stepping.proofs.lookup.port_rows.Tie as tie

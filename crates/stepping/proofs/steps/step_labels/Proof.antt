@@ -5,7 +5,7 @@ use mathlib.Core.Path.{_≡_, refl}
 use native.Mathlib.Omega.{arith}
 use lib.ListN.{length}
 use Rattle.rows.specs.Limits.{sheetLinks}
-use Rattle.stepping.specs.Flags.{rowAt}
+use Rattle.network.specs.NetIn.{rowAt}
 use Rattle.stepping.specs.Labels.{Sound, Tied}
 use Rattle.stepping.proofs.Labels.{own-sound, tied-kept}
 use Rattle.stepping.proofs.Tables.{below-next}

@@ -1,4 +1,4 @@
--- Invariant: the ports so far have their labels.
+-- Invariant: the ports so far are tied to each other.
 use borrow.Author.Needs.{needs}
 use Prim.Native.Nat.{ℕ, _-_, _≤_, _<_}
 use mathlib.Core.Path.{_≡_}
@@ -6,13 +6,12 @@ use native.Mathlib.Omega.{arith}
 use lib.ListN.{length}
 use Rattle.rows.specs.Limits.{sheetLinks}
 use Rattle.stepping.specs.Labels.{Grew, Tied}
-use Rattle.stepping.proofs.Labels.{grew-same, grew-then, tied-kept}
-use Rattle.stepping.proofs.Tables.{below-next}
+use Rattle.stepping.proofs.Labels.{grew-same, grew-then, tied-next}
 use Rattle.stepping.proofs.steps.with_context.Statement.{statement}
 use Rattle.stepping.proofs.steps.with_context.Tie as tie
 
 abbrev Inv-loop : tie.InvT-loop
-Inv-loop labels₀ to ports count k₀ labels k = (k ≤ count) × (length labels ≡ sheetLinks) × Grew to ports count labels₀ labels × ((i : ℕ) → i < k → Tied to ports count labels i)
+Inv-loop labels₀ to ports count k₀ labels k = (k ≤ count) × (length labels ≡ sheetLinks) × Grew to ports count labels₀ labels × ((i : ℕ) → i < k → Tied to ports k labels i)
 
 abbrev μ-loop : tie.MeasureT-loop
 μ-loop labels₀ to ports count k₀ labels k = count - k
@@ -37,12 +36,11 @@ loop-again c = let l = c .before .before .before .loop in
       omega arith,
       g .0,
       grew-then _ _ _ _ _ _ (l .inv .2) (g .1),
-      below-next (Tied (a .to .now) (a .ports) (a .count) (c .with-port .last .0)) (l .k)
-          (λ i h. tied-kept (a .to .now) (a .ports) (a .count) (s .pre .1) (l .labels) (c .with-port .last .0) (g .1 .kept) i (omega arith) (l .inv .3 i h)) (g .2),
+      tied-next (a .to .now) (a .ports) (a .count) (s .pre .1) (l .labels) (c .with-port .last .0) (g .1 .kept) (l .k) (c .before .before .loop-test .taken) (l .inv .3) (g .2),
     )
 
 returns : tie.Need-returns Inv-loop μ-loop
-returns c = let l = c .before .loop in (l .inv .1, l .inv .2, λ k h. l .inv .3 k (omega arith))
+returns c = let l = c .before .loop in let e : l .k ≡ c .before .before .args .count = omega arith in (l .inv .1, l .inv .2, λ k h i n. l .inv .3 k (omega arith) i (omega arith))
 
 pub with-context-spec : {M : Type 1} → statement M
 with-context-spec =

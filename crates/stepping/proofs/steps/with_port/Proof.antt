@@ -1,4 +1,4 @@
--- Invariant: the ports so far have the label of this one.
+-- Invariant: the ports so far that go where this one goes have its label.
 use borrow.Author.Needs.{needs}
 use Prim.Native.Nat.{ℕ, _-_, _≤_, _<_}
 use mathlib.Core.Path.{_≡_, sym, _∙_, ap}
@@ -13,10 +13,10 @@ use Rattle.stepping.proofs.steps.with_port.Statement.{statement}
 use Rattle.stepping.proofs.steps.with_port.Tie as tie
 
 abbrev Inv-loop : tie.InvT-loop
-Inv-loop labels₀ to count at ports a y k₀ labels k = (k ≤ count) × (length labels ≡ sheetLinks) × Grew to ports count labels₀ labels × ((i : ℕ) → i < k → numberAt to (getD ports i 0) ≡ numberAt to (getD ports at 0) → numberAt labels (getD ports i 0) ≡ numberAt labels (getD ports at 0))
+Inv-loop labels₀ to count at ports a y k₀ labels k = (k ≤ at) × (length labels ≡ sheetLinks) × Grew to ports count labels₀ labels × ((i : ℕ) → i < k → numberAt to (getD ports i 0) ≡ numberAt to (getD ports at 0) → numberAt labels (getD ports i 0) ≡ numberAt labels (getD ports at 0))
 
 abbrev μ-loop : tie.MeasureT-loop
-μ-loop labels₀ to count at ports a y k₀ labels k = count - k
+μ-loop labels₀ to count at ports a y k₀ labels k = at - k
 
 mul-a : tie.Need-mul-a Inv-loop μ-loop
 mul-a c = search needs
@@ -46,28 +46,28 @@ array-read-b : tie.Need-array-read-b Inv-loop μ-loop
 array-read-b c = search needs
 
 sub-if1 : tie.Need-sub-if1 Inv-loop μ-loop
-sub-if1 c = let r = c .before .before .before .pre .2 (c .before .loop .k) (c .loop-test .taken) in omega (arith, r .0, r .1)
+sub-if1 c = let r = c .before .before .before .pre .2 (c .before .loop .k) (omega (arith, c .loop-test .taken, c .before .before .before .pre .0)) in omega (arith, r .0, r .1)
 
 cast-if1 : tie.Need-cast-if1 Inv-loop μ-loop
-cast-if1 c = let r = c .before .before .before .pre .2 (c .before .loop .k) (c .loop-test .taken) in omega (arith, r .0, r .1)
+cast-if1 c = let r = c .before .before .before .pre .2 (c .before .loop .k) (omega (arith, c .loop-test .taken, c .before .before .before .pre .0)) in omega (arith, r .0, r .1)
 
 mul-if1 : tie.Need-mul-if1 Inv-loop μ-loop
-mul-if1 c = let r = c .before .before .before .pre .2 (c .before .loop .k) (c .loop-test .taken) in omega (arith, r .0, r .1)
+mul-if1 c = let r = c .before .before .before .pre .2 (c .before .loop .k) (omega (arith, c .loop-test .taken, c .before .before .before .pre .0)) in omega (arith, r .0, r .1)
 
 element-copy-out-if1 : tie.Need-element-copy-out-if1 Inv-loop μ-loop
-element-copy-out-if1 c = let r = c .before .before .before .pre .2 (c .before .loop .k) (c .loop-test .taken) in omega (arith, r .0, r .1)
+element-copy-out-if1 c = let r = c .before .before .before .pre .2 (c .before .loop .k) (omega (arith, c .loop-test .taken, c .before .before .before .pre .0)) in omega (arith, r .0, r .1)
 
 sub-from : tie.Need-sub-from Inv-loop μ-loop
-sub-from c = let r = c .before .before .before .before .before .pre .2 (c .before .before .before .loop .k) (c .before .before .loop-test .taken) in omega (arith, r .0, r .1)
+sub-from c = let r = c .before .before .before .before .before .pre .2 (c .before .before .before .loop .k) (omega (arith, c .before .before .loop-test .taken, c .before .before .before .before .before .pre .0)) in omega (arith, r .0, r .1)
 
 cast-from : tie.Need-cast-from Inv-loop μ-loop
-cast-from c = let r = c .before .before .before .before .before .pre .2 (c .before .before .before .loop .k) (c .before .before .loop-test .taken) in omega (arith, r .0, r .1)
+cast-from c = let r = c .before .before .before .before .before .pre .2 (c .before .before .before .loop .k) (omega (arith, c .before .before .loop-test .taken, c .before .before .before .before .before .pre .0)) in omega (arith, r .0, r .1)
 
 mul-from : tie.Need-mul-from Inv-loop μ-loop
-mul-from c = let r = c .before .before .before .before .before .pre .2 (c .before .before .before .loop .k) (c .before .before .loop-test .taken) in omega (arith, r .0, r .1)
+mul-from c = let r = c .before .before .before .before .before .pre .2 (c .before .before .before .loop .k) (omega (arith, c .before .before .loop-test .taken, c .before .before .before .before .before .pre .0)) in omega (arith, r .0, r .1)
 
 element-copy-out-from : tie.Need-element-copy-out-from Inv-loop μ-loop
-element-copy-out-from c = let r = c .before .before .before .before .before .pre .2 (c .before .before .before .loop .k) (c .before .before .loop-test .taken) in omega (arith, r .0, r .1)
+element-copy-out-from c = let r = c .before .before .before .before .before .pre .2 (c .before .before .before .loop .k) (omega (arith, c .before .before .loop-test .taken, c .before .before .before .before .before .pre .0)) in omega (arith, r .0, r .1)
 
 sub-label : tie.Need-sub-label Inv-loop μ-loop
 sub-label c = let s = c .before .before .before .before .before .before in let r = s .pre .2 (s .args .at) (s .pre .0) in omega (arith, r .0, r .1)
@@ -95,7 +95,7 @@ loop-again c = let l = c .before .before .before .loop in
     let s = c .before .before .before .before .before in
     let a = s .args in
     let n : length (c .if1 .labels) ≡ sheetLinks = ⊎-elim (λ w. ap length (w .6) ∙ w .5 .ensures .0) (⊎-elim (λ w. ap length (w .4) ∙ l .inv .1) (λ w. ap length (w .1) ∙ l .inv .1)) (c .if1 .came) in
-    let w = port-step (a .to .now) (a .t3) (a .count) (a .at) (l .k) (s .pre .0) (c .before .before .loop-test .taken) (s .pre .2) (a .labels .now) (l .labels) (c .if1 .labels) (l .inv .2) (l .inv .3)
+    let w = port-step (a .to .now) (a .t3) (a .count) (a .at) (l .k) (s .pre .0) (omega (arith, c .before .before .loop-test .taken, s .pre .0)) (s .pre .2) (a .labels .now) (l .labels) (c .if1 .labels) (l .inv .2) (l .inv .3)
     (⊎-elim (λ w. inl (w .0 .taken, λ x h. ap (λ v. getD v x 0) (w .6) ∙ w .5 .ensures .1 x h))
     (⊎-elim (λ w. inl (w .0 .taken, λ x h. ap (λ v. getD v x 0) (w .4) ∙ sym (relabelled-same _ _ _ (sym (w .3 .left))))) (λ w. inr (w .0 .left, w .1))) (c .if1 .came)) in
     (omega arith, n, w .0, w .1)

@@ -1,0 +1,12 @@
+-- Digits of words.
+pub mod Digits
+pub mod Halves
+pub mod Staying
+-- What a good placing does at links and atoms.
+pub mod GoodPlaces
+pub mod NetRows
+pub mod Sending
+-- Atoms laid out in one array, and marks.
+pub mod Laying
+pub mod Framing
+pub mod Marks

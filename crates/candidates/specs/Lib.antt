@@ -1,0 +1,6 @@
+pub mod Sets
+pub mod Words
+pub mod Tables
+pub mod Laid
+pub mod Marks
+pub mod Frames

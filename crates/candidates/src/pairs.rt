@@ -1,0 +1,59 @@
+// Sets of links, as pairs of words: the first has those below 64.
+use crate::LINK_SETS;
+use crate::words::DIGITS;
+use crate::words::minus;
+use crate::words::one;
+ghost use mathlib.Core.Path.{_≡_};
+ghost use mathlib.Core.Bool.{true};
+ghost use mathlib.Core.Logic.{_⊎_};
+ghost use mathlib.Core.List.{[], _∷_};
+ghost use Prim.Native.Nat.{ℕ, _+_, _*_, _<_};
+ghost use lib.ListN.{length, getD, set};
+ghost use Rattle.rows.specs.Limits.{sheetLinks};
+ghost use Rattle.candidates.specs.Words.{InPair};
+
+// The set of link x in the table.
+pub fn pair_at(links: &[u64; LINK_SETS], x: usize) -> [u64; 2]
+    requires { ⌜ x < sheetLinks ⌝ }
+    ensures { λ r. ⌜ r ≡ getD (now (links .entry)) (x * 2) 0 ∷ getD (now (links .entry)) (x * 2 + 1) 0 ∷ [] ⌝ }
+{
+    [links[x * 2], links[x * 2 + 1]]
+}
+
+pub fn set_pair(links: &mut [u64; LINK_SETS], x: usize, pair: [u64; 2])
+    requires { ⌜ x < sheetLinks ⌝ }
+    ensures { λ _. ⌜ now (links .exit) ≡ set (set (now (links .entry)) (x * 2) (getD pair 0 0)) (x * 2 + 1) (getD pair 1 0) ⌝ }
+{
+    links[x * 2] = pair[0];
+    links[x * 2 + 1] = pair[1];
+}
+
+// Link y put into a set.
+pub fn put(pair: &mut [u64; 2], y: usize)
+    requires { ⌜ y < sheetLinks ⌝ }
+    ensures kept { λ _. ⌜ ((z : ℕ) → z < sheetLinks → InPair (now (pair .entry)) z → InPair (now (pair .exit)) z) ⌝ }
+    ensures there { λ _. ⌜ (length (now (pair .entry)) ≡ 2 → InPair (now (pair .exit)) y) ⌝ }
+    ensures only { λ _. ⌜ ((z : ℕ) → z < sheetLinks → InPair (now (pair .exit)) z → InPair (now (pair .entry)) z ⊎ (z ≡ y)) ⌝ }
+    ensures sized { λ _. ⌜ length (now (pair .exit)) ≡ length (now (pair .entry)) ⌝ }
+{
+    let half = y / DIGITS;
+    pair[half] = pair[half] | one(y % DIGITS);
+}
+
+pub fn common(a: [u64; 2], b: [u64; 2]) -> [u64; 2]
+    ensures { λ r. ⌜ ((y : ℕ) → y < sheetLinks → InPair a y → InPair b y → InPair r y) ⌝ }
+{
+    [a[0] & b[0], a[1] & b[1]]
+}
+
+pub fn without(a: [u64; 2], b: [u64; 2]) -> [u64; 2]
+    ensures { λ r. ⌜ ((y : ℕ) → y < sheetLinks → InPair a y → ¬ InPair b y → InPair r y) × ((y : ℕ) → y < sheetLinks → InPair r y → ¬ InPair b y) ⌝ }
+{
+    [minus(a[0], b[0]), minus(a[1], b[1])]
+}
+
+pub fn is_empty(a: [u64; 2]) -> bool
+    ensures { λ r. ⌜ (r ≡ true → (y : ℕ) → y < sheetLinks → ¬ InPair a y) ⌝ }
+{
+    a[0] | a[1] == 0
+}

@@ -1,0 +1,120 @@
+-- Invariant: no atom of the row has a link that is in the pair.
+use native.Mathlib.Omega.{arith}
+use Prim.Native.Nat.{ℕ, _+_, _*_, _%_, _<_}
+use mathlib.Core.Path.{subst}
+use mathlib.Core.Logic.{⊎-elim}
+use mathlib.Core.List.{[], _∷_}
+use lib.ListN.{getD}
+use Rattle.rows.specs.Limits.{sheetLinks}
+use Rattle.candidates.specs.Words.{In, InPair}
+use Rattle.candidates.proofs.Digits.{none-in, in-and}
+use Rattle.candidates.proofs.Halves.{by-half}
+use borrow.Author.Needs.{needs}
+use Rattle.narrowing.proofs.given.missing.Statement.{statement}
+use Rattle.narrowing.proofs.given.missing.Tie as tie
+
+abbrev Inv-loop : tie.InvT-loop
+Inv-loop users laid n row gone k pair₀ rest₀ pair rest = (y : ℕ) → y < sheetLinks → InPair pair y → (t : ℕ) → In row t → ¬ In (getD users (k * sheetLinks + y) 0) t
+
+abbrev μ-loop : tie.MeasureT-loop
+μ-loop users laid n row gone k pair₀ rest₀ pair rest = rest
+
+-- a turn takes the first out of what is left
+less : (c : tie.After-minus Inv-loop μ-loop) → c .minus .result < c .before .before .before .before .loop .rest
+less c = c .minus .ensures .2 (c .before .before .first .result) (c .before .before .first .ensures .1) (c .before .one .ensures .0)
+
+loop-holds : tie.Need-loop-holds Inv-loop μ-loop
+loop-holds c = λ y h p. absurd (by-half (λ (q : ℕ). ¬ In (getD (0 ∷ 0 ∷ []) q 0) (y % 64)) y h (none-in (y % 64)) (none-in (y % 64)) p)
+
+first-requires : tie.Need-first-requires Inv-loop μ-loop
+first-requires c κs = search needs
+
+one-requires : tie.Need-one-requires Inv-loop μ-loop
+one-requires c κs = search needs
+
+minus-requires : tie.Need-minus-requires Inv-loop μ-loop
+minus-requires c κs = search needs
+
+link-at-requires : tie.Need-link-at-requires Inv-loop μ-loop
+link-at-requires c κs = let s = c .before .before .before .before .before .before in
+    let h = c .if1 .taken in
+    (omega (arith, h, s .pre .0 .few), s .pre .1, s .pre .0 .atoms (c .before .before .before .first .result) h)
+
+mul-if3 : tie.Need-mul-if3 Inv-loop μ-loop
+mul-if3 c = search needs
+
+sub-if3 : tie.Need-sub-if3 Inv-loop μ-loop
+sub-if3 c = search needs
+
+add-if3 : tie.Need-add-if3 Inv-loop μ-loop
+add-if3 c = search needs
+
+mul-if3-2 : tie.Need-mul-if3-2 Inv-loop μ-loop
+mul-if3-2 c = search needs
+
+element-copy-out-if3 : tie.Need-element-copy-out-if3 Inv-loop μ-loop
+element-copy-out-if3 c = search needs
+
+sub-put : tie.Need-sub-put Inv-loop μ-loop
+sub-put c = search needs
+
+put-requires : tie.Need-put-requires Inv-loop μ-loop
+put-requires c κs = search needs
+
+loop-less : tie.Need-loop-less Inv-loop μ-loop
+loop-less c = less (c .before .before .before .before .before .before .before)
+
+loop-again : tie.Need-loop-again Inv-loop μ-loop
+loop-again c = let l = c .before .before .before .before .before .before .before .before .before .before .before in
+    let s = l .before .args in
+    let k = s .k in
+    λ y h p t r u. ⊎-elim (λ q. l .loop .inv y h q t r u) (λ e. none-in t (subst (λ (w : ℕ). In w t) (c .before .before .if3 .taken) (in-and _ (s .row) t (subst (λ (z : ℕ). In (getD (s .users .now) (k * sheetLinks + z) 0) t) e u) r))) (c .put .ensures .1 .1 .0 y h p)
+
+loop-less-2 : tie.Need-loop-less-2 Inv-loop μ-loop
+loop-less-2 c = less (c .before .before .before .before .before)
+
+loop-again-2 : tie.Need-loop-again-2 Inv-loop μ-loop
+loop-again-2 c = c .before .before .before .before .before .before .before .before .before .loop .inv
+
+loop-less-3 : tie.Need-loop-less-3 Inv-loop μ-loop
+loop-less-3 c = less (c .before .before .before)
+
+loop-again-3 : tie.Need-loop-again-3 Inv-loop μ-loop
+loop-again-3 c = c .before .before .before .before .before .before .before .loop .inv
+
+loop-less-4 : tie.Need-loop-less-4 Inv-loop μ-loop
+loop-less-4 c = less (c .before)
+
+loop-again-4 : tie.Need-loop-again-4 Inv-loop μ-loop
+loop-again-4 c = c .before .before .before .before .before .loop .inv
+
+returns : tie.Need-returns Inv-loop μ-loop
+returns c = c .before .loop .inv
+
+pub missing-spec : {M : Type 1} → statement M
+missing-spec =
+    tie.close
+    (tie.spec
+    Inv-loop
+    μ-loop
+    loop-holds
+    first-requires
+    one-requires
+    minus-requires
+    link-at-requires
+    mul-if3
+    sub-if3
+    add-if3
+    mul-if3-2
+    element-copy-out-if3
+    sub-put
+    put-requires
+    loop-less
+    loop-again
+    loop-less-2
+    loop-again-2
+    loop-less-3
+    loop-again-3
+    loop-less-4
+    loop-again-4
+    returns)
