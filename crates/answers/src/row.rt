@@ -1,12 +1,12 @@
 // The row that a program prints of an answer: letter A, number, input, row and, for compare and claim, 1 or 0.
 use rows::Sheet;
-use rows::write::put_row;
+use writing::write::put_row;
 ghost use mathlib.Core.Path.{_≡_};
 ghost use mathlib.Core.List.{[], _∷_};
 ghost use Prim.Native.Nat.{_%_, _≤_};
 ghost use lib.ListN.{take};
 ghost use Rattle.rows.specs.Pick.{pick};
-ghost use Rattle.rows.specs.RowText.{rowBytes};
+ghost use Rattle.writing.specs.RowText.{rowBytes};
 
 // The first count of these numbers, each by its last four digits.
 fn numbers_row(number: u16, input: u16, row: usize, yes: bool, count: usize) -> [u8; Sheet::ROW]

@@ -1,15 +1,15 @@
 -- A normal form and the same with its atoms as they are laid out are one net.
 use Prim.Native.Nat.{ℕ, zero, suc, _+_, _<_}
 use mathlib.Core.Path.{_≡_, refl, sym, subst, _∙_, ap}
-use mathlib.Core.List.{List, [], map}
+use mathlib.Core.List.{List, []}
 use native.Mathlib.Omega.{arith}
 use lib.ListN.{length, take, getD}
 use lib.Seq.{length-take-le, getD-take, ext-getD}
 use Rattle.rows.specs.Limits.{sheetAtoms}
 use Rattle.rows.specs.declared.Atom.{Atom}
-use Rattle.sheet.specs.declared.normal.Normal.{Normal as NormalForm}
-use Rattle.placing.specs.Net.{NetCell, Net, Normal}
-use Rattle.network.specs.NetIn.{netIn, atomIn, atomAt, Fit, Used}
+use Rattle.rows.specs.declared.Sheet.{Sheet as NormalForm}
+use Rattle.placing.specs.Net.{Normal}
+use Rattle.network.specs.NetIn.{netIn, atomAt, Fit, Used}
 use Rattle.candidates.specs.Laid.{laidAtom, LaidOut}
 use Rattle.candidates.specs.Frames.{frameOf, laidRows, whole}
 use Rattle.candidates.specs.declared.frame.Frame.{Frame}

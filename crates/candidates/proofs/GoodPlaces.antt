@@ -9,7 +9,7 @@ use Rattle.placing.specs.Net.{Net, Range, Normal}
 use Rattle.placing.specs.Placing.{Placing, cellAt, atomTo, linkTo, Good}
 use Rattle.placing.proofs.Standing.{atom-link, mark-link, cell-in}
 use Rattle.candidates.specs.Sets.{Decided, by-atom, by-mark, linkAt, linkCount}
-use Rattle.sheet.proofs.normal.Merging.{getD-in}
+use Rattle.reading.proofs.normal.Merging.{getD-in}
 
 module _ (S F : Net) (NS : Normal S) (NF : Normal F) (p : Placing) (g : Good S F p) where
   pub place-count : (i : ℕ) → Range (length (F .atoms)) i → linkCount S (atomTo p i) ≡ linkCount F i

@@ -1,5 +1,5 @@
 -- Sets of links in two words, and the sets of all figure links in one array.
-use Prim.Native.Nat.{ℕ, _+_, _*_, _/_, _%_, _<_}
+use Prim.Native.Nat.{ℕ, _+_, _*_, _/_, _%_, _<_, _≤_}
 use mathlib.Core.Path.{_≡_, refl, sym, _∙_, ap, subst}
 use mathlib.Core.Logic.{_≢_, _⊎_, inl, inr, ⊎-elim}
 use mathlib.Core.List.{List, [], _∷_}
@@ -115,3 +115,28 @@ module _ (pair : List ℕ) (y one : ℕ) (here : In one (y % 64)) (only : (u : �
 
   pub put-there : y / 64 < length pair → InPair with y
   put-there h = ap (λ (v : ℕ). digit v (y % 64)) (same y refl h) ∙ in-or-right (getD pair (y / 64) 0) one (y % 64) here
+
+-- A pair by its two words.
+abbrev words : List ℕ → List ℕ
+words p = getD p 0 0 ∷ getD p 1 0 ∷ []
+
+words-same : (p : List ℕ) (z : ℕ) → z < sheetLinks → getD (words p) (z / 64) 0 ≡ getD p (z / 64) 0
+words-same p z h = by-half (λ (q : ℕ). getD (words p) q 0 ≡ getD p q 0) z h refl refl
+
+-- The same put into one of the two words.
+module _ (p : List ℕ) (y one : ℕ) (small : y < sheetLinks) (here : In one (y % 64)) (only : (u : ℕ) → In one u → u ≡ y % 64) (r : List ℕ) where
+  abbrev Holds : Type 0
+  Holds = ((z : ℕ) → z < sheetLinks → InPair p z → InPair r z) × InPair r y × ((z : ℕ) → z < sheetLinks → InPair r z → InPair p z ⊎ (z ≡ y))
+
+  holds : r ≡ with (words p) y one here only → Holds
+  holds e = (
+    λ z h i. subst (λ (l : List ℕ). InPair l z) (sym e) (put-kept (words p) y one here only z (subst (λ (w : ℕ). In w (z % 64)) (sym (words-same p z h)) i)),
+    subst (λ (l : List ℕ). InPair l y) (sym e) (put-there (words p) y one here only (omega arith)),
+    λ z h i. ⊎-elim (λ j. inl (subst (λ (w : ℕ). In w (z % 64)) (words-same p z h) j)) inr (put-only (words p) y one here only z (subst (λ (l : List ℕ). InPair l z) e i)),
+  )
+
+  pub holds-low : y < 64 → r ≡ bitOr (getD p 0 0) one ∷ getD p 1 0 ∷ [] → Holds
+  holds-low h e = let q : y / 64 ≡ 0 = omega arith in holds (e ∙ rw q)
+
+  pub holds-high : 64 ≤ y → r ≡ getD p 0 0 ∷ bitOr (getD p 1 0) one ∷ [] → Holds
+  holds-high h e = let q : y / 64 ≡ 1 = omega arith in holds (e ∙ rw q)

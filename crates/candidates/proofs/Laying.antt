@@ -7,7 +7,7 @@ use lib.ListN.{length, getD}
 use Rattle.rows.specs.Format.{mostLinks, fieldCount}
 use Rattle.rows.specs.Limits.{sheetLinks}
 use Rattle.rows.specs.declared.Atom.{Atom}
-use Rattle.sheet.specs.declared.normal.Normal.{Normal as NormalForm}
+use Rattle.rows.specs.declared.Sheet.{Sheet as NormalForm}
 use Rattle.network.specs.NetIn.{Used}
 use Rattle.candidates.specs.Laid.{laidAt, laidAtom, Rowed, LaidOut}
 use Rattle.candidates.proofs.NetRows.{row-wider}

@@ -4,7 +4,7 @@ use mathlib.Core.Path.{_≡_, sym, _∙_, ap, subst}
 use native.Mathlib.Omega.{arith}
 use lib.ListN.{length}
 use Rattle.hyperlmntal.specs.Link.{_∈_}
-use Rattle.sheet.specs.declared.normal.Normal.{Normal as NormalForm}
+use Rattle.rows.specs.declared.Sheet.{Sheet as NormalForm}
 use Rattle.placing.specs.Net.{Net, Range, Normal}
 use Rattle.placing.specs.Placing.{Placing, cellAt, atomTo, linkTo, Good}
 use Rattle.network.specs.NetIn.{netIn, atomAt, Fit}

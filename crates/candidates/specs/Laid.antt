@@ -6,7 +6,7 @@ use lib.ListN.{getD}
 use Rattle.rows.specs.Format.{fieldCount}
 use Rattle.rows.specs.Limits.{sheetAtoms, sheetLinks}
 use Rattle.rows.specs.declared.Atom.{Atom}
-use Rattle.sheet.specs.declared.normal.Normal.{Normal as NormalForm}
+use Rattle.rows.specs.declared.Sheet.{Sheet as NormalForm}
 use Rattle.placing.specs.Net.{Normal}
 use Rattle.network.specs.NetIn.{netIn, atomAt, Used, Fit}
 

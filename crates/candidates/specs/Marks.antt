@@ -4,7 +4,7 @@ use mathlib.Core.Path.{_≡_}
 use mathlib.Core.List.{List}
 use lib.ListN.{getD}
 use Rattle.rows.specs.Limits.{sheetLinks, sheetMarks}
-use Rattle.sheet.specs.declared.normal.Normal.{Normal as NormalForm}
+use Rattle.rows.specs.declared.Sheet.{Sheet as NormalForm}
 use Rattle.placing.specs.Net.{Range, Normal}
 use Rattle.network.specs.NetIn.{netIn, Fit}
 

@@ -1,7 +1,6 @@
 // A normal form without its atoms, which are laid out and lent beside it.
 use rows::Context;
 use rows::Sheet;
-use sheet::normal::Normal;
 ghost use mathlib.Core.Path.{_≡_};
 ghost use Rattle.candidates.specs.Frames.{frameOf};
 
@@ -15,7 +14,7 @@ pub struct Frame {
     pub class_count: usize,
 }
 
-pub fn frame_of(net: Normal) -> Frame
+pub fn frame_of(net: Sheet) -> Frame
     ensures { λ r. ⌜ r ≡ frameOf net ⌝ }
 {
     let contexts = net.contexts;

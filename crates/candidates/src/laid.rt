@@ -3,7 +3,6 @@
 use crate::LAID;
 use rows::Atom;
 use rows::Sheet;
-use sheet::normal::Normal;
 ghost use mathlib.Core.Path.{_≡_};
 ghost use Prim.Native.Nat.{ℕ, _+_, _*_, _<_};
 ghost use lib.ListN.{length, getD};
@@ -56,7 +55,7 @@ fn lay_atom(atom: Atom, i: usize, laid: &mut [u16; LAID])
 }
 
 // The atoms of a net in their order.
-pub fn lay(net: Normal, laid: &mut [u16; LAID])
+pub fn lay(net: Sheet, laid: &mut [u16; LAID])
     requires { ⌜ Fit net × (length (now laid) ≡ sheetAtoms * fieldCount) ⌝ }
     ensures { λ _. ⌜ ((i : ℕ) → i < net .«atom_count» → laidAtom (now (laid .exit)) i ≡ atomAt net i) ⌝ }
 {

@@ -8,7 +8,7 @@ ghost use mathlib.Core.Bool.{true};
 ghost use mathlib.Core.Logic.{_⊎_};
 ghost use mathlib.Core.List.{[], _∷_};
 ghost use Prim.Native.Nat.{ℕ, _+_, _*_, _<_};
-ghost use lib.ListN.{length, getD, set};
+ghost use lib.ListN.{getD, set};
 ghost use Rattle.rows.specs.Limits.{sheetLinks};
 ghost use Rattle.candidates.specs.Words.{InPair};
 
@@ -28,16 +28,18 @@ pub fn set_pair(links: &mut [u64; LINK_SETS], x: usize, pair: [u64; 2])
     links[x * 2 + 1] = pair[1];
 }
 
-// Link y put into a set.
-pub fn put(pair: &mut [u64; 2], y: usize)
+// A set with link y.
+pub fn with(pair: [u64; 2], y: usize) -> [u64; 2]
     requires { ⌜ y < sheetLinks ⌝ }
-    ensures kept { λ _. ⌜ ((z : ℕ) → z < sheetLinks → InPair (now (pair .entry)) z → InPair (now (pair .exit)) z) ⌝ }
-    ensures there { λ _. ⌜ (length (now (pair .entry)) ≡ 2 → InPair (now (pair .exit)) y) ⌝ }
-    ensures only { λ _. ⌜ ((z : ℕ) → z < sheetLinks → InPair (now (pair .exit)) z → InPair (now (pair .entry)) z ⊎ (z ≡ y)) ⌝ }
-    ensures sized { λ _. ⌜ length (now (pair .exit)) ≡ length (now (pair .entry)) ⌝ }
+    ensures kept { λ r. ⌜ ((z : ℕ) → z < sheetLinks → InPair pair z → InPair r z) ⌝ }
+    ensures there { λ r. ⌜ InPair r y ⌝ }
+    ensures only { λ r. ⌜ ((z : ℕ) → z < sheetLinks → InPair r z → InPair pair z ⊎ (z ≡ y)) ⌝ }
 {
-    let half = y / DIGITS;
-    pair[half] = pair[half] | one(y % DIGITS);
+    let bit = one(y % DIGITS);
+    if y < DIGITS {
+        return [pair[0] | bit, pair[1]];
+    }
+    [pair[0], pair[1] | bit]
 }
 
 pub fn common(a: [u64; 2], b: [u64; 2]) -> [u64; 2]

@@ -1,7 +1,7 @@
 // Runs tasks on texts and prints each answer. Each argument is a case: a task's name and its files, with
 // a space before each file.
+use normalising::normalise::Normalised;
 use rows::Sheet;
-use sheet::normalise::Normalised;
 ghost use Prim.Native.Nat.{_≤_};
 
 // Where the word that begins at `from` ends.
@@ -29,9 +29,9 @@ fn next_word(case: &[u8], end: usize) -> usize
 
 fn normalise_as(figure: bool, text: &[u8], out: &mut [u8]) -> Normalised {
     if figure {
-        sheet::normalise::normalise_figure(text, out)
+        normalising::normalise::normalise_figure(text, out)
     } else {
-        sheet::normalise::normalise_sheet(text, out)
+        normalising::normalise::normalise_sheet(text, out)
     }
 }
 

@@ -10,11 +10,10 @@ use lib.Dec.{ltb}
 use lib.ListN.{take}
 use Rattle.rows.specs.Pick.{pick}
 use Rattle.rows.specs.Limits.{sheetAtoms, sheetLinks}
-use Rattle.rows.specs.Packed.{packed}
-use Rattle.rows.specs.declared.Sheet.{Sheet}
-use Rattle.sheet.specs.NormalSheet.{packedNormal}
+use Rattle.rows.specs.declared.Context.{Context}
+use Rattle.reading.specs.NormalSheet.{packedNormal}
 use Rattle.sheet.specs.Reading.{outcomeOf, noPorts}
-use Rattle.sheet.specs.declared.normal.Normal as form
+use Rattle.rows.specs.declared.Sheet as form
 use Rattle.sheet.specs.declared.kind.Kind.the-variants.{Plain, Figure, Fillings}
 use Rattle.sheet.specs.declared.answer.Refusal.{Refusal}
 use Rattle.sheet.specs.declared.answer.Answer.the-variants as read
@@ -28,9 +27,9 @@ use Rattle.matching.specs.Search.{placedIn}
 use Rattle.matching.specs.declared.search.Found.{Found}
 use Rattle.filling.specs.Read.{listHeld}
 use Rattle.filling.specs.Fill.{figureHeld, firstLacking, firstDiffering, filledBy, tooLarge}
-use Rattle.filling.specs.Parts.{Counted, Low, firstUnported}
+use Rattle.filling.specs.Parts.{Counted, Low, firstUnported, Headed}
 use Rattle.filling.specs.Filled.{FilledIs}
-use Rattle.filling.proofs.Parts.{figure-within, figure-agrees, list-within, normal-low, low-counted, counted}
+use Rattle.filling.proofs.Parts.{figure-within, figure-agrees, normal-low, low-counted}
 use Rattle.filling.proofs.Answers.{lacking-made, differing-made}
 use Rattle.filling.proofs.ResultNet.{result-sheet}
 use Rattle.finding.specs.Place.{sheetHeld}
@@ -40,7 +39,7 @@ use Rattle.answers.specs.declared.outcome.Claimed.the-variants.{Holds, Differs,
 use Rattle.claiming.proofs.Listed.{listed-atoms}
 
 -- A placing of the filled figure was found, or none.
-pub found-claim : (sheet filled : form.Normal) (r : Found) (b : Bool) → placedIn sheet filled r ≡ smallest (netIn sheet) (netIn filled) → r .ok ≡ b
+pub found-claim : (sheet filled : form.Sheet) (r : Found) (b : Bool) → placedIn sheet filled r ≡ smallest (netIn sheet) (netIn filled) → r .ok ≡ b
     → pick b Holds Differs ≡ placedClaim (smallest (netIn sheet) (netIn filled))
 found-claim sheet filled r b e h = ap (λ (c : Bool). pick c Holds Differs) (sym h) ∙ go (r .ok) _ ∙ ap placedClaim e
   where
@@ -74,29 +73,26 @@ module _ (s f list : List ℕ) where
   unfolding claimedAnswer
   answer-sized z y b t = rw (nought lack z, nought differ y) (ap (λ c. pick c Differs (placedClaim (smallest (normalNet (sheetHeld s)) (filledNet f list)))) (sym t))
 
-pub figure-counted : (sheet figure : form.Normal) (s f : List ℕ) → ClaimInputs sheet figure s f → Counted (figure .contexts) (figure .«context_count»)
+pub figure-counted : (sheet figure : form.Sheet) (s f : List ℕ) → ClaimInputs sheet figure s f → Counted (figure .contexts) (figure .«context_count»)
 figure-counted sheet figure s f I = low-counted figure (subst Low (sym (I .of-figure)) (normal-low Figure (figureHeld f) (figure-within f) (figure-agrees f)))
 
-pub heads-counted : (heads : Sheet) (list : List ℕ) → heads ≡ packed (listHeld list) → Counted (heads .contexts) (heads .«context_count»)
-heads-counted heads list H = subst (λ (h : Sheet). Counted (h .contexts) (h .«context_count»)) (sym H) (counted Fillings (listHeld list) (list-within list))
-
 -- What the code finds.
-module _ (sheet figure : form.Normal) (heads : Sheet) (list : List ℕ) (H : heads ≡ packed (listHeld list)) (s f : List ℕ) (I : ClaimInputs sheet figure s f)
-    (clash : ℕ) (L : clash ≡ firstUnported (heads .ports) (take (figure .«context_count») (figure .contexts))) where
+module _ (sheet figure : form.Sheet) (heads : form.Sheet) (ports list : List ℕ) (H : Headed heads ports list) (s f : List ℕ) (I : ClaimInputs sheet figure s f)
+    (clash : ℕ) (L : clash ≡ firstUnported ports (take (figure .«context_count») (figure .contexts))) where
   lacks : clash ≡ lack s f list
-  lacks = L ∙ ap₂ (λ (x : Sheet) (y : form.Normal). firstUnported (x .ports) (take (y .«context_count») (y .contexts))) H (I .of-figure) ∙ lacking-made f list
+  lacks = L ∙ ap₂ (λ (x : List ℕ) (y : form.Sheet). firstUnported x (take (y .«context_count») (y .contexts))) (H .ports) (I .of-figure) ∙ lacking-made f list
 
   pub says-lacking : (clash ≡ 0 → ⊥) → BlankClash 2 clash ≡ claimedAnswer s f list
   says-lacking h = answer-lacking s f list clash lacks h
 
   module _ (z : clash ≡ 0) (other : ℕ) (D : other ≡ firstDiffering list (take (heads .«context_count») (heads .contexts))) where
     differs : other ≡ differ s f list
-    differs = D ∙ ap (λ (x : Sheet). firstDiffering list (take (x .«context_count») (x .contexts))) H ∙ differing-made f list
+    differs = D ∙ ap₂ (λ (n : ℕ) (x : List Context). firstDiffering list (take n x)) (H .count) (H .contexts) ∙ differing-made f list
 
     pub says-differing : (other ≡ 0 → ⊥) → EdgeDiffers 3 other ≡ claimedAnswer s f list
     says-differing h = answer-differing s f list (sym lacks ∙ z) other differs h
 
-    module _ (y : other ≡ 0) (r : form.Normal)
+    module _ (y : other ≡ 0) (r : form.Sheet)
         (M : (text : List ℕ) → figure ≡ packedNormal (figureHeld text) → firstLacking (listHeld list .contexts) (figureHeld text .contexts) ≡ 0 → firstDiffering list (listHeld list .contexts) ≡ 0 → FilledIs text list r) where
       filled : FilledIs f list r
       filled = M f (I .of-figure) (sym lacks ∙ z) (sym differs ∙ y)
@@ -113,7 +109,7 @@ module _ (sheet figure : form.Normal) (heads : Sheet) (list : List ℕ) (H : hea
             record {
               sheet-fit = subst Fit (sym (I .of-sheet)) (fit-read Plain noPorts s refl);
               figure-fit = filled .fit few narrow;
-              sheet-normal = subst (λ (n : form.Normal). Normal (netIn n)) (sym (I .of-sheet)) (normal-read Plain noPorts s);
+              sheet-normal = subst (λ (n : form.Sheet). Normal (netIn n)) (sym (I .of-sheet)) (normal-read Plain noPorts s);
               figure-normal = subst Normal (sym (filled .net few narrow)) (result-sheet (filledBy f list) (listed-atoms f list (sym lacks ∙ z)) .normal);
             }
 

@@ -13,8 +13,8 @@ use Rattle.hyperlmntal.specs.Isomorphism.{functor}
 use Rattle.hyperlmntal.proofs.Lists.{all-map}
 use Rattle.rows.specs.Held.{Held}
 use Rattle.rows.specs.declared.Context.{Context}
-use Rattle.sheet.specs.Graph.{atomCell, contextCell, graphOf}
-use Rattle.sheet.specs.Normal.{classOf, numberedBy, normalFormBy, normalForm}
+use Rattle.reading.specs.Graph.{atomCell, contextCell, graphOf}
+use Rattle.reading.specs.Normal.{classOf, numberedBy, normalFormBy, normalForm}
 use Rattle.sheet.specs.declared.kind.Kind.{Kind}
 use Rattle.sheet.proofs.read.Ranges.{Every, every-append, ContextRange}
 use Rattle.texts.proofs.BuiltRows.{every-in}

@@ -4,7 +4,7 @@ use mathlib.Core.Path.{_≡_}
 use mathlib.Core.List.{List, [], _∷_, Memᴰ·map}
 use Rattle.rows.specs.Packed.{portsOf}
 use Rattle.rows.specs.declared.Context.{Context}
-use Rattle.sheet.specs.Graph.{graphOf}
+use Rattle.reading.specs.Graph.{graphOf}
 use Rattle.sheet.specs.Reading.{noPorts}
 use Rattle.sheet.specs.declared.kind.Kind.the-variants.{Figure}
 use Rattle.sheet.proofs.read.Ranges.{Every}

@@ -5,28 +5,24 @@ use filling::part::first_differing;
 use filling::part::first_lacking;
 use matching::identical::identical;
 use matching::search::smallest_placing;
+use reading::read::read_figure;
+use reading::read::read_list;
+use reading::read::read_sheet;
 use rows::Sheet;
 use sheet::answer::Answer;
-use sheet::answer::Refusal;
-use sheet::normal::Normal;
-use sheet::normal::normal_of;
-use sheet::read::read_figure;
-use sheet::read::read_list;
-use sheet::read::read_sheet;
 ghost use mathlib.Core.Path.{_≡_};
 ghost use mathlib.Core.List.{List};
 ghost use Prim.Native.Nat.{ℕ};
-ghost use Rattle.rows.specs.Packed.{packed};
 ghost use Rattle.sheet.specs.Filling.{Passes};
 ghost use Rattle.placing.specs.Smallest.{smallest};
 ghost use Rattle.network.specs.NetIn.{netIn};
 ghost use Rattle.network.specs.Ready.{Ready};
-ghost use Rattle.filling.specs.Read.{listHeld};
+ghost use Rattle.filling.specs.Parts.{Headed};
 ghost use Rattle.claiming.specs.Claim.{placedClaim, claimedAnswer, claimAnswer};
 ghost use Rattle.claiming.specs.Inputs.{ClaimInputs};
 
 // Whether the filled figure can be placed in the sheet.
-fn claim_filled(sheet: Normal, filled: Normal) -> Claimed
+fn claim_filled(sheet: Sheet, filled: Sheet) -> Claimed
     requires { ⌜ Ready sheet filled ⌝ }
     ensures { λ r. ⌜ r ≡ placedClaim (smallest (netIn sheet) (netIn filled)) ⌝ }
 {
@@ -41,12 +37,17 @@ fn claim_filled(sheet: Normal, filled: Normal) -> Claimed
 }
 
 // Texts that passed row by row. Too large a filled figure is no sheet.
-fn claim_read(sheet: Normal, figure: Normal, heads: Sheet, list: &[u8]) -> Claimed
-    requires { ⌜ ((s : List ℕ) × ((f : List ℕ) × ClaimInputs sheet figure s f)) × (heads ≡ packed (listHeld (now list))) × Passes (now list) ⌝ }
+fn claim_read(
+    sheet: Sheet,
+    figure: Sheet,
+    heads: Sheet,
+    ports: [u16; Sheet::NUMBERS],
+    list: &[u8],
+) -> Claimed
+    requires { ⌜ ((s : List ℕ) × ((f : List ℕ) × ClaimInputs sheet figure s f)) × Headed heads ports (now list) × Passes (now list) ⌝ }
     ensures { λ r. ⌜ ((s f : List ℕ) → ClaimInputs sheet figure s f → r ≡ claimedAnswer s f (now (list .entry))) ⌝ }
 {
     let contexts = figure.contexts;
-    let ports = heads.ports;
     let clash = first_lacking(contexts, figure.context_count, ports);
     if clash != 0 {
         return Claimed::BlankClash(2, clash);
@@ -86,11 +87,11 @@ pub fn claim(sheet: &[u8], figure: &[u8], list: &[u8]) -> Claimed
                     match three {
                         Answer::Refused(why, row) => Claimed::Refused(3, why, row),
                         Answer::Passed => {
-                            let whole = first.sheet;
-                            let part = second.sheet;
-                            let heads = third.sheet;
-                            let normal = normal_of(whole);
-                            claim_read(normal, normal_of(part), heads, list)
+                            let whole = first.normal;
+                            let part = second.normal;
+                            let heads = third.normal;
+                            let ports = third.ports;
+                            claim_read(whole, part, heads, ports, list)
                         }
                     }
                 }

@@ -8,11 +8,11 @@ use mathlib.Core.Option.{Option, none, some}
 use native.Mathlib.Omega.{arith}
 use Rattle.rows.specs.Pick.{pick}
 use Rattle.sheet.specs.Reading.{outcomeOf, noPorts}
-use Rattle.sheet.specs.NormalSheet.{packedNormal}
+use Rattle.reading.specs.NormalSheet.{packedNormal}
 use Rattle.sheet.specs.declared.kind.Kind.the-variants.{Plain}
 use Rattle.sheet.specs.declared.answer.Refusal.{Refusal}
 use Rattle.sheet.specs.declared.answer.Answer.the-variants as read
-use Rattle.sheet.specs.declared.normal.Normal as form
+use Rattle.rows.specs.declared.Sheet as form
 use Rattle.placing.specs.Net.{Net, normalNet}
 use Rattle.placing.specs.Placing.{Placing, Good}
 use Rattle.placing.specs.Smallest.{smallest}
@@ -27,14 +27,14 @@ use Rattle.matching.specs.declared.search.Found.{Found}
 use Rattle.answers.specs.declared.outcome.Compared.the-variants.{Same, Differs, Refused}
 
 -- A placing was found, or none.
-placed-by : (sheet other : form.Normal) (r : Found) (b : Bool) → placedIn sheet other r ≡ smallest (netIn sheet) (netIn other) → r .ok ≡ b → isPlaced (smallest (netIn sheet) (netIn other)) ≡ b
+placed-by : (sheet other : form.Sheet) (r : Found) (b : Bool) → placedIn sheet other r ≡ smallest (netIn sheet) (netIn other) → r .ok ≡ b → isPlaced (smallest (netIn sheet) (netIn other)) ≡ b
 placed-by sheet other r b e h = sym (ap isPlaced e) ∙ go (r .ok) _ ∙ h
   where
     go : (ok : Bool) (p : Placing) → isPlaced (pick ok (some p) none) ≡ ok
     go true p = refl
     go false p = refl
 
-pub compared-by : (sheet other : form.Normal) (r : Found) (b : Bool) → placedIn sheet other r ≡ smallest (netIn sheet) (netIn other) → r .ok ≡ b
+pub compared-by : (sheet other : form.Sheet) (r : Found) (b : Bool) → placedIn sheet other r ≡ smallest (netIn sheet) (netIn other) → r .ok ≡ b
     → pick b Same Differs ≡ pick (isPlaced (smallest (netIn sheet) (netIn other))) Same Differs
 compared-by sheet other r b e h = ap (λ (c : Bool). pick c Same Differs) (sym (placed-by sheet other r b e h))
 
@@ -47,7 +47,7 @@ module _ (a b : List ℕ) where
   unfolding compareAnswer
   second-refused why row p e = rw (p, e)
 
-  module _ (sheet other : form.Normal) (e : sheet ≡ packedNormal (outcomeOf Plain noPorts a .held)) (f : other ≡ packedNormal (outcomeOf Plain noPorts b .held)) where
+  module _ (sheet other : form.Sheet) (e : sheet ≡ packedNormal (outcomeOf Plain noPorts a .held)) (f : other ≡ packedNormal (outcomeOf Plain noPorts b .held)) where
     -- what is read of the two can be searched
     pub ready-read : Ready sheet other
     ready-read = rw (e, f) (record { sheet-fit = fit-read Plain noPorts a refl; figure-fit = fit-read Plain noPorts b refl; sheet-normal = normal-read Plain noPorts a; figure-normal = normal-read Plain noPorts b })

@@ -4,7 +4,7 @@ use mathlib.Core.Path.{_≡_}
 use mathlib.Core.Logic.{_⊎_, _↔_}
 use mathlib.Core.List.{List}
 use Rattle.hyperlmntal.specs.Congruence.{_≅_, ≅-sym}
-use Rattle.sheet.specs.Graph.{termOfText}
+use Rattle.reading.specs.Graph.{termOfText}
 use Rattle.sheet.specs.Reading.{outcomeOf, noPorts}
 use Rattle.sheet.specs.declared.kind.Kind.the-variants.{Plain}
 use Rattle.sheet.specs.declared.answer.Answer.the-variants.{Passed}

@@ -2,7 +2,7 @@
 use Prim.Native.Nat.{ℕ}
 use mathlib.Core.Path.{_≡_, refl}
 use mathlib.Core.List.{List, [], _∷_, _++_, map}
-use Rattle.rows.specs.RowText.{fieldBytes, fieldsBytes, rowBytes}
+use Rattle.writing.specs.RowText.{fieldBytes, fieldsBytes, rowBytes}
 use Rattle.rows.specs.Format.{letterOf, ruleOf}
 use Rattle.rows.specs.Row.{misplacedIn, fieldOf, suits, judged, fieldsOf, rowOf}
 use Rattle.rows.specs.Held.{indexOf, withLink, withLinks, merged, withFusion, withMark, withAtom, withContext, withFusionRow, withEdgeRow, withHead, withRow}

@@ -2,11 +2,9 @@
 use answers::outcome::Compared;
 use matching::identical::identical;
 use matching::search::smallest_placing;
+use reading::read::read_sheet;
+use rows::Sheet;
 use sheet::answer::Answer;
-use sheet::answer::Refusal;
-use sheet::normal::Normal;
-use sheet::normal::normal_of;
-use sheet::read::read_sheet;
 ghost use mathlib.Core.Path.{_≡_};
 ghost use Rattle.rows.specs.Pick.{pick};
 ghost use Rattle.placing.specs.Smallest.{smallest};
@@ -15,7 +13,7 @@ ghost use Rattle.network.specs.Ready.{Ready};
 ghost use Rattle.comparing.specs.Compare.{isPlaced, compareAnswer};
 
 // Whether the second can be placed in the first, as it can where both are equal row by row.
-fn compare_normals(sheet: Normal, other: Normal) -> Compared
+fn compare_normals(sheet: Sheet, other: Sheet) -> Compared
     requires { ⌜ Ready sheet other ⌝ }
     ensures { λ r. ⌜ r ≡ pick (isPlaced (smallest (netIn sheet) (netIn other))) Compared.Same Compared.Differs ⌝ }
 {
@@ -43,10 +41,9 @@ pub fn compare(a: &[u8], b: &[u8]) -> Compared
             match two {
                 Answer::Refused(why, row) => Compared::Refused(2, why, row),
                 Answer::Passed => {
-                    let sheet = first.sheet;
-                    let other = second.sheet;
-                    let normal = normal_of(sheet);
-                    compare_normals(normal, normal_of(other))
+                    let sheet = first.normal;
+                    let other = second.normal;
+                    compare_normals(sheet, other)
                 }
             }
         }

@@ -9,7 +9,7 @@ use Rattle.hyperlmntal.specs.Link.{_∈_}
 use Rattle.rows.specs.Limits.{sheetLinks, figureContexts}
 use Rattle.rows.proofs.Padding.{getD-filled}
 use Rattle.rows.specs.declared.Context.{Context}
-use Rattle.sheet.specs.declared.normal.Normal as form
+use Rattle.rows.specs.declared.Sheet as form
 use Rattle.placing.specs.Net.{NetCell}
 use Rattle.placing.proofs.Lists.{member-at, getD-of}
 use Rattle.network.specs.NetIn.{contextIn, rowAt, contextAt, Used, Fit, Ports}
@@ -88,7 +88,7 @@ module _ (contexts : List Context) where
             subst (λ (j : ℕ). Among (rowAt contexts j .links) (rowAt contexts j .count) (suc z)) q
             (s .of-flag z (sym (parts x z h u e .1) ∙ s .flag-of (t .0) x (t .1) (t .2)))
 
-module _ (figure : form.Normal) (fit : Fit figure) where
+module _ (figure : form.Sheet) (fit : Fit figure) where
   -- a link of a context, by its place
   among-in : (i : ℕ) → i < figure .«context_count» → (y : ℕ) → Among (contextAt figure i .links) (contextAt figure i .count) y → y ∈ contextIn (contextAt figure i) .1
   among-in i h y t = subst (λ (z : ℕ). z ∈ contextIn (contextAt figure i) .1) (t .2) (used-in (figure .«class_count») (contextAt figure i .count) (contextAt figure i .links) (fit .contexts i h) (t .0) (t .1))

@@ -7,7 +7,7 @@ use native.Mathlib.Omega.{arith}
 use lib.ListN.{take, getD}
 use Rattle.rows.specs.Limits.{sheetLinks}
 use Rattle.rows.specs.declared.Atom.{Atom}
-use Rattle.sheet.specs.declared.normal.Normal as form
+use Rattle.rows.specs.declared.Sheet as form
 use Rattle.network.specs.NetIn.{netIn, atomAt}
 use Rattle.network.specs.Ready.{Ready, AtomsIn}
 use Rattle.candidates.specs.Laid.{laidAtom, Rowed, LaidOut}
@@ -19,7 +19,7 @@ use Rattle.deciding.proofs.Telling.{good-name, good-count, told-next, c
 
 -- what the first i atoms say
 abbrev pub Said : List ℕ → List ℕ → ℕ → List ℕ → List ℕ → List ℕ → ℕ → Type 0
-Said laid parts m atoms before to i = (sheet figure : form.Normal) → LaidOut sheet laid (sheet .«atom_count») → LaidOut figure parts m → AtomsIn sheet (figure .«atom_count») atoms → Told sheet figure atoms before → Told sheet figure atoms to × AtomsAgreeTo sheet figure atoms to i
+Said laid parts m atoms before to i = (sheet figure : form.Sheet) → LaidOut sheet laid (sheet .«atom_count») → LaidOut figure parts m → AtomsIn sheet (figure .«atom_count») atoms → Told sheet figure atoms before → Told sheet figure atoms to × AtomsAgreeTo sheet figure atoms to i
 
 -- links of a row
 pub row-places : (l : List ℕ) (n i : ℕ) (x : Atom) → x ≡ laidAtom l i → Rowed l n → i < n → Places (x .count) (x .links)
@@ -27,7 +27,7 @@ row-places l n i x e r h = subst (λ (w : Atom). Places (w .count) (w .links)) (
 
 -- x is figure atom i, and y the sheet atom it goes to
 module _ (laid parts : List ℕ) (m : ℕ) (atoms : List ℕ) (i : ℕ) (less : i < m) (x y : Atom) (mine : x ≡ laidAtom parts i) (there : y ≡ laidAtom laid (getD atoms i 0 - 1)) where
-  module _ (sheet figure : form.Normal) (os : LaidOut sheet laid (sheet .«atom_count»)) (of : LaidOut figure parts m) (a : AtomsIn sheet (figure .«atom_count») atoms) where
+  module _ (sheet figure : form.Sheet) (os : LaidOut sheet laid (sheet .«atom_count»)) (of : LaidOut figure parts m) (a : AtomsIn sheet (figure .«atom_count») atoms) where
     ready : Ready sheet figure
     ready = record { sheet-fit = os .fit; figure-fit = of .fit; sheet-normal = os .normal; figure-normal = of .normal }
 

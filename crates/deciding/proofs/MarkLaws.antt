@@ -8,7 +8,7 @@ use native.Mathlib.Numerals.{add-one}
 use lib.ListN.{length, take, getD}
 use Rattle.hyperlmntal.specs.Link.{_∈_}
 use Rattle.rows.specs.Limits.{sheetLinks}
-use Rattle.sheet.specs.declared.normal.Normal as form
+use Rattle.rows.specs.declared.Sheet as form
 use Rattle.placing.specs.Net.{Net}
 use Rattle.network.specs.NetIn.{netIn}
 use Rattle.network.specs.Ready.{Ready, AtomsIn}
@@ -23,15 +23,15 @@ use Rattle.deciding.proofs.Places.{number-some, enters-room, enters-at,
 use Rattle.deciding.proofs.Telling.{tells-clash, atoms-kept}
 
 -- what the loop over the marks keeps
-pub record MarksTold (sheet figure : form.Normal) (atoms to : List ℕ) (i : ℕ) : Type 0 where
+pub record MarksTold (sheet figure : form.Sheet) (atoms to : List ℕ) (i : ℕ) : Type 0 where
   pub told : Told sheet figure atoms to
   pub atoms-agree : AtomsAgree sheet figure atoms to
   pub marks-agree : MarksAgreeTo sheet figure to i
 
-pub marks-start : (sheet figure : form.Normal) (atoms to : List ℕ) → Told sheet figure atoms to → AtomsAgree sheet figure atoms to → MarksTold sheet figure atoms to 0
+pub marks-start : (sheet figure : form.Sheet) (atoms to : List ℕ) → Told sheet figure atoms to → AtomsAgree sheet figure atoms to → MarksTold sheet figure atoms to 0
 marks-start sheet figure atoms to t w = record { told = t; atoms-agree = w; marks-agree = λ i h. absurd (omega arith) }
 
-module _ (sheet figure : form.Normal) (ready : Ready sheet figure) (atoms : List ℕ) where
+module _ (sheet figure : form.Sheet) (ready : Ready sheet figure) (atoms : List ℕ) where
   abbrev S : Net
   S = netIn sheet
 
@@ -105,9 +105,9 @@ module _ (sheet figure : form.Normal) (ready : Ready sheet figure) (atoms : List
 -- the same of arrays, for every sheet and figure whose marks they hold
 module _ (marks marked : List ℕ) (n : ℕ) (figure-marks figure-marked : List ℕ) (m : ℕ) where
   abbrev pub MarksSaid : List ℕ → List ℕ → ℕ → Type 0
-  MarksSaid before to i = (sheet figure : form.Normal) → MarksIn sheet marks marked n → MarksIn figure figure-marks figure-marked m → (atoms : List ℕ) → AtomsIn sheet (figure .«atom_count») atoms → Told sheet figure atoms before → AtomsAgree sheet figure atoms before → MarksTold sheet figure atoms to i
+  MarksSaid before to i = (sheet figure : form.Sheet) → MarksIn sheet marks marked n → MarksIn figure figure-marks figure-marked m → (atoms : List ℕ) → AtomsIn sheet (figure .«atom_count») atoms → Told sheet figure atoms before → AtomsAgree sheet figure atoms before → MarksTold sheet figure atoms to i
 
-  module _ (sheet figure : form.Normal) (os : MarksIn sheet marks marked n) (of : MarksIn figure figure-marks figure-marked m) (atoms : List ℕ) where
+  module _ (sheet figure : form.Sheet) (os : MarksIn sheet marks marked n) (of : MarksIn figure figure-marks figure-marked m) (atoms : List ℕ) where
     both-ready : Ready sheet figure
     both-ready = record { sheet-fit = os .fit; figure-fit = of .fit; sheet-normal = os .normal; figure-normal = of .normal }
 

@@ -11,7 +11,7 @@ use Rattle.hyperlmntal.specs.Link.{_∈_}
 use Rattle.rows.specs.Limits.{sheetLinks}
 use Rattle.rows.specs.declared.Atom.{Atom}
 use Rattle.rows.proofs.Padding.{getD-filled}
-use Rattle.sheet.specs.declared.normal.Normal as form
+use Rattle.rows.specs.declared.Sheet as form
 use Rattle.placing.specs.Net.{NetCell, Net, Range}
 use Rattle.placing.specs.Placing.{Placing, numberAt, cellAt, atomTo, linkTo}
 use Rattle.network.specs.NetIn.{atomIn, netIn, atomAt, Used}
@@ -25,7 +25,7 @@ use Rattle.deciding.proofs.Sets.{below-cases}
 use Rattle.deciding.proofs.Places.{agree-kept, number-some}
 
 -- nothing is told yet
-pub told-start : (sheet figure : form.Normal) (atoms to : List ℕ) → to ≡ replicate sheetLinks 0 → Told sheet figure atoms to
+pub told-start : (sheet figure : form.Sheet) (atoms to : List ℕ) → to ≡ replicate sheetLinks 0 → Told sheet figure atoms to
 told-start sheet figure atoms to e = record {
   room = ap length e ∙ length-replicate {A = ℕ} sheetLinks 0;
   told = λ x n. absurd (n (ap (λ (l : List ℕ). getD l x 0) e ∙ getD-filled {A = ℕ} 0 sheetLinks x));
@@ -35,7 +35,7 @@ told-start sheet figure atoms to e = record {
 pub tells-clash : (S F : Net) (l : List ℕ) (x y z : ℕ) → Tells S F l x y → Tells S F l x z → y ≢ z → NoneWith S F l
 tells-clash S F l x y z a b d p g e = d (sym (a .said p g e) ∙ b .said p g e)
 
-module _ (sheet figure : form.Normal) (ready : Ready sheet figure) (atoms : List ℕ) (a : AtomsIn sheet (figure .«atom_count») atoms) where
+module _ (sheet figure : form.Sheet) (ready : Ready sheet figure) (atoms : List ℕ) (a : AtomsIn sheet (figure .«atom_count») atoms) where
   abbrev S : Net
   S = netIn sheet
 

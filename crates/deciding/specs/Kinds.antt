@@ -5,7 +5,7 @@ use mathlib.Core.List.{List}
 use lib.ListN.{length, getD}
 use Rattle.rows.specs.Limits.{sheetLinks}
 use Rattle.rows.specs.declared.Context.{Context}
-use Rattle.sheet.specs.declared.normal.Normal as form
+use Rattle.rows.specs.declared.Sheet as form
 use Rattle.network.specs.NetIn.{netIn, rowAt}
 use Rattle.completing.specs.Completion.{SameContexts}
 use Rattle.deciding.specs.Flags.{Among}
@@ -36,6 +36,6 @@ pub record KindsTo (contexts : List Context) (c : ℕ) (l : List ℕ) : Type 0 w
   pub same : (x z i : ℕ) → x < sheetLinks → z < sheetLinks → getD l x 0 ≡ getD l z 0 → i < c
       → Among (rowAt contexts i .links) (rowAt contexts i .count) (suc x) → Among (rowAt contexts i .links) (rowAt contexts i .count) (suc z)
 
-pub record KindsIn (figure : form.Normal) (l : List ℕ) : Type 0 where
+pub record KindsIn (figure : form.Sheet) (l : List ℕ) : Type 0 where
   pub room : length l ≡ sheetLinks
   pub same : (x z : ℕ) → x < sheetLinks → z < sheetLinks → getD l x 0 ≡ getD l z 0 → SameContexts (netIn figure) (suc x) (suc z)

@@ -7,7 +7,7 @@ use mathlib.Core.Bool.{Bool, true, false}
 use lib.ListN.{length, take, getD, set}
 use Rattle.rows.specs.Format.{mostLinks}
 use Rattle.rows.specs.Limits.{sheetLinks}
-use Rattle.sheet.specs.declared.normal.Normal as form
+use Rattle.rows.specs.declared.Sheet as form
 use Rattle.placing.specs.Net.{Net, Range}
 use Rattle.placing.specs.Placing.{Placing, numberAt, linkTo, Good}
 use Rattle.network.specs.NetIn.{netIn}
@@ -62,6 +62,6 @@ pub record Tells (S F : Net) (l : List ℕ) (x y : ℕ) : Type 0 where
   pub said : (p : Placing) → Good S F p → p .atomsTo ≡ l → linkTo p x ≡ y
 
 -- what stands in `to` is told by the atoms and the marks
-pub record Told (sheet figure : form.Normal) (atoms to : List ℕ) : Type 0 where
+pub record Told (sheet figure : form.Sheet) (atoms to : List ℕ) : Type 0 where
   pub room : length to ≡ sheetLinks
   pub told : (x : ℕ) → getD to x 0 ≢ 0 → Tells (netIn sheet) (netIn figure) (take (figure .«atom_count») atoms) (suc x) (getD to x 0)

@@ -5,7 +5,7 @@ ghost use Prim.Native.Nat.{ℕ, _<_, _≤_};
 ghost use mathlib.Core.Path.{_≡_};
 ghost use lib.ListN.{length, getD, replicate};
 ghost use Rattle.rows.specs.Limits.{sheetLinks};
-ghost use Rattle.sheet.specs.declared.normal.Normal.{Normal as NormalForm};
+ghost use Rattle.rows.specs.declared.Sheet.{Sheet as NormalForm};
 ghost use Rattle.network.specs.NetIn.{Ports, ContextsIn};
 ghost use Rattle.deciding.specs.Links.{Places};
 ghost use Rattle.deciding.specs.Kinds.{StandingIn, Doubled, KindsIn};

@@ -4,7 +4,7 @@ use rows::Sheet;
 ghost use Prim.Native.Nat.{ℕ, _≤_};
 ghost use mathlib.Core.List.{List};
 ghost use Rattle.rows.specs.Limits.{sheetMarks};
-ghost use Rattle.sheet.specs.declared.normal.Normal.{Normal as NormalForm};
+ghost use Rattle.rows.specs.declared.Sheet.{Sheet as NormalForm};
 ghost use Rattle.network.specs.Ready.{AtomsIn};
 ghost use Rattle.candidates.specs.Marks.{MarkLinks, MarksIn};
 ghost use Rattle.deciding.specs.Links.{Told};

@@ -8,7 +8,7 @@ use Rattle.hyperlmntal.specs.Link.{_∈_}
 use Rattle.rows.specs.Format.{mostLinks, fieldCount}
 use Rattle.rows.specs.Limits.{sheetLinks}
 use Rattle.rows.specs.declared.Atom.{Atom}
-use Rattle.sheet.proofs.normal.Merging.{getD-in}
+use Rattle.reading.proofs.normal.Merging.{getD-in}
 use Rattle.placing.specs.Net.{Net, Range, Normal}
 use Rattle.placing.specs.Placing.{cellAt}
 use Rattle.placing.proofs.Lists.{member-at, getD-of}

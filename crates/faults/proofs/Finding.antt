@@ -8,7 +8,7 @@ use native.Mathlib.Omega.{arith}
 use lib.ListN.{length, take, getD, set, replicate}
 use lib.Seq.{getD-take, getD-set-same, length-take-le}
 use Rattle.rows.specs.Limits.{sheetLinks}
-use Rattle.sheet.specs.declared.normal.Normal as form
+use Rattle.rows.specs.declared.Sheet as form
 use Rattle.placing.specs.Net.{NetCell, Net, Range}
 use Rattle.placing.specs.Placing.{Placing, numberAt, cellAt}
 use Rattle.network.specs.NetIn.{netIn}
@@ -31,7 +31,7 @@ use Rattle.stepping.proofs.Reading.{context-cell, used-read, port-read}
 use Rattle.stepping.proofs.Chaining.{laid-in}
 use Rattle.stepping.proofs.Linking.{ApartIn, all-linked, two-apart}
 
-module _ {sheet figure : form.Normal} {nets : Nets} {laid chains to : List ℕ} (over : Over sheet figure nets laid chains to) where
+module _ {sheet figure : form.Sheet} {nets : Nets} {laid chains to : List ℕ} (over : Over sheet figure nets laid chains to) where
   abbrev S : Net
   S = netIn sheet
 

@@ -21,7 +21,7 @@ use Rattle.faults.specs.Grows.{Growth, Sized, added, atomsOf, Longer, Ke
 use Rattle.stepping.proofs.Tables.{store-flag, below-next}
 use Rattle.faults.proofs.Marks.{marks-set, marks-room, store-mark}
 use Rattle.rows.proofs.RowRange.{le-or-lt}
-use Rattle.sheet.proofs.normal.Merging.{getD-in}
+use Rattle.reading.proofs.normal.Merging.{getD-in}
 
 -- The atoms as listed.
 pub listed-in : (g : Growth) (h : ℕ) → g .count ≤ length (g .order) → h < g .count → suc (getD (g .order) h 0) ∈ atomsOf g

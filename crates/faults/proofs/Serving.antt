@@ -21,7 +21,7 @@ use Rattle.faults.specs.Parts.{CutLinks, Rows}
 use Rattle.faults.specs.declared.fault.Fault.{Fault}
 use Rattle.faults.specs.Gives.{Given, Gave, GivenAt, OneMoreAt, GivesAt, TakenFlags, HeldIn}
 use Rattle.stepping.proofs.Tables.{below-next, store-flag, zeros, zeros-not}
-use Rattle.sheet.proofs.normal.Merging.{getD-in}
+use Rattle.reading.proofs.normal.Merging.{getD-in}
 use Rattle.faults.proofs.Growing.{listed-in, listed-of}
 
 pub rows-in : (F : Net) (count : ℕ) → length (F .contexts) ≡ count → Rows F count

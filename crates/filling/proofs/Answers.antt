@@ -15,12 +15,12 @@ use Rattle.rows.specs.Packed.{padded, noContext, portTable, packed}
 use Rattle.rows.specs.declared.Context.{Context}
 use Rattle.rows.proofs.Padding.{take-padded}
 use Rattle.rows.proofs.Ports.{table-at}
-use Rattle.sheet.specs.Graph.{graphOf}
-use Rattle.sheet.specs.NormalSheet.{normalContext, packedNormal}
-use Rattle.sheet.specs.NormalText.{slipLength}
-use Rattle.sheet.specs.NormalRows.{normalRows, Writable}
+use Rattle.reading.specs.Graph.{graphOf}
+use Rattle.reading.specs.NormalSheet.{normalContext, packedNormal}
+use Rattle.normalising.specs.NormalText.{slipLength}
+use Rattle.normalising.specs.NormalRows.{normalRows, Writable}
 use Rattle.sheet.specs.Reading.{outcomeOf, noPorts}
-use Rattle.sheet.specs.declared.normal.Normal.{Normal}
+use Rattle.rows.specs.declared.Sheet.{Sheet as Normal}
 use Rattle.sheet.specs.declared.answer.Refusal.{Refusal}
 use Rattle.sheet.specs.declared.answer.Answer.the-variants.{Passed, Refused}
 use Rattle.sheet.specs.declared.kind.Kind.{Kind}

@@ -7,7 +7,7 @@ use Rattle.hyperlmntal.specs.Link.{_∈_}
 use Rattle.hyperlmntal.proofs.Lists.{map-agree}
 use Rattle.rows.specs.Format.{mostLinks}
 use Rattle.rows.proofs.Padding.{take-padded}
-use Rattle.sheet.specs.Normal.{normalForm}
+use Rattle.reading.specs.Normal.{normalForm}
 use Rattle.sheet.specs.Reading.{outcomeOf, noPorts}
 use Rattle.sheet.specs.declared.kind.Kind.the-variants.{Plain, Pattern}
 use Rattle.sheet.specs.declared.answer.Answer.the-variants.{Passed}

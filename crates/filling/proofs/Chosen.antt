@@ -13,7 +13,7 @@ use Rattle.rows.specs.Pick.{pick}
 use Rattle.rows.specs.Held.{Held}
 use Rattle.rows.specs.Packed.{portsOf}
 use Rattle.rows.specs.declared.Context.{Context}
-use Rattle.sheet.specs.Graph.{termOfText}
+use Rattle.reading.specs.Graph.{termOfText}
 use Rattle.sheet.specs.Reading.{Outcome, outcomeOf, noPorts}
 use Rattle.sheet.specs.declared.answer.Answer.the-variants.{Passed}
 use Rattle.sheet.specs.declared.kind.Kind.the-variants.{Plain, Pattern}

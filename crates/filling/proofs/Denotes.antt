@@ -11,9 +11,9 @@ use Rattle.hyperlmntal.specs.Congruence.{_≅_}
 use Rattle.rows.specs.Pick.{pick}
 use Rattle.rows.specs.Limits.{sheetAtoms, sheetLinks}
 use Rattle.rows.proofs.Bools.{or-false}
-use Rattle.sheet.specs.Graph.{termOfText}
-use Rattle.sheet.specs.Normal.{classOf, classesBy}
-use Rattle.sheet.specs.NormalText.{slipLength}
+use Rattle.reading.specs.Graph.{termOfText}
+use Rattle.reading.specs.Normal.{classOf, classesBy}
+use Rattle.normalising.specs.NormalText.{slipLength}
 use Rattle.sheet.specs.Reading.{outcomeOf, noPorts}
 use Rattle.sheet.specs.declared.answer.Answer.{Answer}
 use Rattle.sheet.specs.declared.answer.Answer.the-variants.{Passed, Refused}

@@ -13,8 +13,8 @@ use Rattle.hyperlmntal.specs.Hypergraph.{nodes}
 use Rattle.rows.specs.Pick.{pick}
 use Rattle.rows.specs.Packed.{portsOf}
 use Rattle.rows.specs.declared.Context.{Context}
-use Rattle.sheet.specs.Normal.{marksOf}
-use Rattle.sheet.proofs.normal.Marks.{marks-in, marks-of, Ascending, marks-ascending, ascending-same}
+use Rattle.reading.specs.Normal.{marksOf}
+use Rattle.reading.proofs.normal.Marks.{marks-in, marks-of, Ascending, marks-ascending, ascending-same}
 use Rattle.sheet.proofs.read.Ranges.{Every}
 use Rattle.placing.specs.Fillings.{edgeRow, rowsGraph, Filling, ExactMarks}
 use Rattle.placing.specs.Smallest.{numbersFrom, numbersTo}

@@ -7,8 +7,8 @@ use native.Mathlib.Decide.{decLe}
 use native.Mathlib.Omega.{arith}
 use lib.ListN.{length}
 use Rattle.rows.specs.Limits.{sheetAtoms, sheetLinks, figureContexts}
-use Rattle.sheet.specs.NormalSheet.{packedNormal}
-use Rattle.sheet.specs.declared.normal.Normal.{Normal}
+use Rattle.reading.specs.NormalSheet.{packedNormal}
+use Rattle.rows.specs.declared.Sheet.{Sheet as Normal}
 use Rattle.filling.specs.Read.{listHeld}
 use Rattle.filling.specs.Fill.{figureHeld, firstLacking, firstDiffering, filledBy, tooLarge}
 use Rattle.filling.specs.Glued.{Glues}

@@ -13,15 +13,15 @@ use Rattle.rows.specs.Limits.{sheetAtoms, sheetLinks, sheetMarks, figureContext
 use Rattle.rows.specs.declared.Atom.{Atom}
 use Rattle.rows.proofs.Padding.{length-padded, take-padded}
 use Rattle.rows.proofs.Lists.{getD-mapped}
-use Rattle.sheet.specs.Graph.{graphOf}
-use Rattle.sheet.specs.Normal.{classOf, marksOf, markedBy, normalFormBy, normalForm}
-use Rattle.sheet.specs.NormalText.{nodeNumber}
-use Rattle.sheet.specs.NormalRows.{pastAtoms}
-use Rattle.sheet.specs.declared.normal.Normal as form
+use Rattle.reading.specs.Graph.{graphOf}
+use Rattle.reading.specs.Normal.{classOf, marksOf, markedBy, normalFormBy, normalForm}
+use Rattle.normalising.specs.NormalText.{nodeNumber}
+use Rattle.normalising.specs.NormalRows.{pastAtoms}
+use Rattle.rows.specs.declared.Sheet as form
 use Rattle.sheet.specs.declared.kind.Kind.the-variants.{Figure}
-use Rattle.sheet.proofs.normal.Merging.{getD-in}
-use Rattle.sheet.proofs.normal.Distinct.{index-below, distinct-in}
-use Rattle.sheet.proofs.normal_text.NormalWritten.{taken-padded, mapped-at, few-marks}
+use Rattle.reading.proofs.normal.Merging.{getD-in}
+use Rattle.reading.proofs.normal.Distinct.{index-below, distinct-in}
+use Rattle.normalising.proofs.normal_text.NormalWritten.{taken-padded, mapped-at, few-marks}
 use Rattle.placing.specs.Net.{NetCell, Range, withSymbol, withHole, atomsAmong, contextsAmong, edgeNumbers, netOf}
 use Rattle.placing.specs.Filled.{spotNode, filledNormal}
 use Rattle.network.specs.NetIn.{atomIn, contextIn, paired, netIn, Used, Fit}
@@ -106,7 +106,7 @@ module _ (figure list : List ℕ) (right : Right figure list) (own : List ℕ) (
   sized : (α : Atom) → α ∈ madeAtoms figure list right own O → Sized α
   sized = each-left Sized (λ α κ l. (l .range .2, ap length (l .ports) ∙ length-map (κ .ports) lab ∙ sym (l .size))) (atoms-like figure list right own O)
 
-  module _ (r : form.Normal) (made : Made list (labels figure list right own O) (figureNormal figure list right own O) r) (small : length (madeAtoms figure list right own O) ≤ sheetAtoms) (few : length D ≤ sheetLinks) where
+  module _ (r : form.Sheet) (made : Made list (labels figure list right own O) (figureNormal figure list right own O) r) (small : length (madeAtoms figure list right own O) ≤ sheetAtoms) (few : length D ≤ sheetLinks) where
     links-count : r .«class_count» ≡ length D
     links-count = made .classCount ∙ ap length (all-labels figure list right own O r made small few)
 

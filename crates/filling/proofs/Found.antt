@@ -16,8 +16,8 @@ use Rattle.rows.specs.Limits.{sheetMarks}
 use Rattle.rows.specs.Packed.{portsOf}
 use Rattle.rows.specs.declared.Context.{Context}
 use Rattle.rows.proofs.Padding.{take-padded}
-use Rattle.sheet.specs.Graph.{graphOf}
-use Rattle.sheet.specs.Normal.{marksOf}
+use Rattle.reading.specs.Graph.{graphOf}
+use Rattle.reading.specs.Normal.{marksOf}
 use Rattle.sheet.proofs.read.Ranges.{Every}
 use Rattle.placing.specs.Fillings.{Filling, rowsGraph}
 use Rattle.placing.specs.Holding.{marksFrom}

@@ -14,7 +14,7 @@ use Rattle.rows.specs.Format.{rowWidth, letterOf}
 use Rattle.rows.specs.Limits.{rowLimit}
 use Rattle.rows.specs.Held.{Held, nothing, withRow, withAtom, withContext, withFusionRow, withEdgeRow, withHead}
 use Rattle.rows.proofs.RowRange.{good-letter, row-letter}
-use Rattle.rows.proofs.Wired.{row-by}
+use Rattle.linking.proofs.Wired.{row-by}
 use Rattle.sheet.specs.Filling.{headFirst, fromHead, beforeHead, firstFilling, isPassed, fillingOf}
 use Rattle.sheet.specs.Reading.{Verdict, taken, refused, firstOf, tests, passed, settled, readFrom, outcomeOf, noPorts}
 use Rattle.sheet.specs.declared.kind.Kind.the-variants.{Fillings}

@@ -9,7 +9,7 @@ use Rattle.hyperlmntal.specs.Link.{_∈_}
 use Rattle.rows.specs.Held.{relabelled}
 use Rattle.rows.specs.declared.Context.{Context}
 use Rattle.rows.proofs.Lists.{getD-mapped}
-use Rattle.sheet.proofs.normal.Merging.{Cross, relabelled-same, relabelled-one}
+use Rattle.reading.proofs.normal.Merging.{Cross, relabelled-same, relabelled-one}
 use Rattle.filling.specs.Glued.{placeOf, joinedAt, joinedAll, portPairs, contextPairs, allPairs}
 
 pub all-append : (labels : List ℕ) (l k : List (ℕ × ℕ)) → joinedAll labels (l ++ k) ≡ joinedAll (joinedAll labels l) k

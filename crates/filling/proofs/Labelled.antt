@@ -15,14 +15,14 @@ use Rattle.rows.specs.Limits.{sheetMarks}
 use Rattle.rows.specs.Packed.{padded}
 use Rattle.rows.specs.declared.Context.{Context}
 use Rattle.rows.proofs.Lists.{getD-mapped}
-use Rattle.sheet.specs.Graph.{atomCell, contextCell, edgeOf, graphOf}
-use Rattle.sheet.specs.Normal.{markNode, marksOf, shown}
-use Rattle.sheet.specs.NormalSheet.{numberIn, normalContext}
-use Rattle.sheet.specs.NormalRows.{pastContexts}
-use Rattle.sheet.proofs.normal.Marks.{marks-in}
-use Rattle.sheet.proofs.normal_text.NormalWritten.{used-links, taken-padded}
-use Rattle.sheet.proofs.normal.Connected.{ports-in}
-use Rattle.sheet.proofs.normal.Merging.{getD-in}
+use Rattle.reading.specs.Graph.{atomCell, contextCell, edgeOf, graphOf}
+use Rattle.reading.specs.Normal.{markNode, marksOf, shown}
+use Rattle.reading.specs.NormalSheet.{numberIn, normalContext}
+use Rattle.normalising.specs.NormalRows.{pastContexts}
+use Rattle.reading.proofs.normal.Marks.{marks-in}
+use Rattle.normalising.proofs.normal_text.NormalWritten.{used-links, taken-padded}
+use Rattle.reading.proofs.normal.Connected.{ports-in}
+use Rattle.reading.proofs.normal.Merging.{getD-in}
 use Rattle.texts.proofs.NormalIso.{number-of-connected, connected-of-number}
 use Rattle.placing.specs.Fillings.{rowsGraph}
 use Rattle.placing.specs.Smallest.{numbersTo}

@@ -19,10 +19,10 @@ use Rattle.rows.specs.Held.{Held}
 use Rattle.rows.specs.Packed.{portsOf}
 use Rattle.rows.specs.declared.Atom.{Atom}
 use Rattle.rows.specs.declared.Context.{Context}
-use Rattle.sheet.specs.Graph.{atomCell, contextCell, graphOf}
-use Rattle.sheet.specs.Normal.{markNode, marksOf, shown}
-use Rattle.sheet.specs.NormalSheet.{numberIn}
-use Rattle.sheet.specs.NormalRows.{pastContexts}
+use Rattle.reading.specs.Graph.{atomCell, contextCell, graphOf}
+use Rattle.reading.specs.Normal.{markNode, marksOf, shown}
+use Rattle.reading.specs.NormalSheet.{numberIn}
+use Rattle.normalising.specs.NormalRows.{pastContexts}
 use Rattle.sheet.specs.declared.kind.Kind.the-variants.{Figure, Fillings}
 use Rattle.sheet.proofs.read.Ranges.{Every, every-at, ContextRange}
 use Rattle.placing.specs.Holding.{marksFrom}

@@ -21,7 +21,7 @@ use Rattle.rows.specs.declared.Context.{Context}
 use Rattle.rows.proofs.Lists.{mapped, mapped-next as stored-mapped, index-below}
 use Rattle.rows.proofs.Padding.{getD-filled, stored-next}
 use Rattle.numbering.proofs.Turns.{part-cons, part-end}
-use Rattle.sheet.proofs.normal_text.NormalWritten.{taken-padded}
+use Rattle.normalising.proofs.normal_text.NormalWritten.{taken-padded}
 use Rattle.placing.specs.Smallest.{numbersFrom, numbersTo, sameList}
 use Rattle.placing.proofs.Joined.{numbers-length}
 use Rattle.filling.specs.Read.{fillingRead}

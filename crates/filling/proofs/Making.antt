@@ -12,8 +12,8 @@ use Rattle.rows.specs.Limits.{sheetAtoms, figureContexts, sheetMarks}
 use Rattle.rows.specs.Packed.{padded}
 use Rattle.rows.specs.declared.Atom.{Atom}
 use Rattle.rows.specs.declared.Context.{Context}
-use Rattle.sheet.specs.NormalRows.{pastAtoms}
-use Rattle.sheet.specs.declared.normal.Normal.{Normal}
+use Rattle.normalising.specs.NormalRows.{pastAtoms}
+use Rattle.rows.specs.declared.Sheet.{Sheet as Normal}
 use Rattle.filling.specs.Parts.{partNormal, partRoom, places, Low}
 use Rattle.filling.specs.Glued.{placeOf, Own, Glues}
 use Rattle.filling.specs.Whole.{placedAtom, Linked, partAtoms, contextAtoms, placedAtoms, labelledAtom, roomFor, wholeAtoms, ContextsRanged, Puts}

@@ -13,9 +13,9 @@ use lib.Seq.{take-all, take-append-le, length-take-le}
 use Rattle.rows.specs.Pick.{pick}
 use Rattle.rows.specs.Limits.{sheetLinks}
 use Rattle.rows.specs.Held.{indexOf, isIn}
-use Rattle.rows.proofs.Wired.{indexOf-append}
-use Rattle.sheet.specs.Normal.{distinct}
-use Rattle.sheet.proofs.normal.ClassNumbers.{distinct-snoc}
+use Rattle.rows.proofs.Lists.{indexOf-append}
+use Rattle.reading.specs.Normal.{distinct}
+use Rattle.reading.proofs.normal.ClassNumbers.{distinct-snoc}
 use Rattle.filling.specs.Classes.{withLabel, withLabels}
 
 -- Whether a number is in a list.

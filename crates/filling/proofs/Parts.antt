@@ -1,6 +1,6 @@
 -- A figure and the fillings of a list as normal forms: what they agree with, and the bounds of their numbers.
 use Prim.Native.Nat.{ℕ, suc, _+_, _-_, _<_, _≤_, zero}
-use mathlib.Core.Path.{_≡_, refl, ap, sym, _∙_, subst}
+use mathlib.Core.Path.{_≡_, refl, ap, subst}
 use mathlib.Core.List.{List, [], _∷_, _++_, map, List·Memᴰ·head, List·Memᴰ·tail, Memᴰ·append-left, Memᴰ·append-right, Memᴰ·map, Memᴰ·of-map}
 use native.Mathlib.Omega.{arith}
 use lib.ListN.{length, getD, take, replicate}
@@ -9,34 +9,33 @@ use Rattle.hyperlmntal.specs.Hypergraph.{Node, inner, portNodes}
 use Rattle.rows.specs.Format.{mostLinks}
 use Rattle.rows.specs.Limits.{sheetAtoms, figureContexts, sheetMarks}
 use Rattle.rows.specs.Held.{Held}
-use Rattle.rows.specs.Packed.{padded, noAtom, noContext, portsOf, packed}
-use Rattle.rows.specs.declared.Context.{Context}
-use Rattle.rows.specs.declared.Sheet.{Sheet}
-use Rattle.rows.proofs.Padding.{length-padded, take-padded}
-use Rattle.sheet.specs.Graph.{atomCell, contextCell, graphOf}
-use Rattle.sheet.specs.Agrees.{Agrees}
-use Rattle.sheet.specs.Normal.{classOf, markNode, marksOf, shown}
+use Rattle.rows.specs.Packed.{padded, noAtom, noContext, packed}
+use Rattle.rows.proofs.Padding.{length-padded}
+use Rattle.reading.specs.Graph.{atomCell, contextCell, graphOf}
+use Rattle.reading.specs.Agrees.{Agrees}
+use Rattle.reading.specs.Normal.{classOf, markNode, marksOf, shown}
 use Rattle.numbering.specs.Numbering.{Numberable}
-use Rattle.sheet.specs.NormalSheet.{numberIn, normalAtom, normalContext, normalMarks, packedNormal}
-use Rattle.sheet.specs.NormalRows.{pastAtoms, pastContexts}
-use Rattle.sheet.specs.declared.normal.Normal.{Normal}
-use Rattle.sheet.specs.Reading.{noPorts}
+use Rattle.reading.specs.NormalSheet.{numberIn, normalAtom, normalContext, normalMarks, packedNormal}
+use Rattle.normalising.specs.NormalRows.{pastAtoms, pastContexts}
+use Rattle.rows.specs.declared.Sheet.{Sheet as Normal}
+use Rattle.sheet.specs.Reading.{outcomeOf, noPorts}
+use Rattle.reading.specs.Made.{normalMade, readingOf}
 use Rattle.sheet.specs.Filling.{fillingOf}
 use Rattle.sheet.specs.declared.kind.Kind.{Kind}
 use Rattle.sheet.specs.declared.kind.Kind.the-variants.{Figure, Fillings}
 use Rattle.sheet.proofs.read.Ranges.{AtomRange, ContextRange, WithinLimits}
 use Rattle.sheet.proofs.read.Room.{limits-most}
 use Rattle.sheet.proofs.read.HeldLimits.{held-within}
-use Rattle.sheet.proofs.normal.Connected.{agrees-read, ports-in}
-use Rattle.sheet.proofs.normal.NormalBounds.{number-range, text-links}
-use Rattle.sheet.proofs.normal_text.NormalWritten.{links-known, few-marks}
-use Rattle.sheet.proofs.normal.NormalMade.{sortedMarks, marks-taken}
-use Rattle.sheet.proofs.normal.NormalReady.{numberable-held}
+use Rattle.reading.proofs.normal.Connected.{agrees-read, ports-in}
+use Rattle.reading.proofs.normal.NormalBounds.{number-range, text-links}
+use Rattle.normalising.proofs.normal_text.NormalWritten.{links-known, few-marks}
+use Rattle.reading.proofs.normal.NormalMade.{normal-made}
+use Rattle.reading.proofs.normal.NormalReady.{numberable-held}
 use Rattle.texts.proofs.OneFilling.{filling-agrees}
 use Rattle.texts.proofs.NormalFits.{every-member}
 use Rattle.filling.specs.Read.{listHeld, partHeld}
 use Rattle.filling.specs.Fill.{figureHeld}
-use Rattle.filling.specs.Parts.{withoutHeads, partNormal, partMarks, partRoom, Counted, Low}
+use Rattle.filling.specs.Parts.{withoutHeads, withHeads, partNormal, partRead, partRoom, Counted, Headed, Low}
 use Rattle.filling.proofs.Heads.{part-heads}
 
 -- What a figure, a list and one filling hold is within the limits.
@@ -68,25 +67,6 @@ module _ (list : List ℕ) (number : ℕ) where
 
   pub part-numberable : Numberable (packed (withoutHeads (partHeld list number)))
   part-numberable = numberable-held Fillings (withoutHeads (partHeld list number)) part-within (part-agrees .labels)
-
--- A sheet whose contexts are cleared.
-pub heads-gone : (s : Sheet) (c : Context) (h : Held) → c ≡ noContext → s ≡ packed h
-    → record {
-      atoms = s .atoms;
-      «atom_count» = s .«atom_count»;
-      contexts = replicate (figureContexts + 1) c;
-      «context_count» = 0;
-      ports = replicate 5 0;
-      links = s .links;
-      classes = s .classes;
-      «link_count» = s .«link_count»;
-      marks = s .marks;
-      marked = s .marked;
-      «mark_count» = s .«mark_count»;
-    }
-    ≡ packed (withoutHeads h)
-unfolding padded portsOf
-heads-gone s c h u e = rw (u, e)
 
 -- An array as P says, at every place and past its end.
 pub list-any : {A : Type 0} (P : A → Type 0) (d : A) (l : List A) → P d → ((a : A) → a ∈ l → P a) → (i : ℕ) → P (getD l i d)
@@ -164,14 +144,20 @@ counted kind h w =
       count = padded-any (λ c. c .count ≤ mostLinks) (figureContexts + 1) noContext pastContexts (h .contexts) (omega arith) (omega arith) (λ c i. every-member (ContextRange kind) (h .contexts) c (w .ranges .contexts) i .count);
     }
 
+pub headed-counted : (heads : Normal) (ports list : List ℕ) → Headed heads ports list → Counted (heads .contexts) (heads .«context_count»)
+headed-counted heads ports list H = rw (H .contexts, H .count) (counted Fillings (listHeld list) (list-within list))
+
 pub part-low : (list : List ℕ) (number : ℕ) → Low (partNormal list number)
 part-low list number = normal-low Fillings (withoutHeads (partHeld list number)) (part-within list number) (part-agrees list number)
 
--- Its marks are those that were read, in ascending order.
-pub marks-read : (list : List ℕ) (number : ℕ) (s : Sheet) → s ≡ packed (partHeld list number) → take (s .«mark_count») (sortedMarks s) ≡ partMarks list number
-marks-read list number s e =
-    let h = withoutHeads (partHeld list number) in
-    rw e (marks-taken h (part-agrees list number) ∙ sym (take-padded (sheetMarks + 1) 0 (normalMarks h)))
+-- What is read of it.
+pub part-made : (list : List ℕ) (number : ℕ) → normalMade 0 (packed (partHeld list number)) ≡ partRead list number
+part-made list number = let h = partHeld list number in
+    ap (withHeads h) (normal-made (withoutHeads h) (part-agrees list number) (part-numberable list number))
+
+-- The H rows of a list that was read.
+pub headed-read : (list : List ℕ) → Headed (readingOf Fillings (outcomeOf Fillings noPorts list) .normal) (readingOf Fillings (outcomeOf Fillings noPorts list) .ports) list
+headed-read list = record { contexts = refl; count = refl; ports = refl }
 
 pub part-marks : (list : List ℕ) (number : ℕ) → length (partNormal list number .marks) ≡ sheetMarks + 1
 part-marks list number = length-padded (sheetMarks + 1) 0 (normalMarks (withoutHeads (partHeld list number))) (omega (arith, part-low list number .marks))

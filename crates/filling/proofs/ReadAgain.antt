@@ -13,18 +13,18 @@ use Rattle.hyperlmntal.proofs.Lists.{map-agree, Each, done, more, all-map}
 use Rattle.hyperlmntal.proofs.Flats.{flat-≡, cell-≡}
 use Rattle.rows.specs.Limits.{sheetAtoms, sheetLinks}
 use Rattle.rows.specs.declared.Atom.{Atom}
-use Rattle.sheet.specs.Graph.{edgeOf, graphOf, termOfText}
-use Rattle.sheet.specs.Normal.{classOf, markedBy, normalFormBy, normalForm}
-use Rattle.sheet.specs.NormalSheet.{normalMarks}
-use Rattle.sheet.specs.NormalText.{textOf}
+use Rattle.reading.specs.Graph.{edgeOf, graphOf, termOfText}
+use Rattle.reading.specs.Normal.{classOf, markedBy, normalFormBy, normalForm}
+use Rattle.reading.specs.NormalSheet.{normalMarks}
+use Rattle.normalising.specs.NormalText.{textOf}
 use Rattle.sheet.specs.Reading.{outcomeOf, noPorts}
 use Rattle.sheet.specs.declared.kind.Kind.the-variants.{Plain, Figure}
 use Rattle.sheet.specs.declared.answer.Answer.the-variants.{Passed}
 use Rattle.sheet.proofs.read.Ranges.{Every, MarkRange, EdgeRange}
-use Rattle.sheet.proofs.normal.Marks.{marks-of}
-use Rattle.sheet.proofs.normal.Distinct.{index-below, distinct-in}
-use Rattle.sheet.proofs.normal.TextGraph.{graph-name}
-use Rattle.sheet.proofs.normal_text.NormalWritten.{few-marks}
+use Rattle.reading.proofs.normal.Marks.{marks-of}
+use Rattle.reading.proofs.normal.Distinct.{index-below, distinct-in}
+use Rattle.reading.proofs.normal.TextGraph.{graph-name}
+use Rattle.normalising.proofs.normal_text.NormalWritten.{few-marks}
 use Rattle.texts.proofs.NormalFits.{every-member, upTo, upTo-length, upTo-in, upTo-of}
 use Rattle.texts.proofs.BuiltRows.{Vertex, symbolCell, Fitting, every-in}
 use Rattle.texts.proofs.ReadBack.{builtGraph, Known, Readable, read-back, graph-back}

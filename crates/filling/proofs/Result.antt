@@ -14,11 +14,11 @@ use Rattle.hyperlmntal.proofs.Connection.{connected-ind, connected-image, recas
 use Rattle.hyperlmntal.proofs.Flats.{portNodes-map, on-map, on-of-map}
 use Rattle.hyperlmntal.proofs.ExactPorts.{ExactFlat, exact-names}
 use Rattle.rows.specs.Held.{indexOf}
-use Rattle.sheet.specs.Normal.{classOf, markNode, marksOf, shown, distinct, classesBy, numberBy}
-use Rattle.sheet.specs.NormalSheet.{normalMarks}
-use Rattle.sheet.proofs.normal.Classes.{class-of-connected, connected-of-class}
-use Rattle.sheet.proofs.normal.Distinct.{Agree, index-agree, length-agree}
-use Rattle.sheet.proofs.normal.Marks.{marks-in, marks-of, marks-ascending, ascending-same}
+use Rattle.reading.specs.Normal.{classOf, markNode, marksOf, shown, distinct, classesBy, numberBy}
+use Rattle.reading.specs.NormalSheet.{normalMarks}
+use Rattle.reading.proofs.normal.Classes.{class-of-connected, connected-of-class}
+use Rattle.reading.proofs.normal.Distinct.{Agree, index-agree, length-agree}
+use Rattle.reading.proofs.normal.Marks.{marks-in, marks-of, marks-ascending, ascending-same}
 use Rattle.placing.specs.Fillings.{ExactMarks}
 use Rattle.placing.specs.Filled.{flatEntry, spotNumber, spotNode}
 use Rattle.placing.proofs.Names.{exact-flat}

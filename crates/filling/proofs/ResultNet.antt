@@ -11,12 +11,12 @@ use Rattle.hyperlmntal.specs.TermOf.{termOf}
 use Rattle.hyperlmntal.proofs.Flats.{flat-≡, cell-≡}
 use Rattle.rows.specs.Held.{Held, indexOf, noWiring}
 use Rattle.rows.specs.declared.Atom.{Atom}
-use Rattle.sheet.specs.Graph.{atomCell, edgeOf, graphOf}
-use Rattle.sheet.specs.Normal.{classOf, marksOf, shown, distinct, classesBy, numberBy, numberedBy, markedBy, normalFormBy, normalForm}
-use Rattle.sheet.specs.NormalText.{nodeNumber}
+use Rattle.reading.specs.Graph.{atomCell, edgeOf, graphOf}
+use Rattle.reading.specs.Normal.{classOf, marksOf, shown, distinct, classesBy, numberBy, numberedBy, markedBy, normalFormBy, normalForm}
+use Rattle.normalising.specs.NormalText.{nodeNumber}
 use Rattle.sheet.proofs.read.Ranges.{Every}
-use Rattle.sheet.proofs.normal.Distinct.{Once, distinct-of, distinct-once, index-below, index-injective, once-length}
-use Rattle.sheet.proofs.normal.NormalBounds.{classCount, normal-range}
+use Rattle.reading.proofs.normal.Distinct.{Once, distinct-of, distinct-once, index-below, index-injective, once-length}
+use Rattle.reading.proofs.normal.NormalBounds.{classCount, normal-range}
 use Rattle.texts.proofs.NormalFits.{upTo, upTo-length, upTo-in}
 use Rattle.texts.proofs.NormalTwice.{normal-idempotent}
 use Rattle.placing.specs.Net.{Net, Range, standing, edgeNumbers, netOf, normalNet, netGraph, netTerm, NormalSheet}

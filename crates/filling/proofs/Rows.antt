@@ -7,7 +7,7 @@ use Rattle.hyperlmntal.proofs.Flats.{flat-≡}
 use Rattle.rows.specs.Held.{Held}
 use Rattle.rows.specs.declared.Atom.{Atom}
 use Rattle.rows.specs.declared.Context.{Context}
-use Rattle.sheet.specs.Graph.{atomCell, contextCell, fusionOf, edgeOf, graphOf}
+use Rattle.reading.specs.Graph.{atomCell, contextCell, fusionOf, edgeOf, graphOf}
 use Rattle.placing.specs.Fillings.{Row, rowsGraph, markOf}
 use Rattle.filling.specs.Read.{symbolRead, pointRead, rowsRead}
 use Rattle.filling.specs.Parts.{withoutHeads}

@@ -5,30 +5,29 @@ use mathlib.Core.List.{List, _++_}
 use lib.ListN.{length, take, drop}
 use Rattle.rows.specs.Format.{rowWidth}
 use Rattle.rows.specs.Limits.{sheetAtoms, sheetLinks}
-use Rattle.rows.specs.Packed.{packed}
-use Rattle.rows.specs.declared.Sheet.{Sheet}
-use Rattle.sheet.specs.NormalSheet.{packedNormal}
-use Rattle.sheet.specs.NormalText.{slipLength}
-use Rattle.sheet.specs.NormalRows.{normalRows, Writable}
-use Rattle.sheet.specs.declared.normal.Normal.{Normal}
+use Rattle.rows.specs.declared.Context.{Context}
+use Rattle.reading.specs.NormalSheet.{packedNormal}
+use Rattle.normalising.specs.NormalText.{slipLength}
+use Rattle.normalising.specs.NormalRows.{normalRows, Writable}
+use Rattle.rows.specs.declared.Sheet.{Sheet as Normal}
 use Rattle.filling.specs.Read.{listHeld}
 use Rattle.filling.specs.Fill.{figureHeld, firstLacking, firstDiffering, filledText, filledAnswer}
-use Rattle.filling.specs.Parts.{firstUnported}
+use Rattle.filling.specs.Parts.{firstUnported, Headed}
 use Rattle.filling.specs.Filled.{FilledIs}
 use Rattle.answers.specs.declared.outcome.Done.the-variants as done
 use Rattle.filling.proofs.Answers.{lacking-made, differing-made, answer-lacking, answer-differing, answer-large, answer-written}
 
-module _ (normal : Normal) (heads : Sheet) (list : List ℕ) (H : heads ≡ packed (listHeld list))
-    (lacking : ℕ) (L : lacking ≡ firstUnported (heads .ports) (take (normal .«context_count») (normal .contexts))) (figure : List ℕ) (q : normal ≡ packedNormal (figureHeld figure)) where
+module _ (normal : Normal) (heads : Normal) (ports list : List ℕ) (H : Headed heads ports list)
+    (lacking : ℕ) (L : lacking ≡ firstUnported ports (take (normal .«context_count») (normal .contexts))) (figure : List ℕ) (q : normal ≡ packedNormal (figureHeld figure)) where
   lacks : lacking ≡ firstLacking (listHeld list .contexts) (figureHeld figure .contexts)
-  lacks = L ∙ ap₂ (λ (x : Sheet) (y : Normal). firstUnported (x .ports) (take (y .«context_count») (y .contexts))) H q ∙ lacking-made figure list
+  lacks = L ∙ ap₂ (λ (x : List ℕ) (y : Normal). firstUnported x (take (y .«context_count») (y .contexts))) (H .ports) q ∙ lacking-made figure list
 
   pub says-lacking : (lacking ≡ 0 → ⊥) → done.BlankClash 1 lacking ≡ filledAnswer figure list
   says-lacking h = answer-lacking figure list lacking lacks h
 
   module _ (z : lacking ≡ 0) (differing : ℕ) (D : differing ≡ firstDiffering list (take (heads .«context_count») (heads .contexts))) where
     differs : differing ≡ firstDiffering list (listHeld list .contexts)
-    differs = D ∙ ap (λ (x : Sheet). firstDiffering list (take (x .«context_count») (x .contexts))) H ∙ differing-made figure list
+    differs = D ∙ ap₂ (λ (n : ℕ) (x : List Context). firstDiffering list (take n x)) (H .count) (H .contexts) ∙ differing-made figure list
 
     pub says-differing : (differing ≡ 0 → ⊥) → done.EdgeDiffers 2 differing ≡ filledAnswer figure list
     says-differing h = answer-differing figure list (sym lacks ∙ z) differing differs h

@@ -19,13 +19,13 @@ use Rattle.rows.specs.Packed.{padded, noAtom, noContext}
 use Rattle.rows.specs.declared.Atom.{Atom}
 use Rattle.rows.specs.declared.Context.{Context}
 use Rattle.rows.proofs.Padding.{take-padded}
-use Rattle.sheet.specs.Graph.{atomCell, contextCell, graphOf}
-use Rattle.sheet.specs.Normal.{markNode, marksOf}
-use Rattle.sheet.specs.NormalSheet.{numberIn, normalAtom, normalContext, normalMarks, packedNormal}
-use Rattle.sheet.specs.NormalRows.{pastContexts}
+use Rattle.reading.specs.Graph.{atomCell, contextCell, graphOf}
+use Rattle.reading.specs.Normal.{markNode, marksOf}
+use Rattle.reading.specs.NormalSheet.{numberIn, normalAtom, normalContext, normalMarks, packedNormal}
+use Rattle.normalising.specs.NormalRows.{pastContexts}
 use Rattle.sheet.proofs.read.Ranges.{Every, AtomRange}
-use Rattle.sheet.proofs.normal.Connected.{ports-in}
-use Rattle.sheet.proofs.normal_text.NormalWritten.{used-links, taken-padded}
+use Rattle.reading.proofs.normal.Connected.{ports-in}
+use Rattle.normalising.proofs.normal_text.NormalWritten.{used-links, taken-padded}
 use Rattle.texts.proofs.NormalFits.{every-member}
 use Rattle.filling.specs.Read.{partHeld}
 use Rattle.filling.specs.Fill.{figureHeld}

@@ -10,12 +10,12 @@ use Rattle.hyperlmntal.specs.Link.{_∈_}
 use Rattle.hyperlmntal.specs.Congruence.{_≅_}
 use Rattle.hyperlmntal.specs.Hypergraph.{inner, nodes, mapCell}
 use Rattle.rows.specs.Held.{Held}
-use Rattle.sheet.specs.Graph.{graphOf, termOfText}
-use Rattle.sheet.specs.Normal.{classOf, classesBy, numberedBy, normalFormBy, normalForm}
+use Rattle.reading.specs.Graph.{graphOf, termOfText}
+use Rattle.reading.specs.Normal.{classOf, classesBy, numberedBy, normalFormBy, normalForm}
 use Rattle.sheet.specs.Reading.{outcomeOf, noPorts}
 use Rattle.sheet.specs.declared.answer.Answer.the-variants.{Passed}
 use Rattle.sheet.specs.declared.kind.Kind.the-variants.{Plain, Pattern, Figure, Fillings}
-use Rattle.sheet.proofs.normal.NormalBounds.{normal-range}
+use Rattle.reading.proofs.normal.NormalBounds.{normal-range}
 use Rattle.placing.specs.Net.{Range, normalNet}
 use Rattle.placing.specs.Placing.{Placing, Good}
 use Rattle.placing.specs.Fillings.{Filling, ExactMarks, rowsGraph, normalFillingsOf}

@@ -8,13 +8,13 @@ use Rattle.hyperlmntal.specs.GraphSubstitution.{sameFunctor}
 use Rattle.hyperlmntal.specs.DenotedSubstitution.{connect}
 use Rattle.rows.specs.Format.{letterOf, ruleOf}
 use Rattle.rows.specs.Row.{misplacedIn, fieldOf, suits, judged, fieldsOf, rowOf}
-use Rattle.rows.specs.RowText.{fieldBytes, fieldsBytes, rowBytes}
+use Rattle.writing.specs.RowText.{fieldBytes, fieldsBytes, rowBytes}
 use Rattle.rows.specs.Held.{indexOf, withLink, withLinks, merged, withFusion, withMark, withAtom, withContext, withFusionRow, withEdgeRow, withHead, withRow}
 use Rattle.rows.specs.Packed.{portsOf}
 use Rattle.sheet.specs.Reading.{strange, lastNumber, clashOf, clashes, firstOf, readFrom, outcomeOf}
 use Rattle.sheet.specs.Filling.{fromHead, beforeHead, fillingOf}
-use Rattle.sheet.specs.Normal.{classOf, inserted, marksAmong, others, distinct, classesBy, numberBy, normalFormBy, normalForm}
-use Rattle.sheet.specs.NormalText.{joined}
+use Rattle.reading.specs.Normal.{classOf, inserted, marksAmong, others, distinct, classesBy, numberBy, normalFormBy, normalForm}
+use Rattle.normalising.specs.NormalText.{joined}
 use Rattle.filling.specs.Fill.{firstLacking, firstDiffering, filledAnswer, fillAnswer}
 use Rattle.answers.specs.declared.outcome.Done.the-variants.{BlankClash, EdgeDiffers}
 

@@ -13,20 +13,19 @@ use Rattle.hyperlmntal.proofs.Equivalence.{each-length}
 use Rattle.rows.specs.Format.{mostLinks, rowWidth}
 use Rattle.rows.specs.Limits.{sheetAtoms, sheetLinks, sheetMarks}
 use Rattle.rows.specs.Packed.{padded}
-use Rattle.rows.specs.RowText.{rowBytes}
+use Rattle.writing.specs.RowText.{rowBytes}
 use Rattle.rows.specs.declared.Atom.{Atom}
-use Rattle.rows.proofs.Wired.{indexOf-le}
+use Rattle.rows.proofs.Lists.{indexOf-le, getD-mapped}
 use Rattle.rows.proofs.Padding.{getD-padded}
-use Rattle.rows.proofs.Lists.{getD-mapped}
-use Rattle.sheet.specs.Normal.{classOf, marksOf, distinct, numberBy, numberedBy, markedBy, normalFormBy, normalForm}
-use Rattle.sheet.specs.NormalSheet.{normalMarks, packedNormal}
-use Rattle.sheet.specs.NormalText.{nodeNumber, cellBytes, edgeBytes, joined, slipLength}
-use Rattle.sheet.specs.NormalRows.{pastAtoms, rowsTo, symbolRow, atomRow, contextRow, markRow, normalRows, Narrow, Writable}
-use Rattle.sheet.specs.declared.normal.Normal.{Normal}
+use Rattle.reading.specs.Normal.{classOf, marksOf, distinct, numberBy, numberedBy, markedBy, normalFormBy, normalForm}
+use Rattle.reading.specs.NormalSheet.{normalMarks, packedNormal}
+use Rattle.normalising.specs.NormalText.{nodeNumber, cellBytes, edgeBytes, joined, slipLength}
+use Rattle.normalising.specs.NormalRows.{pastAtoms, rowsTo, symbolRow, atomRow, contextRow, markRow, normalRows, Narrow, Writable}
+use Rattle.rows.specs.declared.Sheet.{Sheet as Normal}
 use Rattle.sheet.specs.declared.kind.Kind.the-variants.{Figure}
-use Rattle.sheet.proofs.normal.Merging.{getD-in}
-use Rattle.sheet.proofs.normal_text.NormalRows.{rows-joined}
-use Rattle.sheet.proofs.normal_text.NormalWritten.{taken-padded, mapped-at, few-marks, normal-writable}
+use Rattle.reading.proofs.normal.Merging.{getD-in}
+use Rattle.normalising.proofs.normal_text.NormalRows.{rows-joined}
+use Rattle.normalising.proofs.normal_text.NormalWritten.{taken-padded, mapped-at, few-marks, normal-writable}
 use Rattle.placing.specs.Filled.{spotNode}
 use Rattle.filling.specs.Fill.{figureHeld, filledBy, filledText}
 use Rattle.filling.specs.Glued.{Own}

@@ -9,7 +9,7 @@ use Rattle.rows.specs.Limits.{sheetLinks, sheetMarks}
 use Rattle.rows.specs.Held.{indexOf, isIn}
 use Rattle.rows.specs.Packed.{padded}
 use Rattle.rows.specs.declared.Atom.{Atom}
-use Rattle.sheet.specs.declared.normal.Normal.{Normal}
+use Rattle.rows.specs.declared.Sheet.{Sheet as Normal}
 use Rattle.filling.specs.Whole.{labelsAt, labelledAtom, allAtoms, roomFor}
 
 -- a table with room for one label more than a sheet has links, and how many labels are in it

@@ -10,9 +10,9 @@ use Rattle.rows.specs.Limits.{sheetAtoms, sheetLinks}
 use Rattle.rows.specs.Held.{Held}
 use Rattle.rows.specs.Packed.{portsOf}
 use Rattle.rows.specs.declared.Context.{Context}
-use Rattle.sheet.specs.Graph.{graphOf}
-use Rattle.sheet.specs.Normal.{classOf, classesBy, marksOf}
-use Rattle.sheet.specs.NormalText.{textOf, slipLength}
+use Rattle.reading.specs.Graph.{graphOf}
+use Rattle.reading.specs.Normal.{classOf, classesBy, marksOf}
+use Rattle.normalising.specs.NormalText.{textOf, slipLength}
 use Rattle.sheet.specs.Reading.{outcomeOf, noPorts}
 use Rattle.sheet.specs.declared.kind.Kind.the-variants.{Figure, Fillings}
 use Rattle.sheet.specs.declared.answer.Answer.{Answer}

@@ -5,7 +5,7 @@ use mathlib.Core.List.{List, [], _∷_, _++_, map}
 use lib.ListN.{length, take, getD}
 use Rattle.rows.specs.Held.{relabelled}
 use Rattle.rows.specs.declared.Context.{Context}
-use Rattle.sheet.specs.declared.normal.Normal.{Normal}
+use Rattle.rows.specs.declared.Sheet.{Sheet as Normal}
 use Rattle.filling.specs.Parts.{partNormal, partRoom, places}
 
 -- class n of part p

@@ -9,12 +9,13 @@ use Rattle.rows.specs.Pick.{pick}
 use Rattle.rows.specs.Format.{mostLinks}
 use Rattle.rows.specs.Limits.{sheetAtoms, figureContexts, sheetMarks, fillingLinks}
 use Rattle.rows.specs.Held.{Held}
+use Rattle.rows.specs.Packed.{packed}
 use Rattle.rows.specs.declared.Context.{Context}
-use Rattle.sheet.specs.NormalSheet.{packedNormal}
-use Rattle.sheet.specs.NormalRows.{pastAtoms, pastContexts}
-use Rattle.sheet.specs.declared.normal.Normal.{Normal}
+use Rattle.reading.specs.NormalSheet.{packedNormal}
+use Rattle.normalising.specs.NormalRows.{pastAtoms, pastContexts}
+use Rattle.rows.specs.declared.Sheet.{Sheet as Normal}
 use Rattle.placing.specs.Smallest.{sameList, numbersTo}
-use Rattle.filling.specs.Read.{partHeld}
+use Rattle.filling.specs.Read.{listHeld, partHeld}
 
 -- what is held, without H rows
 abbrev pub withoutHeads : Held → Held
@@ -24,7 +25,22 @@ withoutHeads h = record { rows = h .rows; atoms = h .atoms; contexts = []; fusio
 abbrev pub partNormal : List ℕ → ℕ → Normal
 partNormal list number = packedNormal (withoutHeads (partHeld list number))
 
--- its marks
+-- a normal form with the H rows of what is held
+abbrev pub withHeads : Held → Normal → Normal
+withHeads h n =
+    record { atoms = n .atoms; «atom_count» = n .«atom_count»; contexts = packed h .contexts; «context_count» = packed h .«context_count»; marks = n .marks; marked = n .marked; «mark_count» = n .«mark_count»; «class_count» = n .«class_count» }
+
+-- the same as it is read, with its H row
+abbrev pub partRead : List ℕ → ℕ → Normal
+partRead list number = withHeads (partHeld list number) (partNormal list number)
+
+-- the H rows of a list, and the table of their port counts and 1
+pub record Headed (heads : Normal) (table list : List ℕ) : Type 0 where
+  pub contexts : heads .contexts ≡ packed (listHeld list) .contexts
+  pub count : heads .«context_count» ≡ packed (listHeld list) .«context_count»
+  pub ports : table ≡ packed (listHeld list) .ports
+
+-- the marks of a filling
 abbrev pub partMarks : List ℕ → ℕ → List ℕ
 partMarks list number = take (partNormal list number .«mark_count») (partNormal list number .marks)
 

@@ -8,8 +8,8 @@ use Rattle.rows.specs.Limits.{sheetAtoms}
 use Rattle.rows.specs.Packed.{padded}
 use Rattle.rows.specs.declared.Atom.{Atom}
 use Rattle.rows.specs.declared.Context.{Context}
-use Rattle.sheet.specs.NormalRows.{pastContexts}
-use Rattle.sheet.specs.declared.normal.Normal.{Normal}
+use Rattle.normalising.specs.NormalRows.{pastContexts}
+use Rattle.rows.specs.declared.Sheet.{Sheet as Normal}
 use Rattle.filling.specs.Parts.{partNormal, partRoom, places, Counted}
 use Rattle.filling.specs.Glued.{placeOf, joinedAll, allPairs}
 use Rattle.filling.specs.declared.whole.Whole.{Whole}

@@ -1,9 +1,9 @@
 // Link classes numbered by first appearance: a table of the labels that have a number, in the order of
 // their numbers, and the count of them.
 use crate::glue::PLACES;
+use linking::take::index_of;
 use rows::Atom;
 use rows::Sheet;
-use rows::take::index_of;
 ghost use mathlib.Core.Path.{_≡_};
 ghost use mathlib.Core.List.{List, [], _∷_, _++_, map};
 ghost use Prim.Native.Nat.{ℕ, _+_, _≤_, _<_};
@@ -11,7 +11,7 @@ ghost use lib.ListN.{length, take, drop, getD};
 ghost use Rattle.rows.specs.Format.{mostLinks};
 ghost use Rattle.rows.specs.Limits.{sheetAtoms, sheetMarks};
 ghost use Rattle.rows.specs.Packed.{padded};
-ghost use Rattle.sheet.specs.NormalRows.{pastAtoms};
+ghost use Rattle.normalising.specs.NormalRows.{pastAtoms};
 ghost use Rattle.filling.specs.Parts.{places};
 ghost use Rattle.filling.specs.Whole.{labelsAt, labelledLinks, labelledAtom, Linked};
 ghost use Rattle.filling.specs.Classes.{LabelTable, Sees, withLabels, linksIn, numberIn, numberedLinks, numberedAt};

@@ -3,34 +3,36 @@ use crate::filled::normal_filled;
 use crate::part::first_differing;
 use crate::part::first_lacking;
 use answers::outcome::Done;
+use normalising::normal_text::write_normal;
+use reading::read::read_figure;
+use reading::read::read_list;
 use rows::Sheet;
 use sheet::answer::Answer;
-use sheet::normal::Normal;
-use sheet::normal::normal_of;
-use sheet::normal_text::write_normal;
-use sheet::read::read_figure;
-use sheet::read::read_list;
 ghost use mathlib.Core.Path.{_≡_};
 ghost use mathlib.Core.List.{List};
 ghost use Prim.Native.Nat.{ℕ, _≤_};
 ghost use lib.ListN.{length};
-ghost use Rattle.rows.specs.Packed.{packed};
 ghost use Rattle.sheet.specs.Filling.{Passes};
-ghost use Rattle.sheet.specs.NormalSheet.{packedNormal};
-ghost use Rattle.sheet.specs.NormalText.{slipLength};
-ghost use Rattle.filling.specs.Read.{listHeld};
+ghost use Rattle.reading.specs.NormalSheet.{packedNormal};
+ghost use Rattle.normalising.specs.NormalText.{slipLength};
+ghost use Rattle.filling.specs.Parts.{Headed};
 ghost use Rattle.answers.specs.Done.{slipAfter};
 ghost use Rattle.filling.specs.Fill.{figureHeld, filledText, filledAnswer, fillAnswer, fillSlip};
 
 // A figure and a list that passed row by row.
-fn fill_read(figure: Normal, heads: Sheet, list: &[u8], out: &mut [u8]) -> Done
-    requires { ⌜ ((text : List ℕ) × (figure ≡ packedNormal (figureHeld text))) × (heads ≡ packed (listHeld (now list))) × Passes (now list) ⌝ }
+fn fill_read(
+    figure: Sheet,
+    heads: Sheet,
+    ports: [u16; Sheet::NUMBERS],
+    list: &[u8],
+    out: &mut [u8],
+) -> Done
+    requires { ⌜ ((text : List ℕ) × (figure ≡ packedNormal (figureHeld text))) × Headed heads ports (now list) × Passes (now list) ⌝ }
     requires { ⌜ slipLength ≤ length (now out) ⌝ }
     ensures { λ r. ⌜ ((text : List ℕ) → figure ≡ packedNormal (figureHeld text) → r ≡ filledAnswer text (now (list .entry))) ⌝ }
     ensures { λ r. ⌜ ((text : List ℕ) → figure ≡ packedNormal (figureHeld text) → now (out .exit) ≡ slipAfter r (filledText text (now (list .entry))) (now (out .entry))) ⌝ }
 {
     let contexts = figure.contexts;
-    let ports = heads.ports;
     let lacking = first_lacking(contexts, figure.context_count, ports);
     if lacking != 0 {
         return Done::BlankClash(1, lacking);
@@ -67,9 +69,10 @@ pub fn fill(figure: &[u8], list: &[u8], out: &mut [u8]) -> Done
             let list_answer = list_reading.answer;
             match list_answer {
                 Answer::Passed => {
-                    let sheet = figure_reading.sheet;
-                    let heads = list_reading.sheet;
-                    fill_read(normal_of(sheet), heads, list, out)
+                    let normal = figure_reading.normal;
+                    let heads = list_reading.normal;
+                    let ports = list_reading.ports;
+                    fill_read(normal, heads, ports, list, out)
                 }
                 Answer::Refused(why, row) => Done::Refused(2, why, row),
             }

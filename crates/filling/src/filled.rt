@@ -8,12 +8,11 @@ use crate::whole::Whole;
 use crate::whole::whole_of;
 use rows::Context;
 use rows::Sheet;
-use sheet::normal::Normal;
 ghost use mathlib.Core.Path.{_≡_};
 ghost use mathlib.Core.List.{List};
 ghost use Prim.Native.Nat.{ℕ};
 ghost use Rattle.sheet.specs.Filling.{Passes};
-ghost use Rattle.sheet.specs.NormalSheet.{packedNormal};
+ghost use Rattle.reading.specs.NormalSheet.{packedNormal};
 ghost use Rattle.filling.specs.Read.{listHeld};
 ghost use Rattle.filling.specs.Fill.{figureHeld, firstLacking, firstDiffering};
 ghost use Rattle.filling.specs.Filled.{FilledIs};
@@ -22,7 +21,7 @@ ghost use Rattle.filling.specs.Glued.{Glues};
 ghost use Rattle.filling.specs.Classes.{Made};
 
 // The normal form, where its counts are within a sheet's limits; else one of them is above its limit.
-fn filled(figure: Normal, list: &[u8], exact: &mut [u16; Sheet::NUMBERS]) -> Normal
+fn filled(figure: Sheet, list: &[u8], exact: &mut [u16; Sheet::NUMBERS]) -> Sheet
     requires { ⌜ Low figure × Passes (now list) × Exacts (now list) (now exact) ⌝ }
     ensures { λ _. ⌜ Exacts (now (list .entry)) (now (exact .exit)) ⌝ }
     ensures { λ r. ⌜ ((labels : List ℕ) × (Glues (now (list .entry)) figure labels × Made (now (list .entry)) labels figure r)) ⌝ }
@@ -47,7 +46,7 @@ fn filled(figure: Normal, list: &[u8], exact: &mut [u16; Sheet::NUMBERS]) -> Nor
     let context = Context::none();
     let contexts = [context; Sheet::CONTEXT_ROOM];
     let marks = figure.marks;
-    Normal {
+    Sheet {
         atoms,
         atom_count: whole.count,
         contexts,
@@ -61,7 +60,7 @@ fn filled(figure: Normal, list: &[u8], exact: &mut [u16; Sheet::NUMBERS]) -> Nor
 
 // The normal form of a figure, by its own, filled from a list that passed and has a filling for each of its contexts;
 // notes of each filling read whether its marks are exact.
-pub fn normal_filled(figure: Normal, list: &[u8], exact: &mut [u16; Sheet::NUMBERS]) -> Normal
+pub fn normal_filled(figure: Sheet, list: &[u8], exact: &mut [u16; Sheet::NUMBERS]) -> Sheet
     requires { ⌜ ((text : List ℕ) × (figure ≡ packedNormal (figureHeld text))) × Passes (now list) × Exacts (now list) (now exact) ⌝ }
     ensures { λ _. ⌜ Exacts (now (list .entry)) (now (exact .exit)) ⌝ }
     ensures { λ r. ⌜ ((text : List ℕ) → figure ≡ packedNormal (figureHeld text) → firstLacking (listHeld (now (list .entry)) .contexts) (figureHeld text .contexts) ≡ 0 → firstDiffering (now (list .entry)) (listHeld (now (list .entry)) .contexts) ≡ 0 → FilledIs text (now (list .entry)) r) ⌝ }

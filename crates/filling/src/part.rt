@@ -1,11 +1,8 @@
 // One filling of a list, and the refusals over whole texts.
-use numbering::marks::ascending_marks;
+use reading::read::read_list;
 use rows::Context;
 use rows::Sheet;
-use sheet::normal::Normal;
-use sheet::normal::normal_of;
 use sheet::part::part_for;
-use sheet::read::read_list;
 ghost use mathlib.Core.Path.{_≡_};
 ghost use mathlib.Core.List.{List};
 ghost use Prim.Native.Nat.{ℕ, _+_, _<_, _≤_};
@@ -15,22 +12,15 @@ ghost use Rattle.rows.specs.Limits.{sheetMarks};
 ghost use Rattle.sheet.specs.Filling.{Passes};
 ghost use Rattle.placing.specs.Smallest.{sameList, numbersTo};
 ghost use Rattle.filling.specs.Fill.{firstDiffering};
-ghost use Rattle.filling.specs.Parts.{partNormal, partMarks, exactTo, Exacts, firstUnported, Counted};
+ghost use Rattle.filling.specs.Parts.{partRead, partMarks, exactTo, Exacts, firstUnported, Counted};
 
-// The normal form of the filling of this number, which is read without its head.
-pub(crate) fn part_of(list: &[u8], number: u16) -> Normal
+// The normal form of the filling of this number, with its head.
+pub(crate) fn part_of(list: &[u8], number: u16) -> Sheet
     requires { ⌜ Passes (now list) ⌝ }
-    ensures { λ r. ⌜ r ≡ partNormal (now (list .entry)) number ⌝ }
+    ensures { λ r. ⌜ r ≡ partRead (now (list .entry)) number ⌝ }
 {
     let reading = read_list(part_for(list, number));
-    let context = Context::none();
-    let contexts = [context; Sheet::CONTEXT_ROOM];
-    let ports = [0u16; Sheet::NUMBERS];
-    let mut sheet = reading.sheet;
-    sheet.contexts = contexts;
-    sheet.context_count = 0;
-    sheet.ports = ports;
-    normal_of(sheet)
+    reading.normal
 }
 
 // Whether the first `count` marks, which ascend, are exactly 1 to n.
@@ -75,10 +65,8 @@ fn is_exact(list: &[u8], exact: &[u16; Sheet::NUMBERS], number: u16, n: u16) -> 
     if exact[number as usize] == n + 1 {
         return true;
     }
-    let reading = read_list(part_for(list, number));
-    let sheet = reading.sheet;
-    let marks = ascending_marks(&sheet.marks, sheet.mark_count);
-    marks_exact(&marks, sheet.mark_count, n)
+    let part = part_of(list, number);
+    marks_exact(&part.marks, part.mark_count, n)
 }
 
 // 8 over whole texts: the row of the first of a figure's contexts without a filling of its number and count, by

@@ -13,7 +13,7 @@ ghost use Prim.Native.Nat.{ℕ, _+_, _≤_, _<_};
 ghost use lib.ListN.{take, getD};
 ghost use Rattle.rows.specs.Limits.{sheetAtoms, figureContexts};
 ghost use Rattle.sheet.specs.Filling.{Passes};
-ghost use Rattle.sheet.specs.NormalRows.{pastAtoms};
+ghost use Rattle.normalising.specs.NormalRows.{pastAtoms};
 ghost use Rattle.filling.specs.Parts.{partRoom, Exacts};
 ghost use Rattle.filling.specs.Glued.{placeOf, Own};
 ghost use Rattle.filling.specs.Whole.{placedAtom, ContextsRanged, Grown, Puts};

@@ -10,14 +10,14 @@ use lib.ListN.{length, take, drop, getD}
 use lib.Seq.{getD-take}
 use Rattle.rows.specs.Pick.{pick}
 use Rattle.rows.specs.Limits.{sheetLinks}
-use Rattle.sheet.specs.NormalText.{slipLength}
+use Rattle.normalising.specs.NormalText.{slipLength}
 use Rattle.sheet.specs.Reading.{outcomeOf, noPorts}
-use Rattle.sheet.specs.declared.normal.Normal as form
+use Rattle.rows.specs.declared.Sheet as form
 use Rattle.sheet.specs.declared.kind.Kind.the-variants.{Plain, Pattern}
 use Rattle.sheet.specs.declared.answer.Refusal.{Refusal}
 use Rattle.sheet.specs.declared.answer.Answer.the-variants.{Passed, Refused}
 use Rattle.sheet.proofs.read.HeldLimits.{held-within}
-use Rattle.sheet.proofs.normal_text.NormalWritten.{atom-at, context-at, atom-range, context-range}
+use Rattle.normalising.proofs.normal_text.NormalWritten.{atom-at, context-at, atom-range, context-range}
 use Rattle.placing.specs.Net.{Net, Range, Apart}
 use Rattle.placing.specs.Placing.{Placing, Good}
 use Rattle.placing.specs.Fillings.{Filling, normalFillingsOf}
@@ -37,7 +37,7 @@ use Rattle.answers.specs.declared.outcome.Done.the-variants as done
 use Rattle.finding.specs.Place.{sheetHeld, patternHeld, fillingsIn, placedFillings, placedAnswer, placedText, placeAnswer, placeSlip, sheetNet, patternNet}
 use Rattle.finding.specs.Inputs.{PlaceInputs}
 
-module _ (sheet pattern : form.Normal) (s p : List ℕ) (I : PlaceInputs sheet pattern s p) where
+module _ (sheet pattern : form.Sheet) (s p : List ℕ) (I : PlaceInputs sheet pattern s p) where
   sheet-is : netIn sheet ≡ sheetNet s
   sheet-is = ap netIn (I .of-sheet) ∙ net-read Plain noPorts s
 

@@ -2,12 +2,12 @@
 use Prim.Native.Nat.{ℕ}
 use mathlib.Core.Path.{_≡_}
 use mathlib.Core.List.{List}
-use Rattle.sheet.specs.NormalSheet.{packedNormal}
-use Rattle.sheet.specs.declared.normal.Normal as form
+use Rattle.reading.specs.NormalSheet.{packedNormal}
+use Rattle.rows.specs.declared.Sheet as form
 use Rattle.finding.specs.Place.{sheetHeld, patternHeld}
 use Rattle.finding.specs.Passed.{PlacePassed}
 
-pub record PlaceInputs (sheet pattern : form.Normal) (sheetText patternText : List ℕ) : Type 0 where
+pub record PlaceInputs (sheet pattern : form.Sheet) (sheetText patternText : List ℕ) : Type 0 where
   pub passed : PlacePassed sheetText patternText
   pub of-sheet : sheet ≡ packedNormal (sheetHeld sheetText)
   pub of-pattern : pattern ≡ packedNormal (patternHeld patternText)

@@ -7,7 +7,7 @@ use lib.Dec.{ltb}
 use lib.ListN.{length}
 use Rattle.rows.specs.Pick.{pick}
 use Rattle.rows.specs.Held.{Held}
-use Rattle.sheet.specs.NormalText.{slipLength}
+use Rattle.normalising.specs.NormalText.{slipLength}
 use Rattle.sheet.specs.Reading.{outcomeOf, noPorts}
 use Rattle.sheet.specs.declared.kind.Kind.the-variants.{Plain, Pattern}
 use Rattle.placing.specs.Net.{Net, normalNet}

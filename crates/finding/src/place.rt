@@ -2,23 +2,21 @@
 use answers::outcome::Done;
 use listing::write_fillings;
 use matching::search::smallest_placing;
+use reading::read::read_pattern;
+use reading::read::read_sheet;
 use rows::Sheet;
 use sheet::answer::Answer;
-use sheet::normal::Normal;
-use sheet::normal::normal_of;
-use sheet::read::read_pattern;
-use sheet::read::read_sheet;
 ghost use mathlib.Core.Path.{_≡_};
 ghost use mathlib.Core.List.{List};
 ghost use Prim.Native.Nat.{ℕ, _≤_};
 ghost use lib.ListN.{length};
-ghost use Rattle.sheet.specs.NormalText.{slipLength};
+ghost use Rattle.normalising.specs.NormalText.{slipLength};
 ghost use Rattle.answers.specs.Done.{slipAfter};
 ghost use Rattle.finding.specs.Place.{placedFillings, placedAnswer, placedText, placeAnswer, placeSlip};
 ghost use Rattle.finding.specs.Inputs.{PlaceInputs};
 
 // A sheet and a pattern that passed: the fillings of the smallest good placing.
-fn place_normals(sheet: Normal, pattern: Normal, out: &mut [u8]) -> Done
+fn place_normals(sheet: Sheet, pattern: Sheet, out: &mut [u8]) -> Done
     requires { ⌜ ((s : List ℕ) × ((p : List ℕ) × PlaceInputs sheet pattern s p)) ⌝ }
     requires { ⌜ slipLength ≤ length (now out) ⌝ }
     ensures { λ r. ⌜ ((s p : List ℕ) → PlaceInputs sheet pattern s p → r ≡ placedAnswer (placedFillings s p)) ⌝ }
@@ -52,10 +50,9 @@ pub fn place(sheet: &[u8], pattern: &[u8], out: &mut [u8]) -> Done
             match two {
                 Answer::Refused(why, row) => Done::Refused(2, why, row),
                 Answer::Passed => {
-                    let whole = first.sheet;
-                    let part = second.sheet;
-                    let normal = normal_of(whole);
-                    place_normals(normal, normal_of(part), out)
+                    let whole = first.normal;
+                    let part = second.normal;
+                    place_normals(whole, part, out)
                 }
             }
         }

@@ -11,11 +11,11 @@ use lib.Seq.{length-take-le}
 use Rattle.hyperlmntal.specs.Link.{_∈_}
 use Rattle.rows.specs.Format.{mostLinks, fieldCount}
 use Rattle.rows.specs.Packed.{padded}
-use Rattle.rows.specs.RowText.{rowBytes}
+use Rattle.writing.specs.RowText.{rowBytes}
 use Rattle.rows.proofs.Padding.{take-padded, getD-padding}
 use Rattle.numbering.specs.Numbering.{linkRoom}
 use Rattle.rows.specs.declared.Atom.{Atom}
-use Rattle.sheet.specs.declared.normal.Normal as form
+use Rattle.rows.specs.declared.Sheet as form
 use Rattle.placing.specs.Net.{NetCell, cellLinks}
 use Rattle.network.specs.NetIn.{atomAt, Fit}
 use Rattle.network.proofs.NetIn.{used-range}
@@ -40,7 +40,7 @@ module _ (t : Bool) (a : Atom) (e : t ≡ true) where
       ∙ ap (λ n. rowBytes 83 (a .name ∷ n ∷ map f (take (a .count) (a .links)))) (length-take-le (a .count) (a .links) h))
 
 -- More places, no fewer atoms.
-module _ (sheet : form.Normal) (given : List ℕ) (k : ℕ) where
+module _ (sheet : form.Sheet) (given : List ℕ) (k : ℕ) where
   later : (i d : ℕ) → length (givenBelow sheet given k i) ≤ length (givenBelow sheet given k (d + i))
   unfolding givenBelow
   later i zero = let e : 0 + i ≡ i = omega arith in rw e (omega arith)
@@ -51,7 +51,7 @@ module _ (sheet : form.Normal) (given : List ℕ) (k : ℕ) where
   pub below-grows : (i n : ℕ) → i ≤ n → length (givenBelow sheet given k i) ≤ length (givenBelow sheet given k n)
   below-grows i n h = let e : n - i + i ≡ n = omega arith in subst (λ m. length (givenBelow sheet given k i) ≤ length (givenBelow sheet given k m)) e (later i (n - i))
 
-module _ (sheet : form.Normal) (fit : Fit sheet) (given : List ℕ) (k : ℕ) where
+module _ (sheet : form.Sheet) (fit : Fit sheet) (given : List ℕ) (k : ℕ) where
   -- Few links, and each has a place in the table.
   pub atom-low : (i : ℕ) → i < sheet .«atom_count» → (j : ℕ) → j < atomAt sheet i .count → getD (atomAt sheet i .links) j 0 < linkRoom
   atom-low i h j q = let u = (fit .atoms i h) .numbered j q in omega (arith, u .1, fit .class-count)

@@ -9,15 +9,15 @@ use Rattle.hyperlmntal.specs.Link.{_∈_}
 use Rattle.rows.specs.Format.{mostLinks, rowWidth}
 use Rattle.rows.specs.Limits.{sheetLinks}
 use Rattle.rows.specs.Packed.{padded}
-use Rattle.rows.specs.RowText.{rowBytes}
+use Rattle.writing.specs.RowText.{rowBytes}
 use Rattle.rows.specs.declared.Context.{Context}
 use Rattle.rows.proofs.Lists.{getD-mapped}
-use Rattle.rows.proofs.RowBytes.{row-width, over, over-more}
+use Rattle.writing.proofs.RowBytes.{row-width, over, over-more}
 use Rattle.numbering.specs.Numbering.{Numbering, linkRoom, noNumbers, withClasses}
 use Rattle.numbering.proofs.Turns.{with-classes-append}
-use Rattle.sheet.specs.declared.normal.Normal as form
-use Rattle.sheet.proofs.normal_text.NormalWritten.{mapped-at, taken-padded}
-use Rattle.sheet.proofs.normal.ClassNumbers.{classes-number}
+use Rattle.rows.specs.declared.Sheet as form
+use Rattle.normalising.proofs.normal_text.NormalWritten.{mapped-at, taken-padded}
+use Rattle.reading.proofs.normal.ClassNumbers.{classes-number}
 use Rattle.placing.specs.Net.{NetCell, cellLinks}
 use Rattle.placing.proofs.Lists.{member-at, getD-of}
 use Rattle.network.specs.NetIn.{contextIn, Used, Fit}
@@ -35,7 +35,7 @@ three-put l one two new at a b c j k p q room e f g =
     let z : at + rowWidth + j ≡ at + (rowWidth + j) = omega arith in
     (rw (z, first) at g) ∙ over-more l at (a ++ b) (rowWidth + j) m room c k ∙ rw (append-assoc a b c)
 
-module _ (sheet : form.Normal) (fit : Fit sheet) (linksTo given : List ℕ) (c : Context) (u : Used sheetLinks (c .count) (c .links)) where
+module _ (sheet : form.Sheet) (fit : Fit sheet) (linksTo given : List ℕ) (c : Context) (u : Used sheetLinks (c .count) (c .links)) where
   abbrev cells : List NetCell
   cells = givenCells sheet given (c .number)
 

@@ -12,9 +12,9 @@ use Rattle.hyperlmntal.specs.Hypergraph.{Node, inner, name, Flat, Connected, st
 use Rattle.hyperlmntal.proofs.Connection.{connected-≡}
 use Rattle.hyperlmntal.proofs.Lists.{map-agree}
 use Rattle.rows.specs.Held.{indexOf}
-use Rattle.sheet.specs.Graph.{edgeOf}
-use Rattle.sheet.specs.Normal.{inserted, markNode, marksAmong, marksOf, shown, distinct, classesBy, numberBy, markedBy, normalFormBy, normalForm}
-use Rattle.sheet.proofs.normal.NormalBy.{Labels, normal-by}
+use Rattle.reading.specs.Graph.{edgeOf}
+use Rattle.reading.specs.Normal.{inserted, markNode, marksAmong, marksOf, shown, distinct, classesBy, numberBy, markedBy, normalFormBy, normalForm}
+use Rattle.reading.proofs.normal.NormalBy.{Labels, normal-by}
 use Rattle.placing.specs.Net.{NetCell, atomVertex, cellLinks, edgeNumbers, netOf}
 use Rattle.placing.specs.Fillings.{Row, symbolOf, markOf, netRows, normalRows}
 use Rattle.placing.specs.ListText.{rowText, rowsText}

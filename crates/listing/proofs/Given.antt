@@ -11,8 +11,8 @@ use Rattle.hyperlmntal.specs.Link.{_∈_}
 use Rattle.hyperlmntal.proofs.Lists.{map-agree}
 use Rattle.rows.specs.Pick.{pick}
 use Rattle.rows.specs.Limits.{sheetAtoms}
-use Rattle.rows.specs.RowText.{rowBytes}
-use Rattle.sheet.specs.declared.normal.Normal as form
+use Rattle.writing.specs.RowText.{rowBytes}
+use Rattle.rows.specs.declared.Sheet as form
 use Rattle.placing.specs.Net.{NetCell, Net, Range}
 use Rattle.placing.specs.Placing.{Placing, cellAt}
 use Rattle.placing.specs.Fillings.{placesOf, symbolOf, markOf, standsOn, portRows, fillingFor, normalRows, normalFilling}
@@ -36,7 +36,7 @@ places-snoc s k (m ∷ l) n = go (eqb m k) (places-snoc (suc s) k l n)
     go true ih = ap (λ r. s ∷ r) (rw (← e) ih)
     go false ih = rw (← e) ih
 
-module _ (sheet : form.Normal) (fit : Fit sheet) (given : List ℕ) (room : length given ≡ sheetAtoms) (k : ℕ) where
+module _ (sheet : form.Sheet) (fit : Fit sheet) (given : List ℕ) (room : length given ≡ sheetAtoms) (k : ℕ) where
   abbrev cell : ℕ → NetCell
   cell j = cellAt (netIn sheet .atoms) j
 
@@ -60,7 +60,7 @@ port-rows : (S : Net) (p : Placing) (i : ℕ) (l : List ℕ) → portRows S p i 
 port-rows S p i [] = refl
 port-rows S p i (x ∷ l) = ap (λ r. markOf (standsOn S p x, i) ∷ r) (port-rows S p (suc i) l)
 
-module _ (sheet figure : form.Normal) (fit : Fit sheet) (atoms links given : List ℕ) (room : length given ≡ sheetAtoms) where
+module _ (sheet figure : form.Sheet) (fit : Fit sheet) (atoms links given : List ℕ) (room : length given ≡ sheetAtoms) where
   abbrev S : Net
   S = netIn sheet
 

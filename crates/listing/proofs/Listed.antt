@@ -13,10 +13,10 @@ use Rattle.hyperlmntal.specs.Link.{_∈_}
 use Rattle.rows.specs.Pick.{pick}
 use Rattle.rows.specs.Format.{mostLinks}
 use Rattle.rows.specs.Limits.{sheetAtoms, sheetLinks}
-use Rattle.rows.proofs.RowBytes.{over, over-more}
+use Rattle.writing.proofs.RowBytes.{over, over-more}
 use Rattle.numbering.specs.Numbering.{linkRoom}
-use Rattle.sheet.specs.NormalText.{slipLength}
-use Rattle.sheet.specs.declared.normal.Normal as form
+use Rattle.normalising.specs.NormalText.{slipLength}
+use Rattle.rows.specs.declared.Sheet as form
 use Rattle.placing.specs.Net.{NetCell, Apart, Range}
 use Rattle.placing.specs.Fillings.{byNumber}
 use Rattle.placing.proofs.Lists.{member-at, getD-of}
@@ -42,10 +42,10 @@ text-put l new text more at p room e =
     q ∙ over-more l 0 text (length text) refl (omega arith) more (length more) ∙ rw w
 
 -- The text of the first i fillings.
-abbrev pub textTo : form.Normal → form.Normal → List ℕ → List ℕ → ℕ → List ℕ
+abbrev pub textTo : form.Sheet → form.Sheet → List ℕ → List ℕ → ℕ → List ℕ
 textTo sheet figure linksTo given i = listBytes sheet linksTo given (take i (byNumber (netIn figure .contexts)))
 
-module _ (sheet figure : form.Normal) (ready : Ready sheet figure) (linksTo given : List ℕ) (room : length given ≡ sheetAtoms) (apart : Apart (netIn figure .contexts)) where
+module _ (sheet figure : form.Sheet) (ready : Ready sheet figure) (linksTo given : List ℕ) (room : length given ≡ sheetAtoms) (apart : Apart (netIn figure .contexts)) where
   abbrev ordered : List NetCell
   ordered = byNumber (netIn figure .contexts)
 
@@ -88,7 +88,7 @@ module _ (sheet figure : form.Normal) (ready : Ready sheet figure) (linksTo give
       ∙ sym (list-bytes sheet figure (ready .sheet-fit) atoms linksTo given room ordered (λ c m x k. context-link (netIn figure) (ready .figure-normal) c x (by-number-out (netIn figure .contexts) c m) k))
 
 -- Where the ports of a context stand.
-module _ (sheet figure : form.Normal) (ready : Ready sheet figure) (linksTo : List ℕ) (to : LinksIn sheet figure linksTo) (j : ℕ) (h : j < figure .«context_count») where
+module _ (sheet figure : form.Sheet) (ready : Ready sheet figure) (linksTo : List ℕ) (to : LinksIn sheet figure linksTo) (j : ℕ) (h : j < figure .«context_count») where
   pub links-used : Used sheetLinks (contextAt figure j .count) (contextAt figure j .links)
   links-used =
       let u = ready .figure-fit .contexts j h in

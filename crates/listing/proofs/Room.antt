@@ -12,8 +12,8 @@ use Rattle.hyperlmntal.specs.Link.{_∈_}
 use Rattle.rows.specs.Pick.{pick}
 use Rattle.rows.specs.Format.{mostLinks, rowWidth}
 use Rattle.rows.specs.Limits.{sheetAtoms, figureContexts}
-use Rattle.sheet.specs.NormalText.{slipLength}
-use Rattle.sheet.specs.declared.normal.Normal as form
+use Rattle.normalising.specs.NormalText.{slipLength}
+use Rattle.rows.specs.declared.Sheet as form
 use Rattle.placing.specs.Net.{NetCell, Apart}
 use Rattle.placing.specs.Fillings.{withContext, byNumber}
 use Rattle.network.specs.NetIn.{atomIn, atomAt}
@@ -55,7 +55,7 @@ one-hit n (c ∷ l) o = go (eqb n (c .0)) refl (one-hit n l (o .1))
     go true e ih = let q : n ≡ c .0 = eqb-true n (c .0) e in omega (arith, no-hit n l (λ d m s. o .0 d m (sym q ∙ s)))
     go false e ih = omega arith
 
-module _ (sheet : form.Normal) (links given : List ℕ) where
+module _ (sheet : form.Sheet) (links given : List ℕ) where
   abbrev held : ℕ → NetCell → ℕ
   held i c = length (givenBelow sheet given (c .0) i)
 

@@ -12,11 +12,11 @@ use Rattle.rows.specs.Pick.{pick}
 use Rattle.rows.specs.Format.{rowWidth}
 use Rattle.rows.specs.Packed.{padded}
 use Rattle.rows.proofs.Padding.{set-padded}
-use Rattle.rows.proofs.RowBytes.{over, over-more}
+use Rattle.writing.proofs.RowBytes.{over, over-more}
 use Rattle.numbering.specs.Numbering.{Numbering, withClass, withClasses}
 use Rattle.numbering.proofs.Turns.{with-class-count, with-classes-count, with-classes-append, with-classes-snoc}
 use Rattle.numbering.proofs.Kept.{number-kept, Low, low-class, low-after}
-use Rattle.sheet.specs.declared.normal.Normal as form
+use Rattle.rows.specs.declared.Sheet as form
 use Rattle.placing.specs.Net.{NetCell, cellLinks}
 use Rattle.listing.specs.Writing.{numberIn, givenAt, givenBelow, symbolsBytes, portBytes, portsBytes, fillingBytes, listBytes, below}
 use Rattle.listing.proofs.Atoms.{cell-links-append}
@@ -54,7 +54,7 @@ module _ (n m : Numbering) (x : ℕ) (e : m ≡ withClass n x) (later : List ℕ
   number-later = rw e
 
 -- One sheet atom more.
-module _ (sheet : form.Normal) (given : List ℕ) (k i : ℕ) where
+module _ (sheet : form.Sheet) (given : List ℕ) (k i : ℕ) where
   below-next : givenBelow sheet given k (i + 1) ≡ givenBelow sheet given k i ++ givenAt sheet given k i
   unfolding givenBelow
   below-next = rw (add-one i)
@@ -114,6 +114,6 @@ module _ (number : ℕ) (l : List NetCell) (j rank : ℕ) (h : j < length l) (e 
   rank-same p = let q = rw (le-ltb _ _ p) at snoc in omega arith
 
 -- One filling more.
-module _ (sheet : form.Normal) (links given : List ℕ) (l : List NetCell) (i : ℕ) (h : i < length l) where
+module _ (sheet : form.Sheet) (links given : List ℕ) (l : List NetCell) (i : ℕ) (h : i < length l) where
   pub list-next : listBytes sheet links given (take (i + 1) l) ≡ listBytes sheet links given (take i l) ++ fillingBytes sheet links given (getD l i (0, []))
   list-next = ap (listBytes sheet links given) (take-next l i (0, []) h) ∙ list-snoc sheet links given (take i l) (getD l i (0, []))

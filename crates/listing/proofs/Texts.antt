@@ -7,9 +7,9 @@ use lib.ListN.{length, length-append, length-map}
 use Rattle.hyperlmntal.specs.Link.{_∈_}
 use Rattle.hyperlmntal.proofs.Lists.{map-agree}
 use Rattle.rows.specs.Format.{rowWidth}
-use Rattle.rows.specs.RowText.{rowBytes}
-use Rattle.rows.proofs.RowBytes.{row-width}
-use Rattle.sheet.specs.declared.normal.Normal as form
+use Rattle.writing.specs.RowText.{rowBytes}
+use Rattle.writing.proofs.RowBytes.{row-width}
+use Rattle.rows.specs.declared.Sheet as form
 use Rattle.placing.specs.Net.{NetCell, cellLinks}
 use Rattle.listing.specs.Writing.{givenCells, standsAt, portLinks, symbolBytes, symbolsBytes, portBytes, portsBytes, fillingBytes, listBytes}
 
@@ -50,7 +50,7 @@ ports-agree f g i (x ∷ l) h =
     ap₂ _++_ (ap (λ n. rowBytes 69 (n ∷ i ∷ [])) (h x (List·Memᴰ·head refl)))
     (ports-agree f g (suc i) l (λ y m. h y (List·Memᴰ·tail m)))
 
-module _ (sheet : form.Normal) (links given : List ℕ) where
+module _ (sheet : form.Sheet) (links given : List ℕ) where
   pub filling-length : (c : NetCell) → length (fillingBytes sheet links given c) ≡ (1 + length (givenCells sheet given (c .0)) + length (c .1)) * rowWidth
   unfolding fillingBytes
   filling-length c =

@@ -6,11 +6,11 @@ use lib.Dec.{eqb, ltb}
 use lib.ListN.{length, take, getD}
 use Rattle.rows.specs.Pick.{pick}
 use Rattle.rows.specs.Held.{indexOf}
-use Rattle.rows.specs.RowText.{rowBytes}
+use Rattle.writing.specs.RowText.{rowBytes}
 use Rattle.rows.specs.declared.Atom.{Atom}
 use Rattle.rows.specs.declared.Context.{Context}
-use Rattle.sheet.specs.Normal.{distinct}
-use Rattle.sheet.specs.declared.normal.Normal as form
+use Rattle.reading.specs.Normal.{distinct}
+use Rattle.rows.specs.declared.Sheet as form
 use Rattle.placing.specs.Net.{NetCell, cellLinks}
 use Rattle.placing.specs.Placing.{Placing}
 use Rattle.placing.specs.Fillings.{normalFillingsOf}
@@ -18,16 +18,16 @@ use Rattle.placing.specs.ListText.{listText}
 use Rattle.network.specs.NetIn.{netIn, atomIn, contextIn, atomAt, contextAt}
 
 -- a name has three digits at most and the number of a context four, so that they fit the columns of a row
-pub record Columns (sheet figure : form.Normal) : Type 0 where
+pub record Columns (sheet figure : form.Sheet) : Type 0 where
   pub names : (i : ℕ) → i < sheet .«atom_count» → atomAt sheet i .name ≤ 999
   pub numbers : (i : ℕ) → i < figure .«context_count» → contextAt figure i .number ≤ 9999
 
 -- the placing whose links and contexts stand in arrays; where atoms go plays no part in its fillings
-abbrev pub placingIn : form.Normal → form.Normal → List ℕ → List ℕ → List ℕ → Placing
+abbrev pub placingIn : form.Sheet → form.Sheet → List ℕ → List ℕ → List ℕ → Placing
 placingIn sheet figure atoms links given = record { atomsTo = atoms; linksTo = take (figure .«class_count») links; given = take (sheet .«atom_count») given }
 
 -- the text of its list of fillings
-abbrev pub fillingsText : form.Normal → form.Normal → List ℕ → List ℕ → List ℕ → List ℕ
+abbrev pub fillingsText : form.Sheet → form.Sheet → List ℕ → List ℕ → List ℕ → List ℕ
 fillingsText sheet figure atoms links given = listText (normalFillingsOf (netIn sheet) (placingIn sheet figure atoms links given) (netIn figure))
 
 -- the number of a link in a table
@@ -55,22 +55,22 @@ abbrev pub cellIf : Bool → Atom → List NetCell
 cellIf given a = pick given (atomIn a ∷ []) []
 
 -- sheet atom i, from 0, where it is given to context k
-abbrev pub givenAt : form.Normal → List ℕ → ℕ → ℕ → List NetCell
+abbrev pub givenAt : form.Sheet → List ℕ → ℕ → ℕ → List NetCell
 givenAt sheet given k i = cellIf (eqb (getD given i 0) k) (atomAt sheet i)
 
 -- those below a place
-unfoldable pub givenBelow : form.Normal → List ℕ → ℕ → ℕ → List NetCell
+unfoldable pub givenBelow : form.Sheet → List ℕ → ℕ → ℕ → List NetCell
 givenBelow sheet given k zero = []
 givenBelow sheet given k (suc i) = givenBelow sheet given k i ++ givenAt sheet given k i
 
-abbrev pub givenCells : form.Normal → List ℕ → ℕ → List NetCell
+abbrev pub givenCells : form.Sheet → List ℕ → ℕ → List NetCell
 givenCells sheet given k = givenBelow sheet given k (sheet .«atom_count»)
 
 -- where the port of figure link x stands, on a sheet with n links
 abbrev pub standsAt : ℕ → List ℕ → ℕ → ℕ
 standsAt n linksTo x = pick (ltb n (getD linksTo (x - 1) 0)) (n + x) (getD linksTo (x - 1) 0)
 
-abbrev pub portLinks : form.Normal → List ℕ → List ℕ → List ℕ
+abbrev pub portLinks : form.Sheet → List ℕ → List ℕ → List ℕ
 portLinks sheet linksTo l = map (standsAt (sheet .«class_count») linksTo) l
 
 -- the links of a filling with these atoms and ports, in the order in which they appear
@@ -85,11 +85,11 @@ numberAmong l x = suc (indexOf x (distinct l))
 abbrev pub rowsBytes : (ℕ → ℕ) → ℕ → List NetCell → List ℕ → List ℕ
 rowsBytes f k cells ports = rowBytes 72 (k ∷ length ports ∷ []) ++ (symbolsBytes f cells ++ portsBytes f 1 ports)
 
-unfoldable pub fillingBytes : form.Normal → List ℕ → List ℕ → NetCell → List ℕ
+unfoldable pub fillingBytes : form.Sheet → List ℕ → List ℕ → NetCell → List ℕ
 fillingBytes sheet linksTo given c =
     rowsBytes (numberAmong (appearing (givenCells sheet given (c .0)) (portLinks sheet linksTo (c .1)))) (c .0) (givenCells sheet given (c .0)) (portLinks sheet linksTo (c .1))
 
-unfoldable pub listBytes : form.Normal → List ℕ → List ℕ → List NetCell → List ℕ
+unfoldable pub listBytes : form.Sheet → List ℕ → List ℕ → List NetCell → List ℕ
 listBytes sheet linksTo given [] = []
 listBytes sheet linksTo given (c ∷ l) = fillingBytes sheet linksTo given c ++ listBytes sheet linksTo given l
 

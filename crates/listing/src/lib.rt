@@ -11,14 +11,13 @@ use crate::put_rows::put_symbols;
 use numbering::classes::ROOM;
 use rows::Context;
 use rows::Sheet;
-use sheet::normal::Normal;
 ghost use mathlib.Core.Path.{_≡_};
 ghost use mathlib.Core.List.{List, _++_};
 ghost use Prim.Native.Nat.{ℕ, _+_, _<_, _≤_};
 ghost use lib.ListN.{length, take, drop, getD};
 ghost use Rattle.rows.specs.Limits.{sheetAtoms, sheetLinks};
 ghost use Rattle.numbering.specs.Numbering.{linkRoom};
-ghost use Rattle.sheet.specs.NormalText.{slipLength};
+ghost use Rattle.normalising.specs.NormalText.{slipLength};
 ghost use Rattle.placing.specs.Net.{Apart};
 ghost use Rattle.network.specs.NetIn.{netIn, contextIn, atomAt, Used, Fit};
 ghost use Rattle.network.specs.Ready.{Ready, LinksIn};
@@ -26,7 +25,7 @@ ghost use Rattle.listing.specs.Writing.{Columns, fillingsText, standsAt,
 
 // The filling of a context, from byte `at` on; the byte after it.
 fn put_filling<'a>(
-    sheet: Normal,
+    sheet: Sheet,
     context: Context,
     links_to: &'a [u16],
     given: &'a [u16],
@@ -61,8 +60,8 @@ fn put_filling<'a>(
 // The fillings of the figure's contexts by a placing, each as normal text of its own after its head, in
 // ascending order of the contexts' numbers; the number of bytes.
 pub fn write_fillings(
-    sheet: Normal,
-    figure: Normal,
+    sheet: Sheet,
+    figure: Sheet,
     links_to: [u16; Sheet::LINKS],
     given: [u16; Sheet::ATOMS],
     out: &mut [u8],

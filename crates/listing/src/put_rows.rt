@@ -3,8 +3,7 @@ use numbering::classes::ROOM;
 use numbering::classes::number_class;
 use rows::Atom;
 use rows::Sheet;
-use rows::write::put_row;
-use sheet::normal::Normal;
+use writing::write::put_row;
 ghost use mathlib.Core.Path.{_≡_};
 ghost use mathlib.Core.List.{List, [], _∷_, _++_, map};
 ghost use Prim.Native.Nat.{ℕ, _+_, _*_, _<_, _≤_};
@@ -12,7 +11,7 @@ ghost use lib.ListN.{length, take, drop, getD};
 ghost use Rattle.rows.specs.Format.{mostLinks, fieldCount, rowWidth};
 ghost use Rattle.rows.specs.Limits.{sheetAtoms};
 ghost use Rattle.rows.specs.Packed.{padded};
-ghost use Rattle.rows.specs.RowText.{rowBytes};
+ghost use Rattle.writing.specs.RowText.{rowBytes};
 ghost use Rattle.numbering.specs.Numbering.{linkRoom, numbering, withClasses};
 ghost use Rattle.placing.specs.Net.{cellLinks};
 ghost use Rattle.network.specs.NetIn.{Fit, atomAt};
@@ -83,7 +82,7 @@ fn put_symbol(
 pub(crate) fn put_symbols(
     numbers: &mut [u16; ROOM],
     numbered: &mut usize,
-    sheet: Normal,
+    sheet: Sheet,
     given: &[u16],
     number: u16,
     out: &mut [u8],

@@ -6,8 +6,8 @@ use mathlib.Core.List.{List, [], _∷_, List·Memᴰ·head, List·Memᴰ·tail, 
 use native.Mathlib.Omega.{arith}
 use lib.ListN.{length}
 use Rattle.hyperlmntal.specs.Link.{_∈_}
-use Rattle.sheet.specs.declared.normal.Normal as form
-use Rattle.sheet.proofs.normal.Merging.{getD-in}
+use Rattle.rows.specs.declared.Sheet as form
+use Rattle.reading.proofs.normal.Merging.{getD-in}
 use Rattle.placing.specs.Net.{Range}
 use Rattle.placing.specs.Placing.{Taken}
 use Rattle.network.specs.NetIn.{netIn}
@@ -32,7 +32,7 @@ covers (suc n) l h =
     let c = covers n (w .0) (λ j r. w .2 j (h j (r .0, omega (arith, r .1))) (λ e. absurd (omega (arith, r .1, e)))) in
     omega (arith, w .1, c)
 
-pub leftover : (sheet figure : form.Normal) → Ready sheet figure → figure .«context_count» ≡ 0 → figure .«atom_count» < sheet .«atom_count» → ¬ Begun (netIn sheet) (netIn figure) []
+pub leftover : (sheet figure : form.Sheet) → Ready sheet figure → figure .«context_count» ≡ 0 → figure .«atom_count» < sheet .«atom_count» → ¬ Begun (netIn sheet) (netIn figure) []
 leftover sheet figure ready none few b = absurd (omega (arith, covers (length (netIn sheet .atoms)) (b .0 .atomsTo) all, b .1 .sending .atoms-sent, atoms-length sheet (ready .sheet-fit), atoms-length figure (ready .figure-fit)))
   where
     all : (j : ℕ) → Range (length (netIn sheet .atoms)) j → j ∈ b .0 .atomsTo

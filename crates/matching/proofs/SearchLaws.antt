@@ -7,7 +7,7 @@ use mathlib.Core.Option.{Option, none, some}
 use native.Mathlib.Omega.{arith}
 use lib.ListN.{length, take, length-append}
 use Rattle.rows.specs.Pick.{pick}
-use Rattle.sheet.specs.declared.normal.Normal as form
+use Rattle.rows.specs.declared.Sheet as form
 use Rattle.placing.specs.Net.{Net}
 use Rattle.placing.specs.First.{Least, Answer, after}
 use Rattle.placing.proofs.FirstLaws.{answer-only, first-answer, Tried, tried-none, tried-hit, tried-all}
@@ -81,7 +81,7 @@ module _ (S F : Net) (pre : List ℕ) (small : length pre < length (F .atoms)) w
       whole = subst (λ (bs : List ℕ). Least (testAfter S F pre) bs (t ∷ l)) (sym (bounds-next S F (length pre) small)) (tried-hit (testAfter S F pre) (length (S .atoms)) rest t l h u after-choice)
 
 -- All figure atoms are placed: what completing gives, and nothing found.
-module _ (sheet figure : form.Normal) where
+module _ (sheet figure : form.Sheet) where
   pub nothing-found : (r : Found) → r .ok ≡ false → foundIn sheet figure r ≡ none
   nothing-found r h = by-ok (foundList sheet figure r) (r .ok) false h
 

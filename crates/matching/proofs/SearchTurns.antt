@@ -11,7 +11,7 @@ use native.Mathlib.Omega.{arith}
 use lib.ListN.{length, getD, take, set, replicate, length-set}
 use lib.Seq.{length-take-le, take-suc-set, getD-set-same, getD-set-other, getD-append-seam}
 use Rattle.rows.specs.Limits.{sheetAtoms}
-use Rattle.sheet.specs.declared.normal.Normal as form
+use Rattle.rows.specs.declared.Sheet as form
 use Rattle.placing.specs.Net.{Net, Range}
 use Rattle.placing.specs.Placing.{atomTo, numberAt}
 use Rattle.placing.proofs.Tests.{says-eq}
@@ -33,17 +33,17 @@ use Rattle.matching.proofs.SearchLaws.{nothing-found, none-found, some-
 use Rattle.rows.proofs.Padding.{getD-filled}
 
 -- What the loop keeps: sheet atoms 1 to t were tried in vain, and those with a 1 fail.
-pub record Tries (sheet figure : form.Normal) (pre failed : List ℕ) (work t : ℕ) : Type 0 where
+pub record Tries (sheet figure : form.Sheet) (pre failed : List ℕ) (work t : ℕ) : Type 0 where
   pub within : t ≤ sheet .«atom_count»
   pub tried : Tried (testAfter (netIn sheet) (netIn figure) pre) (suc t) (restBounds (netIn sheet) (netIn figure) pre)
   pub failures : (u : ℕ) → getD failed u 0 ≡ 1 → ¬ Begun (netIn sheet) (netIn figure) (pre ++ (suc u ∷ []))
   pub worked : 1 ≤ work
 
-pub tries-same : {sheet figure : form.Normal} {pre failed failed′ : List ℕ} {work work′ t : ℕ} → failed′ ≡ failed → work′ ≡ work
+pub tries-same : {sheet figure : form.Sheet} {pre failed failed′ : List ℕ} {work work′ t : ℕ} → failed′ ≡ failed → work′ ≡ work
     → Tries sheet figure pre failed work t → Tries sheet figure pre failed′ work′ t
 tries-same {sheet} {figure} {pre} {failed} {failed′} {work} {work′} {t} e f u = subst (λ (w : ℕ). Tries sheet figure pre failed′ w t) (sym f) (subst (λ (l : List ℕ). Tries sheet figure pre l work t) (sym e) u)
 
-module _ (sheet figure : form.Normal) (ready : Ready sheet figure) (chosen : List ℕ) (k : ℕ) (few : k ≤ figure .«atom_count») (atoms : AtomsIn sheet k chosen) where
+module _ (sheet figure : form.Sheet) (ready : Ready sheet figure) (chosen : List ℕ) (k : ℕ) (few : k ≤ figure .«atom_count») (atoms : AtomsIn sheet k chosen) where
   abbrev S : Net
   S = netIn sheet
 
@@ -172,14 +172,14 @@ module _ (sheet figure : form.Normal) (ready : Ready sheet figure) (chosen : Lis
             go v (inr f) = λ b. n (f (ready .sheet-normal) F (ready .figure-normal) b)
 
 -- What choosing promises, for the sheet and figure at hand.
-pub choice-kept : (sheet figure : form.Normal) → Fit figure → (k t : ℕ) → k < figure .«atom_count» → (a b l : List ℕ)
+pub choice-kept : (sheet figure : form.Sheet) → Fit figure → (k t : ℕ) → k < figure .«atom_count» → (a b l : List ℕ)
     → ((S F : Net) (pre l : List ℕ) → length pre ≡ k → k < length (F .atoms) → Keeps S F pre (mayAtom a) (mayLink l) → Keeps S F (pre ++ ((t + 1) ∷ [])) (mayAtom b) (mayLink l))
     → (pre : List ℕ) → length pre ≡ k → KeepsIn sheet figure pre a l → KeepsIn sheet figure (pre ++ (suc t ∷ [])) b l
 choice-kept sheet figure fit k t h a b l promise pre e keeps =
     subst (λ (i : ℕ). KeepsIn sheet figure (pre ++ (i ∷ [])) b l) (add-one t) (promise (netIn sheet) (netIn figure) pre l e (omega (arith, atoms-length figure fit)) keeps)
 
 -- What narrowing promises, for a sheet and a figure that are laid out.
-pub narrow-kept : (sheet figure : form.Normal) (laid : List ℕ) (n : ℕ) (parts : List ℕ) (m : ℕ) → LaidOut sheet laid n → LaidOut figure parts m
+pub narrow-kept : (sheet figure : form.Sheet) (laid : List ℕ) (n : ℕ) (parts : List ℕ) (m : ℕ) → LaidOut sheet laid n → LaidOut figure parts m
     → (pre a l b k : List ℕ) (r : Bool) → NarrowedBy laid n parts m a l b k → (r ≡ true → (i : ℕ) × (i < m) × NoAtom b i) → KeepsIn sheet figure pre a l → Kept sheet figure pre b k r
 narrow-kept sheet figure laid n parts m os of pre a l b k r narrowed empty keeps = record { keeps = still; none = lost }
   where

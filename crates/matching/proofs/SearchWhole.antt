@@ -9,7 +9,7 @@ use lib.ListN.{length, take}
 use lib.Seq.{length-take-le}
 use Rattle.rows.specs.Pick.{pick}
 use Rattle.rows.specs.Limits.{sheetAtoms, sheetLinks}
-use Rattle.sheet.specs.declared.normal.Normal as form
+use Rattle.rows.specs.declared.Sheet as form
 use Rattle.placing.specs.Net.{Net}
 use Rattle.placing.specs.Placing.{Placing}
 use Rattle.placing.specs.Smallest.{placingFrom, placingIn, smallest}
@@ -30,10 +30,10 @@ behind-nothing none = refl
 behind-nothing (some l) = refl
 
 -- nothing is chosen yet
-pub no-atoms : (sheet : form.Normal) (chosen : List ℕ) → length chosen ≡ sheetAtoms → AtomsIn sheet 0 chosen
+pub no-atoms : (sheet : form.Sheet) (chosen : List ℕ) → length chosen ≡ sheetAtoms → AtomsIn sheet 0 chosen
 no-atoms sheet chosen e = record { room = e; within = λ i h. absurd (omega arith) }
 
-module _ (sheet figure : form.Normal) (ready : Ready sheet figure) (r : Found) (atoms : length (r .«atoms_to») ≡ sheetAtoms) (links : length (r .«links_to») ≡ sheetLinks) where
+module _ (sheet figure : form.Sheet) (ready : Ready sheet figure) (r : Found) (atoms : length (r .«atoms_to») ≡ sheetAtoms) (links : length (r .«links_to») ≡ sheetLinks) where
   abbrev parts : Placing
   parts = record { atomsTo = take (figure .«atom_count») (r .«atoms_to»); linksTo = take (figure .«class_count») (r .«links_to»); given = take (sheet .«atom_count») (r .given) }
 
@@ -54,11 +54,11 @@ module _ (sheet figure : form.Normal) (ready : Ready sheet figure) (r : Found) (
   unfolding smallest
   placed-smallest e = placed-found ∙ ap (placingIn (netIn sheet) (netIn figure)) (e ∙ behind-nothing (leastAfter (netIn sheet) (netIn figure) []))
 
-pub laid-ready : (sheet figure : form.Normal) (laid : List ℕ) (n : ℕ) (parts : List ℕ) (m : ℕ) → LaidOut sheet laid n → LaidOut figure parts m → Ready sheet figure
+pub laid-ready : (sheet figure : form.Sheet) (laid : List ℕ) (n : ℕ) (parts : List ℕ) (m : ℕ) → LaidOut sheet laid n → LaidOut figure parts m → Ready sheet figure
 laid-ready sheet figure laid n parts m os of = record { sheet-fit = os .fit; figure-fit = of .fit; sheet-normal = os .normal; figure-normal = of .normal }
 
 -- The same of a sheet and a figure, and of their frames with the atoms as they are laid out.
-pub placed-whole : (sheet figure : form.Normal) (laid parts : List ℕ) → LaidOut sheet laid (sheet .«atom_count») → LaidOut figure parts (figure .«atom_count») → (s f : Frame) → s ≡ frameOf sheet → f ≡ frameOf figure → (r : Found)
+pub placed-whole : (sheet figure : form.Sheet) (laid parts : List ℕ) → LaidOut sheet laid (sheet .«atom_count») → LaidOut figure parts (figure .«atom_count») → (s f : Frame) → s ≡ frameOf sheet → f ≡ frameOf figure → (r : Found)
     → placedIn (whole s laid) (whole f parts) r ≡ smallest (netIn (whole s laid)) (netIn (whole f parts)) → placedIn sheet figure r ≡ smallest (netIn sheet) (netIn figure)
 placed-whole sheet figure laid parts os of s f d e r h =
     let counts : placedIn sheet figure r ≡ placedIn (whole s laid) (whole f parts) r = rw (d, e) refl in

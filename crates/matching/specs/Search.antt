@@ -8,7 +8,7 @@ use mathlib.Core.Option.{Option, none, some}
 use lib.Dec.{eqb}
 use lib.ListN.{take, getD}
 use Rattle.rows.specs.Pick.{pick}
-use Rattle.sheet.specs.declared.normal.Normal as form
+use Rattle.rows.specs.declared.Sheet as form
 use Rattle.placing.specs.Net.{Net}
 use Rattle.placing.specs.Placing.{Placing}
 use Rattle.network.specs.NetIn.{netIn}
@@ -29,14 +29,14 @@ abbrev pub searchFrom : Net → Net → List ℕ → Option (List ℕ)
 searchFrom S F pre = behind pre (leastAfter S F pre)
 
 -- what a search found, as one list
-abbrev pub foundList : form.Normal → form.Normal → Found → List ℕ
+abbrev pub foundList : form.Sheet → form.Sheet → Found → List ℕ
 foundList sheet figure r = take (figure .«atom_count») (r .«atoms_to») ++ (take (figure .«class_count») (r .«links_to») ++ take (sheet .«atom_count») (r .given))
 
-abbrev pub foundIn : form.Normal → form.Normal → Found → Option (List ℕ)
+abbrev pub foundIn : form.Sheet → form.Sheet → Found → Option (List ℕ)
 foundIn sheet figure r = pick (r .ok) (some (foundList sheet figure r)) none
 
 -- what a search found, as a placing
-abbrev pub placedIn : form.Normal → form.Normal → Found → Option Placing
+abbrev pub placedIn : form.Sheet → form.Sheet → Found → Option Placing
 placedIn sheet figure r =
     pick (r .ok) (some (record { atomsTo = take (figure .«atom_count») (r .«atoms_to»); linksTo = take (figure .«class_count») (r .«links_to»); given = take (sheet .«atom_count») (r .given) })) none
 
@@ -53,16 +53,16 @@ abbrev pub Only : List ℕ → ℕ → ℕ → ℕ → Type 0
 Only atoms k n r = (r ≤ n) × (r ≢ 0 → (t : ℕ) → t < n → mayIn atoms k t ≡ true → suc t ≡ r)
 
 -- every good placing that begins so stays in the sets
-abbrev pub KeepsIn : form.Normal → form.Normal → (pre atoms links : List ℕ) → Type 0
+abbrev pub KeepsIn : form.Sheet → form.Sheet → (pre atoms links : List ℕ) → Type 0
 KeepsIn sheet figure pre atoms links = Keeps (netIn sheet) (netIn figure) pre (mayAtom atoms) (mayLink links)
 
 -- and there is none where that is known
-pub record Kept (sheet figure : form.Normal) (pre atoms links : List ℕ) (lost : Bool) : Type 0 where
+pub record Kept (sheet figure : form.Sheet) (pre atoms links : List ℕ) (lost : Bool) : Type 0 where
   pub keeps : KeepsIn sheet figure pre atoms links
   pub none : lost ≡ true → ¬ Begun (netIn sheet) (netIn figure) pre
 
 -- The first r figure atoms are placed, where k were: the sets are kept, and the smallest good placing is the same.
-pub record Onward (sheet figure : form.Normal) (atoms links : List ℕ) (k : ℕ) (chosen : List ℕ) (r : ℕ) (placed : List ℕ) : Type 0 where
+pub record Onward (sheet figure : form.Sheet) (atoms links : List ℕ) (k : ℕ) (chosen : List ℕ) (r : ℕ) (placed : List ℕ) : Type 0 where
   pub atoms-in : AtomsIn sheet r placed
   pub keeps : KeepsIn sheet figure (take r placed) atoms links
   pub same : searchFrom (netIn sheet) (netIn figure) (take r placed) ≡ searchFrom (netIn sheet) (netIn figure) (take k chosen)
@@ -71,5 +71,5 @@ pub record Onward (sheet figure : form.Normal) (atoms links : List ℕ) (k : ℕ
 pub record Forward (atoms : List ℕ) (n m k : ℕ) (chosen : List ℕ) (r : ℕ) (placed : List ℕ) : Type 0 where
   pub after : k ≤ r
   pub within : r ≤ m
-  pub onward : (sheet figure : form.Normal) (links : List ℕ) → Ready sheet figure → sheet .«atom_count» ≡ n → figure .«atom_count» ≡ m → AtomsIn sheet k chosen → KeepsIn sheet figure (take k chosen) atoms links
+  pub onward : (sheet figure : form.Sheet) (links : List ℕ) → Ready sheet figure → sheet .«atom_count» ≡ n → figure .«atom_count» ≡ m → AtomsIn sheet k chosen → KeepsIn sheet figure (take k chosen) atoms links
       → Onward sheet figure atoms links k chosen r placed

@@ -5,7 +5,7 @@ use mathlib.Core.List.{List}
 use native.Mathlib.Omega.{arith}
 use lib.ListN.{getD}
 use Rattle.rows.specs.declared.Atom.{Atom}
-use Rattle.sheet.specs.declared.normal.Normal.{Normal as NormalForm}
+use Rattle.rows.specs.declared.Sheet.{Sheet as NormalForm}
 use Rattle.network.specs.NetIn.{atomAt}
 use Rattle.candidates.specs.Laid.{laidAtom, LaidOut, linkOf}
 use Rattle.candidates.specs.Tables.{AtomsStay, LinksStay}

@@ -4,7 +4,7 @@ use mathlib.Core.Path.{_≡_}
 use mathlib.Core.List.{List}
 use Rattle.rows.specs.Limits.{sheetLinks}
 use Rattle.rows.specs.declared.Atom.{Atom}
-use Rattle.sheet.specs.declared.normal.Normal.{Normal as NormalForm}
+use Rattle.rows.specs.declared.Sheet.{Sheet as NormalForm}
 use Rattle.placing.specs.Placing.{Placing, Good}
 use Rattle.network.specs.NetIn.{netIn}
 use Rattle.candidates.specs.Sets.{Obeys}

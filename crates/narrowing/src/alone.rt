@@ -16,11 +16,13 @@ fn holders(m: usize, row: u64, atoms: &[u64; Sheet::ATOMS]) -> u64
     requires { ⌜ m ≤ sheetAtoms ⌝ }
 {
     let mut set = 0u64;
+    let mut bit = 1u64;
     let mut j = 0;
     while j < m {
         if atoms[j] & row != 0 {
-            set = set | one(j);
+            set = set | bit;
         }
+        bit = bit << 1;
         j += 1;
     }
     set

@@ -5,8 +5,8 @@ use candidates::LINK_SETS;
 use candidates::pairs::common;
 use candidates::pairs::is_empty;
 use candidates::pairs::pair_at;
-use candidates::pairs::put;
 use candidates::pairs::set_pair;
+use candidates::pairs::with;
 use candidates::pairs::without;
 use candidates::words::first;
 use candidates::words::minus;
@@ -50,7 +50,8 @@ fn given(laid: &[u16; LAID], n: usize, row: u64, k: usize) -> [u64; 2]
         if t < n {
             let y = link_at(laid, t, k);
             if y != 0 {
-                put(&mut pair, y - 1);
+                let more = with(pair, y - 1);
+                pair = more;
             }
         }
     }
@@ -78,7 +79,8 @@ fn missing<'a>(
             let y = link_at(laid, t, k);
             if y != 0 {
                 if users[k * Sheet::LINKS + (y - 1)] & row == 0 {
-                    put(&mut pair, y - 1);
+                    let more = with(pair, y - 1);
+                    pair = more;
                 }
             }
         }
@@ -120,7 +122,8 @@ fn note_loss(
     if !is_empty(loss) {
         lost[x * 2] = lost[x * 2] | loss[0];
         lost[x * 2 + 1] = lost[x * 2 + 1] | loss[1];
-        put(pending, x);
+        let more = with(*pending, x);
+        *pending = more;
     }
 }
 

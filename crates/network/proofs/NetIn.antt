@@ -7,12 +7,12 @@ use lib.ListN.{length, getD, take, length-map, length-take, List·getD-map}
 use lib.Seq.{getD-take, length-take-le}
 use Rattle.hyperlmntal.specs.Link.{_∈_}
 use Rattle.rows.specs.declared.Context.{Context}
-use Rattle.sheet.specs.declared.normal.Normal as form
+use Rattle.rows.specs.declared.Sheet as form
 use Rattle.placing.specs.Net.{NetCell, Range}
 use Rattle.placing.specs.Placing.{cellAt}
 use Rattle.placing.proofs.Lists.{member-at, getD-of}
 use Rattle.network.specs.NetIn.{atomIn, contextIn, paired, netIn, atomAt, contextAt, Used, Fit, Ports, ContextsIn}
-use Rattle.sheet.proofs.normal.Merging.{getD-in}
+use Rattle.reading.proofs.normal.Merging.{getD-in}
 
 -- The pairs of two lists.
 pub paired-length : (l m : List ℕ) → length l ≡ length m → length (paired l m) ≡ length l
@@ -44,7 +44,7 @@ module _ (n count : ℕ) (links : List ℕ) (u : Used n count links) where
   pub used-in : (k : ℕ) → k < count → getD links k 0 ∈ take count links
   used-in k h = subst (λ (y : ℕ). y ∈ take count links) (used-at k h) (getD-in (take count links) k 0 (omega (arith, used-length)))
 
-module _ (n : form.Normal) (f : Fit n) where
+module _ (n : form.Sheet) (f : Fit n) where
   pub atoms-length : length (netIn n .atoms) ≡ n .«atom_count»
   atoms-length = length-map (take (n .«atom_count») (n .atoms)) atomIn ∙ length-take-le (n .«atom_count») (n .atoms) (omega (arith, f .atom-count, f .atom-room))
 
@@ -113,7 +113,7 @@ module _ (n : form.Normal) (f : Fit n) where
       (t .0, h, sym (mark-at (t .0) h) ∙ getD-of (netIn n .marks) (t .0) (0, 0) e (t .2))
 
 -- What holds of a net's contexts and links holds of those that were read, and back.
-module _ {net : form.Normal} {contexts : List Context} {rows links : ℕ} (c : ContextsIn net contexts rows links) (P : List Context → ℕ → ℕ → Type 0) where
+module _ {net : form.Sheet} {contexts : List Context} {rows links : ℕ} (c : ContextsIn net contexts rows links) (P : List Context → ℕ → ℕ → Type 0) where
   pub of-net : P (net .contexts) (net .«context_count») (net .«class_count») → P contexts rows links
   of-net p = subst (P contexts rows) (c .link-count) (subst (λ (n : ℕ). P contexts n (net .«class_count»)) (c .row-count)
       (subst (λ (l : List Context). P l (net .«context_count») (net .«class_count»)) (c .same-contexts) p))
@@ -122,5 +122,5 @@ module _ {net : form.Normal} {contexts : List Context} {rows links : ℕ} (c : C
   to-net p = subst (λ (l : List Context). P l (net .«context_count») (net .«class_count»)) (sym (c .same-contexts))
       (subst (λ (n : ℕ). P contexts n (net .«class_count»)) (sym (c .row-count)) (subst (P contexts rows) (sym (c .link-count)) p))
 
-pub ports-of : {net : form.Normal} {contexts : List Context} {rows links : ℕ} → ContextsIn net contexts rows links → Ports contexts rows links
+pub ports-of : {net : form.Sheet} {contexts : List Context} {rows links : ℕ} → ContextsIn net contexts rows links → Ports contexts rows links
 ports-of c = of-net c Ports (record { few = c .fit .context-count; links-few = c .fit .class-count; room = c .fit .context-room; used = c .fit .contexts })

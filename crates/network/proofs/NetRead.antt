@@ -17,24 +17,24 @@ use Rattle.rows.specs.Held.{Held, indexOf}
 use Rattle.rows.specs.Packed.{padded, noAtom, noContext}
 use Rattle.rows.proofs.Padding.{length-padded, take-padded}
 use Rattle.sheet.specs.Kinds.{isList, linkLimit}
-use Rattle.sheet.specs.Graph.{graphOf}
-use Rattle.sheet.specs.Agrees.{Agrees}
+use Rattle.reading.specs.Graph.{graphOf}
+use Rattle.reading.specs.Agrees.{Agrees}
 use Rattle.sheet.specs.Reading.{outcomeOf}
-use Rattle.sheet.specs.Normal.{classOf, markNode, marksOf, shown, distinct, classesBy, numberBy, numberedBy, markedBy, normalFormBy, normalForm}
-use Rattle.sheet.specs.NormalSheet.{numberIn, normalAtom, normalContext, normalMarks, packedNormal}
-use Rattle.sheet.specs.NormalRows.{pastAtoms, pastContexts}
+use Rattle.reading.specs.Normal.{classOf, markNode, marksOf, shown, distinct, classesBy, numberBy, numberedBy, markedBy, normalFormBy, normalForm}
+use Rattle.reading.specs.NormalSheet.{numberIn, normalAtom, normalContext, normalMarks, packedNormal}
+use Rattle.normalising.specs.NormalRows.{pastAtoms, pastContexts}
 use Rattle.sheet.specs.declared.kind.Kind.{Kind}
 use Rattle.sheet.specs.declared.kind.Kind.the-variants.{Plain, Pattern, Figure, Replacement, Fillings}
-use Rattle.sheet.proofs.normal.Merging.{at-indexOf, getD-in}
-use Rattle.sheet.proofs.normal.Distinct.{index-below, distinct-in, distinct-of, distinct-once, once-length}
+use Rattle.reading.proofs.normal.Merging.{at-indexOf, getD-in}
+use Rattle.reading.proofs.normal.Distinct.{index-below, distinct-in, distinct-of, distinct-once, once-length}
 use Rattle.sheet.proofs.read.Ranges.{AtomRange, ContextRange, WithinLimits}
 use Rattle.sheet.proofs.read.HeldLimits.{held-within}
 use Rattle.sheet.proofs.read.Room.{limits-most}
-use Rattle.sheet.proofs.normal.Connected.{atom-port, context-port, agrees-read}
-use Rattle.sheet.proofs.normal.NormalNodes.{form-ports}
-use Rattle.sheet.proofs.normal.NormalBy.{port-shown, mark-shown}
-use Rattle.sheet.proofs.normal.NormalBounds.{classCount, number-range, normal-range, text-links}
-use Rattle.sheet.proofs.normal_text.NormalWritten.{mapped-at, taken-padded, number, used-links, atom-at, context-at, marked-at, atom-range, context-range, atom-room, context-room, links-known, few-marks}
+use Rattle.reading.proofs.normal.Connected.{atom-port, context-port, agrees-read}
+use Rattle.reading.proofs.normal.NormalNodes.{form-ports}
+use Rattle.reading.proofs.normal.NormalBy.{port-shown, mark-shown}
+use Rattle.reading.proofs.normal.NormalBounds.{classCount, number-range, normal-range, text-links}
+use Rattle.normalising.proofs.normal_text.NormalWritten.{mapped-at, taken-padded, number, used-links, atom-at, context-at, marked-at, atom-range, context-range, atom-room, context-room, links-known, few-marks}
 use Rattle.texts.proofs.NormalFits.{every-member, upTo, upTo-length, upTo-in}
 use Rattle.placing.specs.Net.{NetCell, Net, Range, standing, edgeNumbers, normalNet, Normal}
 use Rattle.placing.proofs.NormalNets.{standing-node, node-standing, atomNumbers, contextNumbers, linkNumber, normal-graph, normal-atoms, normal-contexts, normal-net}

@@ -7,7 +7,7 @@ use Rattle.rows.specs.Format.{mostLinks}
 use Rattle.rows.specs.Limits.{sheetAtoms, sheetLinks, sheetMarks, figureContexts}
 use Rattle.rows.specs.declared.Atom.{Atom}
 use Rattle.rows.specs.declared.Context.{Context}
-use Rattle.sheet.specs.declared.normal.Normal as form
+use Rattle.rows.specs.declared.Sheet as form
 use Rattle.placing.specs.Net.{NetCell, Net, Range}
 
 abbrev pub atomIn : Atom → NetCell
@@ -23,7 +23,7 @@ paired (x ∷ l) [] = []
 paired (x ∷ l) (y ∷ m) = (x, y) ∷ paired l m
 
 -- the parts of each array that are used; a mark stands behind its link
-abbrev pub netIn : form.Normal → Net
+abbrev pub netIn : form.Sheet → Net
 netIn n =
     record {
       atoms = map atomIn (take (n .«atom_count») (n .atoms));
@@ -33,13 +33,13 @@ netIn n =
     }
 
 -- what code reads at an index from 0; past an array's end the logic reads zeros and an empty list
-abbrev pub atomAt : form.Normal → ℕ → Atom
+abbrev pub atomAt : form.Sheet → ℕ → Atom
 atomAt n i = getD (n .atoms) i (record { name = 0; count = 0; links = [] })
 
 abbrev pub rowAt : List Context → ℕ → Context
 rowAt contexts i = getD contexts i (record { number = 0; count = 0; links = []; row = 0 })
 
-abbrev pub contextAt : form.Normal → ℕ → Context
+abbrev pub contextAt : form.Sheet → ℕ → Context
 contextAt n i = rowAt (n .contexts) i
 
 -- The first `count` of these links are numbers of links, of which there are n.
@@ -49,7 +49,7 @@ pub record Used (n count : ℕ) (links : List ℕ) : Type 0 where
   pub numbered : (k : ℕ) → k < count → Range n (getD links k 0)
 
 -- The counts are within the limits of a sheet and the room of the arrays, and the links that are used are numbers of links.
-pub record Fit (n : form.Normal) : Type 0 where
+pub record Fit (n : form.Sheet) : Type 0 where
   pub atom-count : n .«atom_count» ≤ sheetAtoms
   pub context-count : n .«context_count» ≤ figureContexts
   pub mark-count : n .«mark_count» ≤ sheetMarks
@@ -70,7 +70,7 @@ pub record Ports (contexts : List Context) (rows links : ℕ) : Type 0 where
   pub used : (i : ℕ) → i < rows → Used links (rowAt contexts i .count) (rowAt contexts i .links)
 
 -- the contexts of a net, and its count of links
-pub record ContextsIn (net : form.Normal) (contexts : List Context) (rows links : ℕ) : Type 0 where
+pub record ContextsIn (net : form.Sheet) (contexts : List Context) (rows links : ℕ) : Type 0 where
   pub fit : Fit net
   pub same-contexts : net .contexts ≡ contexts
   pub row-count : net .«context_count» ≡ rows

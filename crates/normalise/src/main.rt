@@ -10,6 +10,6 @@ fn main() {
     let mut text = [0u8; Sheet::TEXT];
     let n = task_files::read_input(fd, &mut text);
     let mut out = io::buffer();
-    let done = sheet::normalise::normalise_sheet(&text[..n], &mut out);
+    let done = normalising::normalise::normalise_sheet(&text[..n], &mut out);
     task_files::print_normalised(done, &out);
 }

@@ -1,5 +1,5 @@
 // The label of a class, looked up by a link or a mark.
-use rows::take::index_of;
+use linking::take::index_of;
 ghost use mathlib.Core.Path.{_≡_};
 ghost use Rattle.numbering.specs.Numbering.{Labels, MarkLabels, labelIn, markLabelIn};
 

@@ -2,8 +2,8 @@
 use Prim.Native.Nat.{ℕ}
 use mathlib.Core.Path.{_≡_, ap, _∙_}
 use mathlib.Core.Bool.{Bool}
-use Rattle.sheet.specs.declared.normalise.Normalised.{Normalised}
-use Rattle.sheet.specs.NormalText.{normalisedNumber, normalisedInput, normalisedRow, normalisedBytes}
+use Rattle.normalising.specs.declared.normalise.Normalised.{Normalised}
+use Rattle.normalising.specs.NormalText.{normalisedNumber, normalisedInput, normalisedRow, normalisedBytes}
 use Rattle.answers.specs.declared.outcome.Done.{Done}
 use Rattle.answers.specs.Done.{doneNumber, doneInput, doneRow, doneBytes}
 use Rattle.answers.specs.declared.outcome.Compared.{Compared}

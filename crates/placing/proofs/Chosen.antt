@@ -6,7 +6,7 @@ use mathlib.Core.List.{List}
 use mathlib.Core.Option.{some, none}
 use Rattle.hyperlmntal.specs.Congruence.{_≅_}
 use Rattle.hyperlmntal.specs.TermOf.{termOf}
-use Rattle.sheet.specs.Graph.{graphOf, termOfText}
+use Rattle.reading.specs.Graph.{graphOf, termOfText}
 use Rattle.sheet.specs.Reading.{outcomeOf, noPorts}
 use Rattle.sheet.specs.declared.kind.Kind.the-variants.{Plain, Pattern, Fillings}
 use Rattle.sheet.specs.declared.answer.Answer.the-variants.{Passed}

@@ -16,7 +16,7 @@ use Rattle.hyperlmntal.proofs.Flats.{cell-≡}
 use Rattle.hyperlmntal.proofs.Positions.{some-injective}
 use Rattle.hyperlmntal.proofs.Filling.{fillCells-append}
 use Rattle.hyperlmntal.proofs.Slots.{bodyOf, portsOf, entryAt, plugAt, fillFlat-all, fillFlat-slot, fillFlat-outer}
-use Rattle.sheet.specs.Graph.{edgeOf}
+use Rattle.reading.specs.Graph.{edgeOf}
 use Rattle.placing.specs.Net.{NetCell, Net, Range, atomVertex, contextVertex, netGraph}
 use Rattle.placing.specs.Placing.{numberAt}
 use Rattle.placing.specs.Fillings.{Row, pointRow, edgeRow, rowsGraph, Filling, Fits}

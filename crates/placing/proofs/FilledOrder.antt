@@ -11,8 +11,8 @@ use Rattle.hyperlmntal.specs.DenotedSubstitution.{outerNode, plug, entryFor, fi
 use Rattle.rows.specs.Held.{Held}
 use Rattle.rows.specs.declared.Atom.{Atom}
 use Rattle.rows.specs.declared.Context.{Context}
-use Rattle.sheet.specs.Graph.{atomCell, contextCell, graphOf}
-use Rattle.sheet.specs.Normal.{classOf, numberedBy, normalFormBy, normalForm}
+use Rattle.reading.specs.Graph.{atomCell, contextCell, graphOf}
+use Rattle.reading.specs.Normal.{classOf, numberedBy, normalFormBy, normalForm}
 use Rattle.placing.specs.Fillings.{Filling}
 use Rattle.placing.specs.Filled.{flatEntry, spotNode, filledGraph, filledNormal}
 

@@ -18,8 +18,8 @@ use Rattle.hyperlmntal.proofs.Completeness.{isomorphic-congruent}
 use Rattle.hyperlmntal.proofs.Denoting.{termOf-isomorphic}
 use Rattle.hyperlmntal.proofs.ExactPorts.{ExactFlat, exact-names}
 use Rattle.rows.specs.Held.{Held}
-use Rattle.sheet.specs.Graph.{graphOf, termOfText}
-use Rattle.sheet.proofs.normal.TextGraph.{graph-marked}
+use Rattle.reading.specs.Graph.{graphOf, termOfText}
+use Rattle.reading.proofs.normal.TextGraph.{graph-marked}
 use Rattle.texts.proofs.NormalIso.{normal-isomorphic, normal-marked}
 use Rattle.placing.specs.Fillings.{Filling, ExactMarks}
 use Rattle.placing.specs.Holding.{holdingTerm}

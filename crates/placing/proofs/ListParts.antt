@@ -12,8 +12,8 @@ use Rattle.hyperlmntal.specs.Link.{_∈_}
 use Rattle.rows.specs.Pick.{pick}
 use Rattle.rows.specs.Format.{rowWidth}
 use Rattle.rows.specs.Row.{rowOf}
-use Rattle.rows.specs.RowText.{rowBytes}
-use Rattle.rows.proofs.RowBytes.{row-width}
+use Rattle.writing.specs.RowText.{rowBytes}
+use Rattle.writing.proofs.RowBytes.{row-width}
 use Rattle.sheet.specs.Filling.{fromHead, beforeHead, firstFilling, isPassed, fillingOf}
 use Rattle.sheet.specs.Reading.{Outcome, outcomeOf, noPorts}
 use Rattle.sheet.specs.declared.kind.Kind.the-variants.{Fillings}

@@ -15,9 +15,9 @@ use Rattle.hyperlmntal.proofs.Flats.{on-fusions, ends-in}
 use Rattle.hyperlmntal.proofs.FreeNames.{flat-names}
 use Rattle.hyperlmntal.proofs.Denoting.{termOf-names}
 use Rattle.hyperlmntal.proofs.ExactPorts.{ExactFlat}
-use Rattle.sheet.specs.Graph.{fusionOf, edgeOf}
-use Rattle.sheet.proofs.normal.NormalNodes.{ends-of}
-use Rattle.sheet.proofs.normal.TextGraph.{port-of}
+use Rattle.reading.specs.Graph.{fusionOf, edgeOf}
+use Rattle.reading.proofs.normal.NormalNodes.{ends-of}
+use Rattle.reading.proofs.normal.TextGraph.{port-of}
 use Rattle.placing.specs.Net.{NetCell, Net, atomVertex, contextVertex, netGraph}
 use Rattle.placing.specs.Fillings.{Row, symbolRow, pointRow, edgeRow, rowsGraph, Filling, ExactMarks, Fits}
 use Rattle.placing.specs.Holding.{marksFrom, entryOf, substitutionOf}

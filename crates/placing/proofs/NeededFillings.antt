@@ -12,7 +12,7 @@ use Rattle.hyperlmntal.specs.TermOf.{termOf}
 use Rattle.hyperlmntal.specs.GraphSubstitution.{sameFunctor}
 use Rattle.hyperlmntal.specs.DenotedSubstitution.{connect}
 use Rattle.rows.specs.Held.{indexOf}
-use Rattle.sheet.specs.Normal.{normalForm, normalFormBy, classOf, classesBy, numberBy, marksAmong, inserted, distinct, others}
+use Rattle.reading.specs.Normal.{normalForm, normalFormBy, classOf, classesBy, numberBy, marksAmong, inserted, distinct, others}
 use Rattle.placing.specs.Net.{NetCell, Net, Range, withLinkCount, netGraph, netTerm, NormalSheet, NormalPattern}
 use Rattle.placing.specs.Placing.{Placing, Good}
 use Rattle.placing.specs.Fillings.{edgeRow, Filling, ExactMarks, Fits, placesOf, withContext, byNumber}

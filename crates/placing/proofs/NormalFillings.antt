@@ -11,10 +11,10 @@ use Rattle.hyperlmntal.specs.Hypergraph.{Node, inner, name, Cell, Flat, nodes, 
 use Rattle.hyperlmntal.specs.TermOf.{termOf}
 use Rattle.hyperlmntal.proofs.Flats.{flat-≡, cell-≡, on-atoms, on-fusions, ends-in}
 use Rattle.hyperlmntal.proofs.Theorems.{fillings-congruent}
-use Rattle.sheet.specs.Graph.{edgeOf}
-use Rattle.sheet.specs.Normal.{classOf, marksOf, numberBy, markedBy, normalFormBy, normalForm}
-use Rattle.sheet.specs.NormalText.{nodeNumber}
-use Rattle.sheet.proofs.normal.NormalBounds.{normal-range}
+use Rattle.reading.specs.Graph.{edgeOf}
+use Rattle.reading.specs.Normal.{classOf, marksOf, numberBy, markedBy, normalFormBy, normalForm}
+use Rattle.normalising.specs.NormalText.{nodeNumber}
+use Rattle.reading.proofs.normal.NormalBounds.{normal-range}
 use Rattle.texts.proofs.NormalIso.{normal-names, normal-congruent}
 use Rattle.placing.specs.Net.{NetCell, Net, Range, atomsAmong, edgeNumbers, netOf, atomVertex}
 use Rattle.placing.specs.Fillings.{Row, edgeRow, rowLinks, rowsGraph, rowsTerm, Filling, ExactMarks, Fits, symbolOf, markOf, normalRows, normalFilling}

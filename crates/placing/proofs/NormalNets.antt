@@ -15,15 +15,15 @@ use Rattle.rows.specs.Pick.{pick}
 use Rattle.rows.specs.Held.{Held, indexOf}
 use Rattle.rows.specs.declared.Atom.{Atom}
 use Rattle.rows.specs.declared.Context.{Context}
-use Rattle.sheet.specs.Graph.{atomCell, contextCell, edgeOf, graphOf}
-use Rattle.sheet.specs.Normal.{classOf, markNode, marksOf, shown, distinct, classesBy, numberBy, numberedBy, markedBy, normalFormBy, normalForm}
-use Rattle.sheet.specs.NormalText.{nodeNumber}
-use Rattle.sheet.proofs.normal.Distinct.{Once, distinct-of, distinct-once}
-use Rattle.sheet.proofs.normal.NormalNodes.{form-ports}
-use Rattle.sheet.proofs.normal.NormalBounds.{classCount, normal-range}
+use Rattle.reading.specs.Graph.{atomCell, contextCell, edgeOf, graphOf}
+use Rattle.reading.specs.Normal.{classOf, markNode, marksOf, shown, distinct, classesBy, numberBy, numberedBy, markedBy, normalFormBy, normalForm}
+use Rattle.normalising.specs.NormalText.{nodeNumber}
+use Rattle.reading.proofs.normal.Distinct.{Once, distinct-of, distinct-once}
+use Rattle.reading.proofs.normal.NormalNodes.{form-ports}
+use Rattle.reading.proofs.normal.NormalBounds.{classCount, normal-range}
 use Rattle.placing.specs.Net.{NetCell, Net, Range, cellLinks, markLinks, standing, greatest, atomsAmong, contextsAmong, edgeNumbers, normalNet, atomVertex, contextVertex, netGraph, Normal}
 use Rattle.placing.proofs.Standing.{of-marks}
-use Rattle.sheet.proofs.normal.Merging.{getD-in}
+use Rattle.reading.proofs.normal.Merging.{getD-in}
 
 -- The links that stand in a net are the local links of its hypergraph.
 pub atom-nodes : (l : List NetCell) → portNodes (map atomVertex l) ≡ map inner (cellLinks l)

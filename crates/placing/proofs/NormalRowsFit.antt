@@ -11,11 +11,11 @@ use Rattle.hyperlmntal.proofs.Connection.{connected-≡}
 use Rattle.rows.specs.Format.{mostLinks}
 use Rattle.rows.specs.Limits.{fillingLinks}
 use Rattle.rows.proofs.RowRange.{Within}
-use Rattle.sheet.specs.Normal.{classOf, markNode, marksOf, shown, numberBy, markedBy, normalFormBy, normalForm}
-use Rattle.sheet.specs.NormalText.{nodeNumber}
-use Rattle.sheet.proofs.normal.Distinct.{once-length}
-use Rattle.sheet.proofs.normal.Marks.{marks-of}
-use Rattle.sheet.proofs.normal.NormalBounds.{classCount, number-range, classes-bound, normal-marks}
+use Rattle.reading.specs.Normal.{classOf, markNode, marksOf, shown, numberBy, markedBy, normalFormBy, normalForm}
+use Rattle.normalising.specs.NormalText.{nodeNumber}
+use Rattle.reading.proofs.normal.Distinct.{once-length}
+use Rattle.reading.proofs.normal.Marks.{marks-of}
+use Rattle.reading.proofs.normal.NormalBounds.{classCount, number-range, classes-bound, normal-marks}
 use Rattle.texts.proofs.NormalFits.{upTo, upTo-length, upTo-in, upTo-of}
 use Rattle.placing.specs.Net.{NetCell, Net, Range, atomsAmong, edgeNumbers, netOf, atomVertex, cellLinks}
 use Rattle.placing.specs.Fillings.{Row, symbolRow, pointRow, edgeRow, rowLinks, rowsGraph, Filling, ExactMarks, symbolOf, markOf, normalRows, normalFilling}

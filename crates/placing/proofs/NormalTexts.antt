@@ -17,7 +17,7 @@ use Rattle.rows.specs.Format.{rowWidth}
 use Rattle.rows.specs.declared.Context.{Context}
 use Rattle.rows.proofs.Bools.{not-false}
 use Rattle.rows.proofs.RowRange.{good-letter}
-use Rattle.rows.proofs.Wired.{row-by}
+use Rattle.linking.proofs.Wired.{row-by}
 use Rattle.sheet.specs.Kinds.{isList}
 use Rattle.sheet.specs.Reading.{outcomeOf, strange, clashes, clashOf}
 use Rattle.sheet.specs.declared.kind.Kind.{Kind}

@@ -14,7 +14,7 @@ use Rattle.hyperlmntal.specs.Link.{_∈_}
 use Rattle.hyperlmntal.proofs.Lists.{Perm, empty, keep, after, perm-front}
 use Rattle.hyperlmntal.proofs.Positions.{some-injective}
 use Rattle.rows.specs.Pick.{pick}
-use Rattle.sheet.proofs.normal.Distinct.{Once}
+use Rattle.reading.proofs.normal.Distinct.{Once}
 use Rattle.placing.specs.Net.{NetCell, Range, Apart}
 use Rattle.placing.specs.Fillings.{placesOf, withContext, byNumber}
 use Rattle.placing.proofs.Lists.{table, member-at, at-member, getD-of}

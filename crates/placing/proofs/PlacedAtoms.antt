@@ -14,7 +14,7 @@ use Rattle.hyperlmntal.proofs.Connection.{connected-≡, recast}
 use Rattle.hyperlmntal.proofs.Relational.{Alike, Match, Via, iso-by}
 use Rattle.hyperlmntal.proofs.Equivalence.{SameNames, isomorphic-of-iso}
 use Rattle.hyperlmntal.proofs.ExactPorts.{exact-names}
-use Rattle.sheet.proofs.normal.Distinct.{Once}
+use Rattle.reading.proofs.normal.Distinct.{Once}
 use Rattle.placing.specs.Net.{NetCell, Net, Range, atomVertex, contextVertex, netGraph, Apart}
 use Rattle.placing.specs.Placing.{Placing, cellAt, atomTo, linkTo, givenTo, Taken, Across, PortAt, Inside}
 use Rattle.placing.specs.Fillings.{placesOf}
@@ -27,7 +27,7 @@ use Rattle.placing.proofs.Standing.{atom-link, context-link, cell-in, p
 use Rattle.placing.proofs.Orders.{upTo, up-to-in, up-to-out, count-once, places-in, places-out, places-once, once-append, once-perm, once-by-place}
 use Rattle.placing.proofs.FillingsFit.{filling-symbols, stands-there, rows-found}
 use Rattle.placing.proofs.PlacingFillings.{Placed, θ, fit, H, K, slot-of, one-slot, port-there, Hit, Touched, hit-dec, taken-dec, touched-dec, given-slot, homeOf, onSheet, onFigure, hit-home, onward, backward}
-use Rattle.sheet.proofs.normal.Merging.{getD-in}
+use Rattle.reading.proofs.normal.Merging.{getD-in}
 
 -- A list by its places from s on.
 places-whole : (L l : List NetCell) (s : ℕ) → ((i : ℕ) → getD L (s + i) (0, []) ≡ getD l i (0, [])) → map (cellAt L) (table (λ j. j) (suc s) (length l)) ≡ l

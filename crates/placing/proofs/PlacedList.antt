@@ -13,7 +13,7 @@ use Rattle.rows.specs.Pick.{pick}
 use Rattle.rows.specs.Format.{mostLinks}
 use Rattle.rows.specs.Limits.{sheetAtoms, sheetLinks}
 use Rattle.rows.proofs.RowRange.{Within}
-use Rattle.sheet.proofs.normal.Distinct.{Once, once-length}
+use Rattle.reading.proofs.normal.Distinct.{Once, once-length}
 use Rattle.texts.proofs.NormalFits.{upTo, upTo-length, upTo-in}
 use Rattle.placing.specs.Net.{NetCell, Net, Apart, NormalSheet, NormalPattern}
 use Rattle.placing.specs.Placing.{Placing, Good, cellAt, numberAt}

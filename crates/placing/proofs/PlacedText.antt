@@ -12,18 +12,18 @@ use Rattle.rows.specs.Held.{Held}
 use Rattle.rows.specs.declared.Atom.{Atom}
 use Rattle.rows.specs.declared.Context.{Context}
 use Rattle.rows.proofs.RowRange.{Within}
-use Rattle.sheet.specs.Graph.{graphOf}
-use Rattle.sheet.specs.Agrees.{Agrees}
+use Rattle.reading.specs.Graph.{graphOf}
+use Rattle.reading.specs.Agrees.{Agrees}
 use Rattle.sheet.specs.Filling.{fillingOf}
 use Rattle.sheet.specs.Reading.{outcomeOf, noPorts}
 use Rattle.sheet.specs.declared.kind.Kind.the-variants.{Plain, Pattern, Fillings}
 use Rattle.sheet.specs.declared.answer.Answer.the-variants.{Passed}
 use Rattle.sheet.proofs.read.Ranges.{AtomRange, ContextRange}
 use Rattle.sheet.proofs.read.HeldLimits.{held-within}
-use Rattle.sheet.proofs.normal.Connected.{agrees-read, atom-links, context-links, edge-links}
-use Rattle.sheet.proofs.normal.TextGraph.{Linked}
-use Rattle.sheet.proofs.normal.NormalBounds.{normal-range, text-links}
-use Rattle.sheet.proofs.normal.Merging.{among-in}
+use Rattle.reading.proofs.normal.Connected.{agrees-read, atom-links, context-links, edge-links}
+use Rattle.reading.proofs.normal.TextGraph.{Linked}
+use Rattle.reading.proofs.normal.NormalBounds.{normal-range, text-links}
+use Rattle.reading.proofs.normal.Merging.{among-in}
 use Rattle.placing.specs.Net.{NetCell, Net, Range, standing, normalNet}
 use Rattle.placing.specs.Placing.{Placing, Good}
 use Rattle.placing.specs.Fillings.{Row, symbolRow, pointRow, edgeRow, Filling, Fits, normalFillingsOf}

@@ -10,7 +10,7 @@ use Rattle.hyperlmntal.specs.Hypergraph.{Node, inner, name, Fusion, Connected, 
 use Rattle.hyperlmntal.specs.DenotedSubstitution.{Spot, outer, within}
 use Rattle.hyperlmntal.proofs.Connection.{connected-≡, recast}
 use Rattle.hyperlmntal.proofs.TellApart.{some-dec}
-use Rattle.sheet.specs.Graph.{edgeOf}
+use Rattle.reading.specs.Graph.{edgeOf}
 use Rattle.placing.specs.Net.{NetCell, Net, Range, netGraph, Normal, Apart}
 use Rattle.placing.specs.Placing.{Placing, numberAt, cellAt, atomTo, linkTo, givenTo, Taken, Linked, here, step, Good}
 use Rattle.placing.specs.Fillings.{Filling, pointRow, edgeRow, Fits, standsOn, fillingFor, fillingsOf}

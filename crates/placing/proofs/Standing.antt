@@ -8,11 +8,11 @@ use lib.ListN.{length, getD}
 use Rattle.hyperlmntal.specs.Link.{free, _∈_}
 use Rattle.hyperlmntal.specs.Hypergraph.{Node, inner, name, Fusion, Connected, along, back}
 use Rattle.hyperlmntal.proofs.Connection.{connected-ind, connected-≡, recast}
-use Rattle.sheet.specs.Graph.{edgeOf}
+use Rattle.reading.specs.Graph.{edgeOf}
 use Rattle.placing.specs.Net.{NetCell, Net, Range, cellLinks, markLinks, netGraph, Normal}
 use Rattle.placing.specs.Placing.{numberAt, cellAt}
 use Rattle.placing.proofs.Lists.{member-at, getD-of}
-use Rattle.sheet.proofs.normal.Merging.{getD-in}
+use Rattle.reading.proofs.normal.Merging.{getD-in}
 
 pub in-cells : (l : List NetCell) (c : NetCell) (x : ℕ) → c ∈ l → x ∈ c .1 → x ∈ cellLinks l
 in-cells [] c x m i = absurd (List·Memᴰ·not-nil m)

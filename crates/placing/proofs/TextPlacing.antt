@@ -5,7 +5,7 @@ use Rattle.hyperlmntal.specs.Congruence.{_≅_, ≅-sym, ≅-trans}
 use Rattle.hyperlmntal.specs.TermOf.{termOf}
 use Rattle.hyperlmntal.proofs.Theorems.{substitute-congruent}
 use Rattle.rows.specs.Held.{Held}
-use Rattle.sheet.specs.Graph.{termOfText}
+use Rattle.reading.specs.Graph.{termOfText}
 use Rattle.texts.proofs.NormalIso.{text-normal}
 use Rattle.placing.specs.Net.{normalNet, netTerm}
 use Rattle.placing.specs.Fillings.{Filling, Fits}

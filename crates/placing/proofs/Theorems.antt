@@ -6,7 +6,7 @@ use mathlib.Core.List.{List, map}
 use Rattle.hyperlmntal.specs.Congruence.{_≅_, ≅-sym, ≅-trans}
 use Rattle.hyperlmntal.specs.TermOf.{termOf}
 use Rattle.rows.specs.Held.{Held}
-use Rattle.sheet.specs.Graph.{graphOf, termOfText}
+use Rattle.reading.specs.Graph.{graphOf, termOfText}
 use Rattle.sheet.specs.Reading.{outcomeOf, noPorts}
 use Rattle.sheet.specs.declared.kind.Kind.the-variants.{Plain, Pattern}
 use Rattle.sheet.specs.declared.answer.Answer.the-variants.{Passed}

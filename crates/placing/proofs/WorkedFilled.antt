@@ -6,7 +6,7 @@ use Rattle.hyperlmntal.specs.Link.{_≟_}
 use Rattle.hyperlmntal.specs.GraphSubstitution.{sameFunctor}
 use Rattle.hyperlmntal.specs.DenotedSubstitution.{connect}
 use Rattle.rows.specs.Held.{indexOf}
-use Rattle.sheet.specs.Normal.{normalForm, normalFormBy, classOf, classesBy, numberBy, marksAmong, inserted, distinct, others}
+use Rattle.reading.specs.Normal.{normalForm, normalFormBy, classOf, classesBy, numberBy, marksAmong, inserted, distinct, others}
 use Rattle.placing.specs.Net.{withLinkCount, netGraph}
 use Rattle.placing.specs.Fillings.{symbolRow, pointRow, edgeRow}
 use Rattle.placing.specs.Filled.{filledNormal}

@@ -8,9 +8,9 @@ use Rattle.hyperlmntal.specs.Link.{_≟_}
 use Rattle.hyperlmntal.specs.GraphSubstitution.{sameFunctor}
 use Rattle.hyperlmntal.specs.DenotedSubstitution.{connect}
 use Rattle.rows.specs.Held.{Held}
-use Rattle.sheet.specs.Graph.{graphOf}
-use Rattle.sheet.specs.Normal.{normalForm, normalFormBy, classOf, classesBy, numberBy, marksAmong, inserted, distinct, others}
-use Rattle.sheet.specs.NormalText.{joined, textOf, normalText}
+use Rattle.reading.specs.Graph.{graphOf}
+use Rattle.reading.specs.Normal.{normalForm, normalFormBy, classOf, classesBy, numberBy, marksAmong, inserted, distinct, others}
+use Rattle.normalising.specs.NormalText.{joined, textOf, normalText}
 use Rattle.sheet.specs.Reading.{outcomeOf, noPorts}
 use Rattle.sheet.specs.declared.kind.Kind.the-variants.{Plain, Pattern}
 use Rattle.sheet.specs.declared.answer.Answer.{Answer}

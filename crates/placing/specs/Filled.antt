@@ -4,7 +4,7 @@ use mathlib.Core.List.{List, map}
 use Rattle.hyperlmntal.specs.GraphSubstitution.{Entry}
 use Rattle.hyperlmntal.specs.Hypergraph.{Node, inner, name, Flat, mapFlat}
 use Rattle.hyperlmntal.specs.DenotedSubstitution.{Spot, outer, within, fillFlat}
-use Rattle.sheet.specs.Normal.{normalForm}
+use Rattle.reading.specs.Normal.{normalForm}
 use Rattle.placing.specs.Fillings.{Filling, rowsGraph}
 use Rattle.placing.specs.Holding.{marksFrom}
 

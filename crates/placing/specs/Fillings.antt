@@ -9,8 +9,8 @@ use Rattle.hyperlmntal.specs.Template.{Template}
 use Rattle.hyperlmntal.specs.Hypergraph.{Flat}
 use Rattle.hyperlmntal.specs.TermOf.{termOf}
 use Rattle.rows.specs.Pick.{pick}
-use Rattle.sheet.specs.Graph.{fusionOf, edgeOf}
-use Rattle.sheet.specs.Normal.{normalForm}
+use Rattle.reading.specs.Graph.{fusionOf, edgeOf}
+use Rattle.reading.specs.Normal.{normalForm}
 use Rattle.placing.specs.Net.{NetCell, Net, Range, atomVertex, netOf}
 use Rattle.placing.specs.Placing.{Placing, cellAt, linkTo}
 

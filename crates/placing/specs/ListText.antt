@@ -2,7 +2,7 @@
 use Prim.Native.Nat.{ℕ}
 use mathlib.Core.List.{List, [], _∷_, _++_}
 use lib.ListN.{length}
-use Rattle.rows.specs.RowText.{rowBytes}
+use Rattle.writing.specs.RowText.{rowBytes}
 use Rattle.placing.specs.Fillings.{Row, symbolRow, pointRow, edgeRow, Filling}
 
 -- an S, F or E row

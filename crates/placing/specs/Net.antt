@@ -8,9 +8,9 @@ use Rattle.hyperlmntal.specs.Template.{Template}
 use Rattle.hyperlmntal.specs.Hypergraph.{inner, Label, symbol, hole, Cell, Fusion, Flat}
 use Rattle.hyperlmntal.specs.TermOf.{termOf}
 use Rattle.rows.specs.Held.{Held}
-use Rattle.sheet.specs.Graph.{graphOf, edgeOf}
-use Rattle.sheet.specs.Normal.{normalForm}
-use Rattle.sheet.specs.NormalText.{nodeNumber}
+use Rattle.reading.specs.Graph.{graphOf, edgeOf}
+use Rattle.reading.specs.Normal.{normalForm}
+use Rattle.normalising.specs.NormalText.{nodeNumber}
 
 -- an atom (document 01's symbol) or a context (its blank): its name or number, and its links (its joints) place by place
 abbrev pub NetCell : Type 0

@@ -3,9 +3,9 @@
 // replacement is read against the pattern before it.
 use answers::refusal_number;
 use libc::STDOUT_FILENO;
+use reading::read::Reading;
 use rows::Sheet;
 use sheet::answer::Answer;
-use sheet::read::Reading;
 
 // The name of the file.
 fn print_name(file: usize) {
@@ -37,11 +37,11 @@ fn print_answer(answer: Answer) {
 
 fn read_as(kind: u8, ports: [u16; Sheet::NUMBERS], text: &[u8]) -> Reading {
     match kind {
-        b's' => sheet::read::read_sheet(text),
-        b'p' => sheet::read::read_pattern(text),
-        b'f' => sheet::read::read_figure(text),
-        b'r' => sheet::read::read_replacement(ports, text),
-        _ => sheet::read::read_list(text),
+        b's' => reading::read::read_sheet(text),
+        b'p' => reading::read::read_pattern(text),
+        b'f' => reading::read::read_figure(text),
+        b'r' => reading::read::read_replacement(ports, text),
+        _ => reading::read::read_list(text),
     }
 }
 
@@ -63,8 +63,7 @@ fn read_case(kind: usize, file: usize, ports: [u16; Sheet::NUMBERS]) -> [u16; Sh
     if word[0] != b'p' {
         return ports;
     }
-    let sheet = reading.sheet;
-    sheet.ports
+    reading.ports
 }
 
 fn main() {

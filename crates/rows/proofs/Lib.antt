@@ -2,15 +2,8 @@ pub mod Bools
 pub mod RowLaws
 pub mod RowRange
 pub mod LastDigit
-pub mod Wired
 pub mod Lists
 pub mod Padding
-pub mod Arrays
 pub mod Ports
 pub mod Rows
-pub mod RowLinks
-pub mod Hints
-pub mod RowMarks
 pub mod ShortRow
-pub mod TakeRow
-pub mod RowBytes

@@ -1,57 +1,52 @@
--- Steps of loops that look for a number in a list, and that map a list in place.
+-- The place of a number in a list, lists that are mapped in place, and parts of lists that are copied.
 use Prim.Native.Nat.{ℕ, zero, suc, _+_, _<_, _≤_}
 use mathlib.Core.Path.{_≡_, refl, ap, _∙_, sym}
 use mathlib.Core.List.{List, [], _∷_, _++_, map, map-append, append-assoc}
 use mathlib.Core.Bool.{Bool, true, false}
-use mathlib.Core.Logic.{⊎-elim}
-use native.Mathlib.Nat.{add-comm, add-zero, zero-add, eq-or-lt-of-le}
+use native.Mathlib.Nat.{add-comm}
 use native.Mathlib.Numerals.{add-one}
 use native.Mathlib.Omega.{arith}
 use lib.Dec.{eqb}
-use lib.ListN.{length, getD, drop, take, set, length-take, length-drop, length-map, drop-of-length-le, take-append-drop}
-use lib.Seq.{drop-cons, take-suc, take-all, length-take-le, set-at, getD-at, set-getD, take-suc-set, getD-drop, getD-take}
-use borrow.Author.Tests.{eq-eqb, ne-eqb, eqb-true}
+use lib.ListN.{length, getD, drop, take, set, length-take, length-drop, length-map}
+use lib.Seq.{drop-cons, take-suc, take-all, length-take-le, set-at, getD-at, take-suc-set, getD-drop}
+use borrow.Author.Tests.{eq-eqb}
 use Rattle.rows.specs.Pick.{pick}
-use Rattle.rows.specs.Held.{indexOf, relabelled}
-use Rattle.rows.specs.Steps.{Distinct, cleared}
-use Rattle.rows.proofs.Wired.{indexOf-le}
+use Rattle.rows.specs.Held.{indexOf}
+
+-- The place of a number in a list.
+pub indexOf-le : (x : ℕ) (l : List ℕ) → indexOf x l ≤ length l
+unfolding indexOf
+indexOf-le x [] = omega arith
+indexOf-le x (y ∷ l) = go (eqb y x) (indexOf-le x l)
+  where
+    go : (b : Bool) → indexOf x l ≤ length l → pick b 0 (suc (indexOf x l)) ≤ suc (length l)
+    go true h = omega arith
+    go false h = omega arith
+
+-- A number that is in a list has the same place in a longer one.
+pub indexOf-append : (x : ℕ) (l m : List ℕ) → indexOf x l < length l → indexOf x (l ++ m) ≡ indexOf x l
+unfolding indexOf
+indexOf-append x [] m h = absurd (omega arith)
+indexOf-append x (y ∷ l) m h = go (eqb y x) (indexOf-append x l m) h
+  where
+    go : (b : Bool) → (indexOf x l < length l → indexOf x (l ++ m) ≡ indexOf x l) → pick b 0 (suc (indexOf x l)) < suc (length l)
+        → pick b 0 (suc (indexOf x (l ++ m))) ≡ pick b 0 (suc (indexOf x l))
+    go true ih k = refl
+    go false ih k = ap suc (ih (omega arith))
+
+-- A number that is put behind a list without it is found there.
+pub indexOf-added : (x : ℕ) (l : List ℕ) → length l ≤ indexOf x l → indexOf x (l ++ (x ∷ [])) ≡ length l
+unfolding indexOf
+indexOf-added x [] h = rw (eq-eqb x x refl)
+indexOf-added x (y ∷ l) h = go (eqb y x) (indexOf-added x l) h
+  where
+    go : (b : Bool) → (length l ≤ indexOf x l → indexOf x (l ++ (x ∷ [])) ≡ length l) → suc (length l) ≤ pick b 0 (suc (indexOf x l))
+        → pick b 0 (suc (indexOf x (l ++ (x ∷ [])))) ≡ suc (length l)
+    go true ih k = absurd (omega arith)
+    go false ih k = ap suc (ih (omega arith))
 
 pub index-below : (x n : ℕ) (l : List ℕ) → indexOf x (take n l) ≤ n
 index-below x n l = omega (arith, indexOf-le x (take n l), length-take n l)
-
-pub index-end : (l : List ℕ) (x i : ℕ) → length l ≤ i → indexOf x (drop i l) ≡ 0
-unfolding indexOf
-index-end l x i h = rw (drop-of-length-le l h)
-
-module _ (l : List ℕ) (x i : ℕ) (h : i < length l) where
-  pub index-hit : getD l i 0 ≡ x → indexOf x (drop i l) ≡ 0
-  unfolding indexOf
-  index-hit e = rw (drop-cons l i 0 h) (rw (eq-eqb _ _ e))
-
-  pub index-miss : (getD l i 0 ≡ x → ⊥) → indexOf x (drop i l) ≡ suc (indexOf x (drop (i + 1) l))
-  unfolding indexOf
-  index-miss e = rw (drop-cons l i 0 h) (rw (ne-eqb _ _ e) (rw add-one))
-
--- a number at a place of a list in which none stands twice is found there
-pub index-distinct : (n : ℕ) (l : List ℕ) (x p : ℕ) → n ≤ length l → p < n → getD l p 0 ≡ x → Distinct (take n l) → p ≡ indexOf x (take n l)
-index-distinct n l x p fits h e once =
-    let here : getD (take n l) p 0 ≡ x = getD-take n l p 0 h ∙ e in
-    sym (rw here at (once p (rw (length-take-le n l fits) h)))
-
--- x is not among the m numbers from place i on
-abbrev pub Lacks : List ℕ → ℕ → ℕ → ℕ → Type 0
-Lacks l i x m = (k : ℕ) → k < m → getD l (i + k) 0 ≡ x → ⊥
-
-pub lacks-more : (l : List ℕ) (i x m : ℕ) → Lacks l i x m → (getD l (i + m) 0 ≡ x → ⊥) → Lacks l i x (m + 1)
-lacks-more l i x m before here k h = ⊎-elim (λ e. rw e here) (before k) (eq-or-lt-of-le (let q : k ≤ m = omega arith in q))
-
-pub index-lacks : (l : List ℕ) (x i m : ℕ) → i + m ≤ length l → Lacks l i x m → indexOf x (drop i l) ≡ m + indexOf x (drop (i + m) l)
-index-lacks l x i zero h lacks = rw (add-zero i, zero-add (indexOf x (drop i l)))
-index-lacks l x i (suc m) h lacks =
-    let z : i + suc m ≡ i + 1 + m = omega arith in
-    let first : getD l i 0 ≡ x → ⊥ = rw (add-zero i) at (lacks 0 (omega arith)) in
-    let rest = index-lacks l x (i + 1) m (omega arith) (λ k q e. lacks (suc k) (omega arith) (ap (λ (n : ℕ). getD l n 0) (omega arith) ∙ e)) in
-    rw z (omega (arith, index-miss l x i (omega arith) first, rest))
 
 -- an element of a mapped list
 pub getD-mapped : {A B : Type 0} (f : A → B) (l : List A) (k : ℕ) (d : A) (e : B) → k < length l → getD (map f l) k e ≡ f (getD l k d)
@@ -78,35 +73,6 @@ module _ {A : Type 0} (f : A → A) (d : A) (l : List A) (i : ℕ) (h : i < leng
       rw mapped-open (rw (set-at (map f (take i l)) (getD l i d) (drop (i + 1) l) (f (getD l i d)) i front)
       (rw (add-one i) (rw (take-suc l i d h) (rw (map-append f (take i l) (getD l i d ∷ [])) (append-assoc (map f (take i l)) (f (getD l i d) ∷ []) (drop (suc i) l))))))
 
--- one turn of clearing in place
-pub clear-next : (l s : List ℕ) (i : ℕ) → i < length l → s ≡ cleared i l → set s i 0 ≡ cleared (i + 1) l
-clear-next l s i h e = rw e (sym (mapped-next (λ x. 0) 0 l i h))
-
--- one turn of relabelling in place
-module _ (from to : ℕ) (l labels : List ℕ) (i : ℕ) (h : i < length l) (e : labels ≡ mapped (relabelled from to) i l) where
-  here : getD labels i 0 ≡ getD l i 0
-  here = rw e (mapped-at (relabelled from to) 0 l i h)
-
-  pub relabel-hit : getD labels i 0 ≡ from → set labels i to ≡ mapped (relabelled from to) (i + 1) l
-  relabel-hit q = rw (mapped-next (relabelled from to) 0 l i h) (rw (eq-eqb (getD l i 0) from (sym here ∙ q)) (rw e))
-
-  pub relabel-miss : (getD labels i 0 ≡ from → ⊥) → labels ≡ mapped (relabelled from to) (i + 1) l
-  relabel-miss q =
-      rw (mapped-next (relabelled from to) 0 l i h)
-      (rw (ne-eqb (getD l i 0) from (λ k. q (here ∙ k))) (rw (← e) (rw (← here) (sym (set-getD labels i 0)))))
-
--- labels of which one is made itself stay as they are
-relabelled-same : (from to : ℕ) → from ≡ to → (l : List ℕ) → map (relabelled from to) l ≡ l
-relabelled-same from to e [] = refl
-relabelled-same from to e (c ∷ l) = rw (relabelled-same from to e l) (go (eqb c from) refl)
-  where
-    go : (b : Bool) → eqb c from ≡ b → _≡_ {A = List ℕ} (pick b to c ∷ l) (c ∷ l)
-    go true q = rw (eqb-true c from q ∙ e)
-    go false q = refl
-
-pub relabel-none : (from to n : ℕ) (l : List ℕ) → from ≡ to → l ≡ mapped (relabelled from to) n l
-relabel-none from to n l e = rw (relabelled-same from to e (take n l)) (sym (take-append-drop n l))
-
 -- one turn of copying a list from its third element on
 pub copied-next : (links nums : List ℕ) (k : ℕ) → k < length links → k + 2 < length nums → take k links ≡ take k (drop 2 nums)
     → take (k + 1) (set links k (getD nums (k + 2) 0)) ≡ take (k + 1) (drop 2 nums)
@@ -116,3 +82,8 @@ copied-next links nums k h hn e =
 
 pub copied-all : (links nums : List ℕ) (n : ℕ) → length links ≡ n → length nums ≡ 2 + n → take n links ≡ take n (drop 2 nums) → links ≡ drop 2 nums
 copied-all links nums n h hn e = sym (take-all n links (omega arith)) ∙ e ∙ take-all n (drop 2 nums) (simp length-drop (omega arith))
+
+-- the numbers of k fields, and one more
+pub row-link : (nums : List ℕ) (from k : ℕ) → from + k < length nums → take (k + 1) (drop from nums) ≡ take k (drop from nums) ++ (getD nums (from + k) 0 ∷ [])
+row-link nums from k h =
+    rw (add-one k) (rw (take-suc (drop from nums) k 0 (simp length-drop (omega arith))) (rw (getD-drop from nums k 0)))

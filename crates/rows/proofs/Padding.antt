@@ -5,10 +5,9 @@ use mathlib.Core.List.{List, [], _∷_, _++_, map, map-append, append-assoc}
 use native.Mathlib.Decide.{decLt}
 use native.Mathlib.Numerals.{add-one}
 use native.Mathlib.Omega.{arith}
-use lib.ListN.{length, getD, take, set, replicate, length-append, length-replicate, replicate-append-replicate, length-map, List·getD-append, List·getD-eq-default}
+use lib.ListN.{length, getD, take, set, replicate, length-append, length-replicate, length-map, List·getD-append, List·getD-eq-default}
 use lib.Seq.{take-suc, length-take-le, take-append-seam, drop-append-seam, set-append-seam, set-getD, getD-append-add}
 use Rattle.rows.specs.Packed.{padded}
-use Rattle.rows.specs.Steps.{cleared}
 use Rattle.rows.proofs.Lists.{mapped}
 
 pub getD-filled : {A : Type 0} (d : A) (n k : ℕ) → getD (replicate n d) k d ≡ d
@@ -67,14 +66,3 @@ stored-next n f l r k e h room =
     let front : length (map f (take k l)) ≡ k = length-map (take k l) f ∙ length-take-le k l (omega arith) in
     rw e (rw (set-padded n 0 (map f (take k l)) (f (getD l k 0)) k (sym front) (omega arith))
     (rw (add-one k) (rw (take-suc l k 0 h) (rw (map-append f (take k l) (getD l k 0 ∷ []))))))
-
--- a list that is cleared is nothing but padding
-zeros : (l : List ℕ) → map {B = ℕ} (λ x. 0) l ≡ replicate (length l) 0
-zeros [] = refl
-zeros (x ∷ l) = ap (λ (r : List ℕ). 0 ∷ r) (zeros l)
-
-pub cleared-padded : (n : ℕ) (l : List ℕ) (k : ℕ) → k ≡ length l → length l ≤ n → cleared k (padded n 0 l) ≡ padded n 0 []
-unfolding padded
-cleared-padded n l k q h =
-    let e : length l + (n - length l) ≡ n - 0 = omega arith in
-    mapped-padded n 0 l (λ x. 0) k q ∙ rw (length-map {B = ℕ} l (λ x. 0)) (rw (zeros l) (rw (replicate-append-replicate {A = ℕ} (length l) (n - length l) 0) (rw e)))

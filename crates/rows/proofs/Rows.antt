@@ -10,7 +10,7 @@ use borrow.Author.Tests.{eqb-true, eqb-false, ltb-true}
 use Rattle.rows.specs.Pick.{pick, or}
 use Rattle.rows.specs.Format.{mostLinks}
 use Rattle.rows.specs.Packed.{padded, portsOf, portTable}
-use Rattle.rows.specs.Steps.{Ranged, isContext, portsWith}
+use Rattle.rows.specs.Entry.{Ranged, isContext, portsWith}
 use Rattle.rows.specs.declared.Context.{Context}
 use Rattle.rows.specs.declared.row.Row.{Row}
 use Rattle.rows.proofs.Padding.{set-padded, set-padding}

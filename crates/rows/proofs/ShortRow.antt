@@ -16,7 +16,7 @@ use Rattle.rows.specs.declared.row.Rule.{Rule}
 use Rattle.rows.specs.declared.row.Row.{Row}
 use Rattle.rows.proofs.RowLaws.{suits-by, columns, fields-end}
 use Rattle.rows.proofs.RowRange.{nothing-read, later}
-use Rattle.rows.proofs.Arrays.{row-link}
+use Rattle.rows.proofs.Lists.{row-link}
 
 and-true : (b : Bool) → and b true ≡ b
 and-true true = refl

@@ -5,5 +5,4 @@ pub mod Short
 pub mod Limits
 pub mod Held
 pub mod Packed
-pub mod Steps
-pub mod RowText
+pub mod Entry

@@ -1,4 +1,4 @@
--- What a text holds, in the arrays of a `Sheet`: each list in order, and zeros after it.
+-- What a text holds, in arrays: each list in order, and zeros after it.
 use Prim.Native.Nat.{ℕ, suc, _+_, _-_}
 use mathlib.Core.List.{List, [], _∷_, _++_, map}
 use lib.Dec.{eqb}
@@ -20,6 +20,20 @@ noAtom = record { name = 0; count = 0; links = replicate mostLinks 0 }
 abbrev pub noContext : Context
 noContext = record { number = 0; count = 0; links = replicate mostLinks 0; row = 0 }
 
+-- a sheet without rows
+abbrev pub emptySheet : Sheet
+emptySheet =
+    record {
+      atoms = replicate (sheetAtoms + 1) noAtom;
+      «atom_count» = 0;
+      contexts = replicate (figureContexts + 1) noContext;
+      «context_count» = 0;
+      marks = replicate (sheetMarks + 1) 0;
+      marked = replicate (sheetMarks + 1) 0;
+      «mark_count» = 0;
+      «class_count» = 0;
+    }
+
 -- the port count and 1 of the first context with this number, 0 where there is none
 unfoldable pub portsOf : List Context → ℕ → ℕ
 portsOf [] k = 0
@@ -29,8 +43,24 @@ portsOf (c ∷ l) k = pick (eqb (c .number) k) (suc (c .count)) (portsOf l k)
 abbrev pub portTable : List Context → List ℕ
 portTable l = map (portsOf l) (0 ∷ 1 ∷ 2 ∷ 3 ∷ 4 ∷ [])
 
+-- The arrays: atoms; contexts, and for each number its port count and 1; the links in the order in which they first
+-- appear, and their classes; the marks in that order, and the places of their links. In a list of fillings, links and
+-- marks are those of the last filling.
+pub record TextArrays : Type 0 where
+  pub atoms : List Atom
+  pub «atom_count» : ℕ
+  pub contexts : List Context
+  pub «context_count» : ℕ
+  pub ports : List ℕ
+  pub links : List ℕ
+  pub classes : List ℕ
+  pub «link_count» : ℕ
+  pub marks : List ℕ
+  pub marked : List ℕ
+  pub «mark_count» : ℕ
+
 -- each array has room for one row more than its limit
-abbrev pub packed : Held → Sheet
+abbrev pub packed : Held → TextArrays
 packed h =
     record {
       atoms = padded (sheetAtoms + 1) noAtom (h .atoms);

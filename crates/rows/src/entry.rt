@@ -6,7 +6,7 @@ use crate::row::Row;
 ghost use mathlib.Core.Path.{_≡_};
 ghost use Prim.Native.Nat.{_<_};
 ghost use lib.ListN.{drop};
-ghost use Rattle.rows.specs.Steps.{Ranged, isContext, atomBy, contextBy, portsWith, portsBy};
+ghost use Rattle.rows.specs.Entry.{Ranged, isContext, atomBy, contextBy, portsWith, portsBy};
 
 // The links that a symbol or blank row may have; those past its count are 0.
 pub(crate) fn row_links(nums: [u16; Sheet::FIELDS]) -> [u16; Sheet::MOST_LINKS]

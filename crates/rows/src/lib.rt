@@ -1,13 +1,9 @@
-// Rows of 34 bytes: how one is read and written, and what a text holds of its rows.
+// Rows of 34 bytes: how one is read, and what a text holds of its rows.
 pub mod entry;
-pub mod place;
 pub mod row;
-pub mod take;
-pub mod write;
 
 ghost use mathlib.Core.Path.{_≡_};
-ghost use Rattle.rows.specs.Held.{nothing};
-ghost use Rattle.rows.specs.Packed.{noAtom, noContext, packed};
+ghost use Rattle.rows.specs.Packed.{noAtom, noContext, emptySheet};
 
 // A symbol row: an atom with its name and its links, of which `count` are used.
 pub struct Atom {
@@ -52,24 +48,18 @@ impl Context {
     }
 }
 
-// What a text holds. Each array has room for one row more than its limit, since a row is taken in
-// before it is judged. In a list of fillings, links and marks are those of the last filling.
+// A sheet or a figure as it is read: its rows in normal form. The links of atoms and contexts are the numbers of link
+// classes, from 1; the marks ascend, and each has the number of its link class. In a list of fillings, the contexts are
+// its heads. Each array has room for one row more than its limit, since a row is taken in before it is judged.
 pub struct Sheet {
     pub atoms: [Atom; Sheet::ATOM_ROOM],
     pub atom_count: usize,
     pub contexts: [Context; Sheet::CONTEXT_ROOM],
     pub context_count: usize,
-    // For each context number its port count and 1; 0 where no row has that number.
-    pub ports: [u16; Sheet::NUMBERS],
-    // The link numbers in the order in which they first appear.
-    pub links: [u16; Sheet::LINK_ROOM],
-    // The class of each of these links: two have the same number exactly when they are one point.
-    pub classes: [u16; Sheet::LINK_ROOM],
-    pub link_count: usize,
-    // The marks in the order in which they first appear, and the place of each one's link.
     pub marks: [u16; Sheet::MARK_ROOM],
     pub marked: [u16; Sheet::MARK_ROOM],
     pub mark_count: usize,
+    pub class_count: usize,
 }
 
 impl Sheet {
@@ -114,7 +104,7 @@ impl Sheet {
     pub const SLIP: usize = 4096;
 
     pub fn empty() -> Self
-        ensures { λ r. ⌜ r ≡ packed nothing ⌝ }
+        ensures { λ r. ⌜ r ≡ emptySheet ⌝ }
     {
         let atom = Atom::none();
         let context = Context::none();
@@ -125,13 +115,10 @@ impl Sheet {
             atom_count: 0,
             contexts,
             context_count: 0,
-            ports: [0; Sheet::NUMBERS],
-            links: [0; Sheet::LINK_ROOM],
-            classes: [0; Sheet::LINK_ROOM],
-            link_count: 0,
             marks: [0; Sheet::MARK_ROOM],
             marked: [0; Sheet::MARK_ROOM],
             mark_count: 0,
+            class_count: 0,
         }
     }
 }

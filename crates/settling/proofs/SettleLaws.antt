@@ -8,7 +8,7 @@ use native.Mathlib.Omega.{arith}
 use native.Mathlib.Numerals.{add-one}
 use lib.ListN.{length, getD, set, length-set}
 use Rattle.rows.specs.Limits.{sheetLinks}
-use Rattle.sheet.specs.declared.normal.Normal as form
+use Rattle.rows.specs.declared.Sheet as form
 use Rattle.placing.specs.Net.{Net}
 use Rattle.placing.specs.Placing.{Placing}
 use Rattle.network.specs.NetIn.{netIn}
@@ -22,19 +22,19 @@ use Rattle.deciding.proofs.Flagged.{flagged-ascending, flagged-first, flagged-n
 use Rattle.settling.proofs.States.{links-set, state-put, taken-in-same}
 
 -- The links before x are settled.
-pub record SettledTo (sheet figure : form.Normal) (taken to₀ flags₀ to flags : List ℕ) (x : ℕ) : Type 0 where
+pub record SettledTo (sheet figure : form.Sheet) (taken to₀ flags₀ to flags : List ℕ) (x : ℕ) : Type 0 where
   pub links-in : LinksIn sheet figure to
   pub room : length flags ≡ sheetLinks
   pub cleared : (z : ℕ) → z < x → getD flags z 0 ≢ 1
   pub settling : (atoms : List ℕ) → Working sheet figure taken to₀ flags₀ atoms → CompletableIn sheet figure to₀ flags₀ atoms
       → Settling (netIn sheet) (netIn figure) (stateIn figure atoms to₀) (unsettled figure flags₀) (stateIn figure atoms to) (unsettled figure flags)
 
-pub settled-same : {sheet figure : form.Normal} {taken to₀ flags₀ to to′ flags flags′ : List ℕ} {x : ℕ} → to′ ≡ to → flags′ ≡ flags
+pub settled-same : {sheet figure : form.Sheet} {taken to₀ flags₀ to to′ flags flags′ : List ℕ} {x : ℕ} → to′ ≡ to → flags′ ≡ flags
     → SettledTo sheet figure taken to₀ flags₀ to flags x → SettledTo sheet figure taken to₀ flags₀ to′ flags′ x
 settled-same {sheet} {figure} {taken} {to₀} {flags₀} {to} {to′} {flags} {flags′} {x} e f s =
     subst (λ (k : List ℕ). SettledTo sheet figure taken to₀ flags₀ to′ k x) (sym f) (subst (λ (k : List ℕ). SettledTo sheet figure taken to₀ flags₀ k flags x) (sym e) s)
 
-module _ (sheet figure : form.Normal) (ready : Ready sheet figure) (taken to₀ flags₀ : List ℕ) where
+module _ (sheet figure : form.Sheet) (ready : Ready sheet figure) (taken to₀ flags₀ : List ℕ) where
   abbrev S : Net
   S = netIn sheet
 

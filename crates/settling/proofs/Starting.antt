@@ -10,7 +10,7 @@ use lib.ListN.{length, take, getD, length-map}
 use lib.Seq.{getD-take, length-take-le, ext-getD}
 use Rattle.hyperlmntal.specs.Link.{_∈_}
 use Rattle.rows.specs.declared.Atom.{Atom}
-use Rattle.sheet.specs.declared.normal.Normal as form
+use Rattle.rows.specs.declared.Sheet as form
 use Rattle.placing.specs.Net.{NetCell, Net, Range}
 use Rattle.placing.specs.Placing.{Placing, numberAt, cellAt, atomTo, linkTo, Taken, Across, SameMarks, Good}
 use Rattle.placing.proofs.Lists.{member-at, getD-of}
@@ -31,7 +31,7 @@ use Rattle.deciding.proofs.Places.{number-some}
 back : (i n : ℕ) → Range n i → i ≡ suc (i - 1)
 back i n r = omega (arith, r .0)
 
-module _ (sheet figure : form.Normal) (ready : Ready sheet figure) (atoms : List ℕ) (a : AtomsIn sheet (figure .«atom_count») atoms) where
+module _ (sheet figure : form.Sheet) (ready : Ready sheet figure) (atoms : List ℕ) (a : AtomsIn sheet (figure .«atom_count») atoms) where
   abbrev S : Net
   S = netIn sheet
 

@@ -7,7 +7,7 @@ use lib.ListN.{length, take, getD, set, length-set}
 use lib.Seq.{take-set-lt}
 use Rattle.hyperlmntal.specs.Link.{_∈_}
 use Rattle.rows.specs.Limits.{sheetLinks}
-use Rattle.sheet.specs.declared.normal.Normal as form
+use Rattle.rows.specs.declared.Sheet as form
 use Rattle.placing.specs.Net.{Net, Range}
 use Rattle.placing.specs.Placing.{Placing}
 use Rattle.network.specs.NetIn.{netIn}
@@ -26,14 +26,14 @@ use Rattle.deciding.proofs.Sets.{set-cases}
 use Rattle.deciding.proofs.Flagged.{flagged-in, flagged-out, cleared-out, cleared-in}
 
 -- What the links say of the arrays.
-pub links-set : (sheet figure : form.Normal) (to : List ℕ) → LinksIn sheet figure to → (x y : ℕ) → x < figure .«class_count» → figure .«class_count» ≤ sheetLinks → Range (suc (sheet .«class_count»)) y
+pub links-set : (sheet figure : form.Sheet) (to : List ℕ) → LinksIn sheet figure to → (x y : ℕ) → x < figure .«class_count» → figure .«class_count» ≤ sheetLinks → Range (suc (sheet .«class_count»)) y
     → LinksIn sheet figure (set to x y)
 links-set sheet figure to l x y h few r = record {
   room = length-set to x y ∙ l .room;
   within = λ z k. set-cases (Range (suc (sheet .«class_count»))) to x y z (omega (arith, l .room)) (λ e. r) (λ e. l .within z k);
 }
 
-module _ (sheet figure : form.Normal) (to atoms : List ℕ) where
+module _ (sheet figure : form.Sheet) (to atoms : List ℕ) where
   pub state-put : (x y : ℕ) → x < figure .«class_count» → stateIn figure atoms (set to x y) ≡ put (stateIn figure atoms to) (suc x) y
   state-put x y h = ap (λ (l : List ℕ). record { atomsTo = take (figure .«atom_count») atoms; linksTo = l; given = [] })
       (take-set-lt (figure .«class_count») to x y h ∙ ap (λ (i : ℕ). set (take (figure .«class_count») to) i y) (let q : x ≡ suc x - 1 = omega arith in q))
@@ -48,7 +48,7 @@ module _ (sheet figure : form.Normal) (to atoms : List ℕ) where
     );
   }
 
-module _ (sheet figure : form.Normal) (ready : Ready sheet figure) (taken to flags atoms : List ℕ) (room : length flags ≡ sheetLinks) (w : Working sheet figure taken to flags atoms) where
+module _ (sheet figure : form.Sheet) (ready : Ready sheet figure) (taken to flags atoms : List ℕ) (room : length flags ≡ sheetLinks) (w : Working sheet figure taken to flags atoms) where
   abbrev S : Net
   S = netIn sheet
 

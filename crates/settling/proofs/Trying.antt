@@ -7,7 +7,7 @@ use native.Mathlib.Omega.{arith}
 use native.Mathlib.Numerals.{add-one}
 use lib.ListN.{length, getD, set}
 use Rattle.rows.specs.Limits.{sheetLinks}
-use Rattle.sheet.specs.declared.normal.Normal as form
+use Rattle.rows.specs.declared.Sheet as form
 use Rattle.hyperlmntal.specs.Link.{_∈_}
 use Rattle.placing.proofs.FirstLaws.{both-ways}
 use Rattle.network.specs.NetIn.{netIn, ContextsIn}
@@ -26,7 +26,7 @@ use Rattle.deciding.proofs.Flagged.{flagged-out}
 use Rattle.settling.proofs.States.{links-set, working-put, put-back, way-out, earlier-refused}
 
 -- what is read of a net, as it stands there
-pub nets-of : (sheet figure : form.Normal) → Ready sheet figure → (laid : List ℕ) → LaidOut sheet laid (sheet .«atom_count»)
+pub nets-of : (sheet figure : form.Sheet) → Ready sheet figure → (laid : List ℕ) → LaidOut sheet laid (sheet .«atom_count»)
     → NetsIn sheet figure (record { atoms = sheet .«atom_count»; links = sheet .«class_count»; contexts = figure .contexts; rows = figure .«context_count»; count = figure .«class_count» }) laid
 nets-of sheet figure r laid o = record {
   ready = r;
@@ -36,50 +36,50 @@ nets-of sheet figure r laid o = record {
 }
 
 -- once the chains are made
-pub over-of : {sheet figure : form.Normal} {nets : Nets} {laid to : List ℕ} (chains : List ℕ) → ((s : form.Normal) → LaidOut s laid (nets .atoms) → ChainsIn s chains) → NetsIn sheet figure nets laid → LinksIn sheet figure to
+pub over-of : {sheet figure : form.Sheet} {nets : Nets} {laid to : List ℕ} (chains : List ℕ) → ((s : form.Sheet) → LaidOut s laid (nets .atoms) → ChainsIn s chains) → NetsIn sheet figure nets laid → LinksIn sheet figure to
     → Over sheet figure nets laid chains to
 over-of {sheet} chains f n l = record { nets-in = n; chains-in = f sheet (n .laid-out); links-in = l }
 
-pub tables-of : {sheet figure : form.Normal} {nets : Nets} {laid chains to : List ℕ} (kinds : List ℕ) → ((f : form.Normal) (links : ℕ) → ContextsIn f (nets .contexts) (nets .rows) links → KindsIn f kinds)
+pub tables-of : {sheet figure : form.Sheet} {nets : Nets} {laid chains to : List ℕ} (kinds : List ℕ) → ((f : form.Sheet) (links : ℕ) → ContextsIn f (nets .contexts) (nets .rows) links → KindsIn f kinds)
     → Over sheet figure nets laid chains to → Tables sheet figure nets laid chains kinds to
 tables-of {figure = figure} {nets = nets} kinds f o = record { over = o; kinds-in = f figure (nets .count) (o .nets-in .contexts-in) }
 
 -- with the figure links elsewhere
-pub tables-links : {sheet figure : form.Normal} {nets : Nets} {laid chains kinds to next : List ℕ} → Tables sheet figure nets laid chains kinds to → LinksIn sheet figure next → Tables sheet figure nets laid chains kinds next
+pub tables-links : {sheet figure : form.Sheet} {nets : Nets} {laid chains kinds to next : List ℕ} → Tables sheet figure nets laid chains kinds to → LinksIn sheet figure next → Tables sheet figure nets laid chains kinds next
 tables-links t l = record { over = record { nets-in = t .over .nets-in; chains-in = t .over .chains-in; links-in = l }; kinds-in = t .kinds-in }
 
 -- with one link settled
-pub tables-put : {sheet figure : form.Normal} {nets : Nets} {laid chains kinds to : List ℕ} → Tables sheet figure nets laid chains kinds to → (x y : ℕ) → x < nets .count → y < nets .links → Tables sheet figure nets laid chains kinds (set to x (y + 1))
+pub tables-put : {sheet figure : form.Sheet} {nets : Nets} {laid chains kinds to : List ℕ} → Tables sheet figure nets laid chains kinds to → (x y : ℕ) → x < nets .count → y < nets .links → Tables sheet figure nets laid chains kinds (set to x (y + 1))
 tables-put {sheet} {figure} {to = to} t x y h k = let n = t .over .nets-in in
     tables-links t (links-set sheet figure to (t .over .links-in) x (y + 1) (omega (arith, n .contexts-in .link-count)) (n .ready .figure-fit .class-count) (omega arith, omega (arith, n .sheet-links)))
 
 -- another array with the same links but for x
-pub tables-next : {sheet figure : form.Normal} {nets : Nets} {laid chains kinds to : List ℕ} (next : List ℕ) → Tables sheet figure nets laid chains kinds to → (x y : ℕ) → x < nets .count → y < nets .links
+pub tables-next : {sheet figure : form.Sheet} {nets : Nets} {laid chains kinds to : List ℕ} (next : List ℕ) → Tables sheet figure nets laid chains kinds to → (x y : ℕ) → x < nets .count → y < nets .links
     → set next x (y + 1) ≡ set to x (y + 1) → Tables sheet figure nets laid chains kinds (set next x (y + 1))
 tables-next {sheet} {figure} {nets} {laid} {chains} {kinds} {to} next t x y h k e = subst (Tables sheet figure nets laid chains kinds) (sym e) (tables-put t x y h k)
 
-pub completes-next : {sheet figure : form.Normal} {nets : Nets} {laid chains kinds to : List ℕ} (next : List ℕ) (t : Tables sheet figure nets laid chains kinds to) (x y : ℕ) → x < nets .count → y < nets .links
+pub completes-next : {sheet figure : form.Sheet} {nets : Nets} {laid chains kinds to : List ℕ} (next : List ℕ) (t : Tables sheet figure nets laid chains kinds to) (x y : ℕ) → x < nets .count → y < nets .links
     → set next x (y + 1) ≡ set to x (y + 1) → (taken rest : List ℕ) (r : Bool) → (Tables sheet figure nets laid chains kinds (set next x (y + 1)) → Completes sheet figure taken (set next x (y + 1)) rest r)
     → Completes sheet figure taken (set to x (y + 1)) rest r
 completes-next {sheet} {figure} next t x y h k e taken rest r f = subst (λ (l : List ℕ). Completes sheet figure taken l rest r) e (f (tables-next next t x y h k e))
 
 -- Link x at every sheet link before y was tried, where it has a flag in `links`.
-abbrev pub TriedAt : form.Normal → form.Normal → List ℕ → List ℕ → ℕ → List ℕ → List ℕ → ℕ → Type 0
+abbrev pub TriedAt : form.Sheet → form.Sheet → List ℕ → List ℕ → ℕ → List ℕ → List ℕ → ℕ → Type 0
 TriedAt sheet figure taken to x links rest y =
     (z : ℕ) → z < y → getD links z 0 ≡ 1 → (atoms : List ℕ) → Working sheet figure taken (set to x (suc z)) rest atoms → ¬ CompletableIn sheet figure (set to x (suc z)) rest atoms
 
 -- the same at every sheet link
-abbrev pub TriedAll : form.Normal → form.Normal → List ℕ → List ℕ → ℕ → List ℕ → ℕ → Type 0
+abbrev pub TriedAll : form.Sheet → form.Sheet → List ℕ → List ℕ → ℕ → List ℕ → ℕ → Type 0
 TriedAll sheet figure taken to x rest y =
     (z : ℕ) → z < y → (atoms : List ℕ) → Working sheet figure taken (set to x (suc z)) rest atoms → ¬ CompletableIn sheet figure (set to x (suc z)) rest atoms
 
 -- Every link before x was tried at every link with a flag in `links`.
-abbrev pub TriedTo : form.Normal → form.Normal → List ℕ → List ℕ → List ℕ → List ℕ → ℕ → Type 0
+abbrev pub TriedTo : form.Sheet → form.Sheet → List ℕ → List ℕ → List ℕ → List ℕ → ℕ → Type 0
 TriedTo sheet figure taken to flags links x =
     (atoms : List ℕ) → Working sheet figure taken to flags atoms
     → (z : ℕ) → z < x → getD flags z 0 ≡ 1 → (y : ℕ) → y < sheet .«class_count» → getD links y 0 ≡ 1 → ¬ CompletableAt sheet figure to flags z (suc y) atoms
 
-module _ (sheet figure : form.Normal) (taken to : List ℕ) (x : ℕ) (rest : List ℕ) (y : ℕ) where
+module _ (sheet figure : form.Sheet) (taken to : List ℕ) (x : ℕ) (rest : List ℕ) (y : ℕ) where
   -- one sheet link more
   refused-here : Completes sheet figure taken (set to x (y + 1)) rest false → (atoms : List ℕ) → Working sheet figure taken (set to x (suc y)) rest atoms → ¬ CompletableIn sheet figure (set to x (suc y)) rest atoms
   refused-here r atoms w c =
@@ -101,7 +101,7 @@ module _ (sheet figure : form.Normal) (taken to : List ℕ) (x : ℕ) (rest : Li
   tried-more t r e w z h = below-cases (λ (i : ℕ). (atoms : List ℕ) → Working sheet figure taken (set to x (suc i)) rest atoms → ¬ CompletableIn sheet figure (set to x (suc i)) rest atoms) y z
       (omega (arith, add-one y)) (λ k. t z k) (refused-here (as-false e w))
 
-module _ (sheet figure : form.Normal) (ready : Ready sheet figure) (taken to flags : List ℕ) (room : length flags ≡ sheetLinks) where
+module _ (sheet figure : form.Sheet) (ready : Ready sheet figure) (taken to flags : List ℕ) (room : length flags ≡ sheetLinks) where
   module _ (x : ℕ) (h : x < figure .«class_count») (flag : getD flags x 0 ≡ 1) where
     -- some sheet link will do
     pub at-can : (y : ℕ) → y < sheet .«class_count» → (r : Bool) → r ≡ true → Completes sheet figure taken (set to x (y + 1)) (set flags x 0) r

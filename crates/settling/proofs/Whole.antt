@@ -10,7 +10,7 @@ use lib.ListN.{length, take, getD, replicate, length-replicate}
 use lib.Seq.{drop-at}
 use Rattle.rows.specs.Pick.{pick}
 use Rattle.rows.specs.Limits.{sheetLinks}
-use Rattle.sheet.specs.declared.normal.Normal as form
+use Rattle.rows.specs.declared.Sheet as form
 use Rattle.placing.specs.Net.{Net}
 use Rattle.placing.specs.First.{Answer}
 use Rattle.placing.proofs.FirstLaws.{both-ways, answer-only, first-answer}
@@ -34,7 +34,7 @@ use Rattle.settling.proofs.Trying.{find-hinders, found-none, found-refu
 use Rattle.settling.proofs.SettleLaws.{settled-already}
 use Rattle.settling.proofs.Starting.{size, open-links, state-of, working}
 
-module _ (sheet figure : form.Normal) (ready : Ready sheet figure) (taken to flags : List ℕ) (r : Bool) (w : Completes sheet figure taken to flags r) where
+module _ (sheet figure : form.Sheet) (ready : Ready sheet figure) (taken to flags : List ℕ) (r : Bool) (w : Completes sheet figure taken to flags r) where
   pub least-none : r ≡ false → (n : Completed) → n .ok ≡ false → LeastIn sheet figure taken to flags n
   least-none e n f = record { none = λ atoms u g. w .cannot atoms u e; least = λ atoms u g. both-ways g f }
 
@@ -55,7 +55,7 @@ module _ (sheet figure : form.Normal) (ready : Ready sheet figure) (taken to fla
           settling-done (netIn sheet) (netIn figure) (ready .sheet-normal) (ready .figure-normal) (stateIn figure atoms to) (unsettled figure flags) (stateIn figure atoms links) t (take (sheet .«atom_count») (f .given)) (v .1)
 
 -- No link is open: the finder decides.
-module _ (sheet figure : form.Normal) (ready : Ready sheet figure) (taken to flags : List ℕ) (room : length flags ≡ sheetLinks) (closed : (x : ℕ) → x < figure .«class_count» → getD flags x 0 ≢ 1)
+module _ (sheet figure : form.Sheet) (ready : Ready sheet figure) (taken to flags : List ℕ) (room : length flags ≡ sheetLinks) (closed : (x : ℕ) → x < figure .«class_count» → getD flags x 0 ≢ 1)
     (f : Fault) (finds : FindsAll sheet figure taken to f) where
   hinders : Hinders sheet figure taken to flags f
   hinders = find-hinders sheet figure ready taken to flags room f finds
@@ -67,7 +67,7 @@ module _ (sheet figure : form.Normal) (ready : Ready sheet figure) (taken to fla
   pub closed-some : f .found ≡ false → LinksIn sheet figure to → LeastIn sheet figure taken to flags (record { ok = true; «links_to» = to; given = f .given })
   closed-some e l = least-some sheet figure ready taken to flags true (found-none sheet figure ready taken to flags room f hinders e) refl to (settled-already sheet figure ready taken to flags l closed) f finds
 
-module _ (sheet figure : form.Normal) (ready : Ready sheet figure) (atoms : List ℕ) (a : AtomsIn sheet (figure .«atom_count») atoms) where
+module _ (sheet figure : form.Sheet) (ready : Ready sheet figure) (atoms : List ℕ) (a : AtomsIn sheet (figure .«atom_count») atoms) where
   abbrev S : Net
   S = netIn sheet
 

@@ -4,8 +4,8 @@ use mathlib.Core.List.{List, _++_}
 use mathlib.Core.Option.{Option, none, some}
 use lib.ListN.{take}
 use Rattle.rows.specs.Pick.{pick}
-use Rattle.sheet.specs.declared.normal.Normal as form
+use Rattle.rows.specs.declared.Sheet as form
 use Rattle.settling.specs.declared.complete.Completed.{Completed}
 
-abbrev pub completedIn : form.Normal → form.Normal → Completed → Option (List ℕ)
+abbrev pub completedIn : form.Sheet → form.Sheet → Completed → Option (List ℕ)
 completedIn sheet figure r = pick (r .ok) (some (take (figure .«class_count») (r .«links_to») ++ take (sheet .«atom_count») (r .given))) none

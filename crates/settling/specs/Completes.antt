@@ -4,7 +4,7 @@ use mathlib.Core.Path.{_≡_}
 use mathlib.Core.List.{List, []}
 use mathlib.Core.Bool.{Bool, true, false}
 use lib.ListN.{take, getD, set}
-use Rattle.sheet.specs.declared.normal.Normal as form
+use Rattle.rows.specs.declared.Sheet as form
 use Rattle.placing.specs.Net.{Range}
 use Rattle.network.specs.NetIn.{netIn}
 use Rattle.network.specs.Ready.{LinksIn, stateIn, TakenIn}
@@ -19,28 +19,28 @@ use Rattle.deciding.specs.Kinds.{KindsIn}
 use Rattle.settling.specs.declared.complete.Completed.{Completed}
 
 -- what every function of the search over open links reads of this sheet and this figure
-pub record Tables (sheet figure : form.Normal) (nets : Nets) (laid chains kinds to : List ℕ) : Type 0 where
+pub record Tables (sheet figure : form.Sheet) (nets : Nets) (laid chains kinds to : List ℕ) : Type 0 where
   pub over : Over sheet figure nets laid chains to
   pub kinds-in : KindsIn figure kinds
 
 -- the links that are flagged are unsettled
-abbrev pub unsettled : form.Normal → List ℕ → List ℕ
+abbrev pub unsettled : form.Sheet → List ℕ → List ℕ
 unsettled figure flags = flagged (figure .«class_count») flags
 
 -- the atoms are placed and taken, and the links but for those with a flag
-pub record Working (sheet figure : form.Normal) (taken to flags atoms : List ℕ) : Type 0 where
+pub record Working (sheet figure : form.Sheet) (taken to flags atoms : List ℕ) : Type 0 where
   pub taken-in : TakenIn sheet figure (stateIn figure atoms to) taken
   pub partial : Partial (netIn sheet) (netIn figure) (stateIn figure atoms to) (unsettled figure flags)
 
-abbrev pub CompletableIn : form.Normal → form.Normal → List ℕ → List ℕ → List ℕ → Type 0
+abbrev pub CompletableIn : form.Sheet → form.Sheet → List ℕ → List ℕ → List ℕ → Type 0
 CompletableIn sheet figure to flags atoms = Completable (netIn sheet) (netIn figure) (stateIn figure atoms to) (unsettled figure flags)
 
 -- link x, from 0, settled at y
-abbrev pub CompletableAt : form.Normal → form.Normal → List ℕ → List ℕ → ℕ → ℕ → List ℕ → Type 0
+abbrev pub CompletableAt : form.Sheet → form.Sheet → List ℕ → List ℕ → ℕ → ℕ → List ℕ → Type 0
 CompletableAt sheet figure to flags x y atoms = CompletableIn sheet figure (set to x y) (set flags x 0) atoms
 
 -- a link with a flag can be settled at one of the links that are flagged in `links`, both from 0
-pub record WayOut (sheet figure : form.Normal) (to flags links atoms : List ℕ) : Type 0 where
+pub record WayOut (sheet figure : form.Sheet) (to flags links atoms : List ℕ) : Type 0 where
   pub link : ℕ
   pub link-in : link < figure .«class_count»
   pub flag : getD flags link 0 ≡ 1
@@ -49,7 +49,7 @@ pub record WayOut (sheet figure : form.Normal) (to flags links atoms : List ℕ)
   pub at-flag : getD links at 0 ≡ 1
   pub completes : CompletableAt sheet figure to flags link (suc at) atoms
 
-module _ (sheet figure : form.Normal) (taken to flags : List ℕ) where
+module _ (sheet figure : form.Sheet) (taken to flags : List ℕ) where
   pub record Completes (r : Bool) : Type 0 where
     pub can : (atoms : List ℕ) → Working sheet figure taken to flags atoms → r ≡ true → CompletableIn sheet figure to flags atoms
     pub cannot : (atoms : List ℕ) → Working sheet figure taken to flags atoms → r ≡ false → ¬ CompletableIn sheet figure to flags atoms

@@ -7,4 +7,3 @@ pub mod Walk
 pub mod Clashes
 pub mod Judged
 pub mod Answered
-pub mod Turn

@@ -3,10 +3,3 @@ pub mod Reading
 pub mod Steps
 pub mod Answer
 pub mod Filling
-pub mod Graph
-pub mod Normal
-pub mod Labels
-pub mod Agrees
-pub mod NormalText
-pub mod NormalSheet
-pub mod NormalRows

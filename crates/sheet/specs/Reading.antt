@@ -9,7 +9,7 @@ use Rattle.rows.specs.Format.{rowWidth}
 use Rattle.rows.specs.Limits.{rowLimit, figureContexts, sheetMarks}
 use Rattle.rows.specs.Row.{rowOf}
 use Rattle.rows.specs.Held.{Held, nothing, withRow}
-use Rattle.rows.specs.Packed.{packed, portsOf}
+use Rattle.rows.specs.Packed.{portsOf}
 use Rattle.rows.specs.declared.Context.{Context}
 use Rattle.rows.specs.declared.row.Row.{Row}
 use Rattle.sheet.specs.Kinds.{isList, atomLimit, linkLimit, allowed}
@@ -19,7 +19,6 @@ use Rattle.sheet.specs.declared.answer.Refusal.{Refusal}
 use Rattle.sheet.specs.declared.answer.Refusal.the-variants.{Ragged, StrangeRow, BadColumn, Long, Crowded, Joints, Marks, BlankClash}
 use Rattle.sheet.specs.declared.answer.Answer.{Answer}
 use Rattle.sheet.specs.declared.answer.Answer.the-variants.{Passed, Refused}
-use Rattle.sheet.specs.declared.read.Reading.{Reading}
 
 -- 4, long: row 257
 abbrev pub long : Held → Bool
@@ -117,10 +116,6 @@ readFrom (suc n) kind pattern h text =
 -- a whole text; row 257 is the last that is looked at
 unfoldable pub outcomeOf : Kind → List ℕ → List ℕ → Outcome
 outcomeOf kind pattern text = readFrom (rowLimit + 1) kind pattern nothing text
-
--- what a reader returns: the answer, and what is held in the arrays of a `Sheet`
-abbrev pub readingOf : Outcome → Reading
-readingOf o = record { answer = o .answer; sheet = packed (o .held) }
 
 -- no pattern is given
 abbrev pub noPorts : List ℕ

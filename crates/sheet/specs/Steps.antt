@@ -14,7 +14,7 @@ use Rattle.sheet.specs.Kinds.{isList, atomLimit, linkLimit, allowed}
 use Rattle.sheet.specs.Filling.{isPassed}
 use Rattle.sheet.specs.Reading.{ragged, Verdict, taken, refused, firstOf}
 use Rattle.sheet.specs.declared.kind.Kind.{Kind}
-use Rattle.sheet.specs.declared.read.Next.{Next}
+use Rattle.sheet.specs.declared.judge.Next.{Next}
 use Rattle.sheet.specs.declared.answer.Refusal.{Refusal}
 use Rattle.sheet.specs.declared.answer.Refusal.the-variants.{Ragged, StrangeRow, BadColumn, Long, Crowded, Joints, Marks, BlankClash}
 use Rattle.sheet.specs.declared.answer.Answer.{Answer}

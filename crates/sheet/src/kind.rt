@@ -28,7 +28,7 @@ pub(crate) fn is_figure(kind: Kind) -> bool
     }
 }
 
-pub(crate) fn is_list(kind: Kind) -> bool
+pub fn is_list(kind: Kind) -> bool
     ensures { λ r. ⌜ r ≡ isList kind ⌝ }
 {
     match kind {

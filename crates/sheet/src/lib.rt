@@ -1,9 +1,6 @@
-// Sheets, figures and lists of fillings: how they are read, and their normal form.
+// Sheets, figures and lists of fillings: which rows each may have, and the parts of a list.
 pub mod answer;
-mod counts;
+pub mod counts;
+pub mod judge;
 pub mod kind;
-pub mod normal;
-pub mod normal_text;
-pub mod normalise;
 pub mod part;
-pub mod read;

@@ -1,6 +1,4 @@
 // The rows of one filling, as a part of the list of fillings that holds them.
-use crate::answer::Answer;
-use crate::read::read_list;
 use rows::Sheet;
 ghost use mathlib.Core.Path.{_≡_};
 ghost use Prim.Native.Nat.{_+_, _-_, _≤_};
@@ -59,16 +57,4 @@ pub fn part_for(list: &[u8], number: u16) -> &[u8]
     }
     let to = rows_end(list, from + Sheet::ROW);
     &list[from..to]
-}
-
-// The same of any list; empty where a row of the list is refused.
-pub fn filling_of(list: &[u8], number: u16) -> &[u8]
-    ensures { λ r. ⌜ now r ≡ fillingOf (now (list .entry)) number ⌝ }
-{
-    let reading = read_list(list);
-    let answer = reading.answer;
-    match answer {
-        Answer::Passed => part_for(list, number),
-        Answer::Refused(_, _) => &list[0..0],
-    }
 }

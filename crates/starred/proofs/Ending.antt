@@ -4,7 +4,7 @@ use mathlib.Core.Path.{_≡_, ap, ap₂}
 use mathlib.Core.List.{List}
 use borrow.Author.Tests.{le-ltb}
 use lib.ListN.{length}
-use Rattle.sheet.specs.NormalText.{slipLength, normalText, normalisedAnswer, normalisedSlip}
+use Rattle.normalising.specs.NormalText.{slipLength, normalText, normalisedAnswer, normalisedSlip}
 use Rattle.sheet.specs.Reading.{outcomeOf, noPorts}
 use Rattle.sheet.specs.declared.kind.Kind.the-variants.{Plain, Figure, Fillings}
 use Rattle.sheet.specs.declared.answer.Answer.the-variants.{Passed}

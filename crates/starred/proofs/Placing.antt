@@ -7,8 +7,8 @@ use mathlib.Core.Option.{Option, none, some}
 use native.Mathlib.Omega.{arith}
 use lib.ListN.{length, take, drop, replicate, length-replicate}
 use lib.Seq.{take-at}
-use Rattle.rows.specs.RowText.{rowBytes}
-use Rattle.sheet.specs.NormalText.{slipLength}
+use Rattle.writing.specs.RowText.{rowBytes}
+use Rattle.normalising.specs.NormalText.{slipLength}
 use Rattle.placing.specs.Fillings.{Filling}
 use Rattle.placing.specs.ListText.{listText}
 use Rattle.placing.proofs.Narrowed.{narrowed, narrowed-same}

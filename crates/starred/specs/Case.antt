@@ -8,10 +8,10 @@ use mathlib.Core.Path.{_≡_}
 use mathlib.Core.Bool.{Bool, true}
 use mathlib.Core.List.{List, [], _∷_, _++_}
 use lib.ListN.{length, take, drop, replicate}
-use Rattle.rows.specs.RowText.{rowBytes}
-use Rattle.sheet.specs.NormalText.{slipLength, normalText, normalisedAnswer, normalisedSlip, normalisedNumber, normalisedInput, normalisedRow, normalisedBytes}
+use Rattle.writing.specs.RowText.{rowBytes}
+use Rattle.normalising.specs.NormalText.{slipLength, normalText, normalisedAnswer, normalisedSlip, normalisedNumber, normalisedInput, normalisedRow, normalisedBytes}
 use Rattle.sheet.specs.declared.kind.Kind.the-variants.{Plain, Pattern}
-use Rattle.sheet.specs.declared.normalise.Normalised.{Normalised}
+use Rattle.normalising.specs.declared.normalise.Normalised.{Normalised}
 use Rattle.comparing.specs.Compare.{compareAnswer}
 use Rattle.answers.specs.Compared.{comparedNumber, comparedInput, comparedRow, comparedYes}
 use Rattle.answers.specs.declared.outcome.Compared.{Compared}

@@ -8,7 +8,7 @@ use mathlib.Core.List.{List, [], _∷_}
 use native.Mathlib.Omega.{arith}
 use lib.ListN.{length, getD}
 use Rattle.hyperlmntal.specs.Link.{_∈_}
-use Rattle.sheet.proofs.normal.Distinct.{Once}
+use Rattle.reading.proofs.normal.Distinct.{Once}
 use Rattle.placing.specs.Net.{NetCell, Net, Range, cellLinks, Normal}
 use Rattle.placing.specs.Placing.{Placing, cellAt, atomTo, linkTo, givenTo, Taken, Linked, here, step, PortAt, Inside, Good}
 use Rattle.placing.specs.Smallest.{isTaken}
@@ -22,7 +22,7 @@ use Rattle.candidates.proofs.GoodPlaces.{decided-real, decided-link}
 use Rattle.starting.specs.Count.{count}
 use Rattle.starting.proofs.Counting.{count-append, count-none, count-sent, count-alone, count-pairs-le, count-pairs-eq}
 use Rattle.starting.proofs.Sums.{sumTo, sum-front, sum-same, sum-once-le, sum-once-eq}
-use Rattle.sheet.proofs.normal.Merging.{getD-in}
+use Rattle.reading.proofs.normal.Merging.{getD-in}
 
 -- The rows after the first.
 cell-after : (c : NetCell) (l : List NetCell) (j : ℕ) → 1 ≤ j → cellAt (c ∷ l) (suc j) ≡ cellAt l j

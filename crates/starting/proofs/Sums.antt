@@ -6,7 +6,7 @@ use mathlib.Core.List.{List, [], _∷_, List·Memᴰ·head, List·Memᴰ·tail, 
 use native.Mathlib.Decide.{ℕ-discrete}
 use native.Mathlib.Omega.{arith}
 use Rattle.hyperlmntal.specs.Link.{_∈_}
-use Rattle.sheet.proofs.normal.Distinct.{Once}
+use Rattle.reading.proofs.normal.Distinct.{Once}
 use Rattle.placing.specs.Net.{Range}
 
 unfoldable pub sumOver : (ℕ → ℕ) → List ℕ → ℕ

@@ -10,7 +10,7 @@ use lib.Seq.{getD-set-same, getD-set-other}
 use Rattle.rows.specs.Limits.{sheetLinks}
 use Rattle.rows.specs.declared.Atom.{Atom}
 use Rattle.rows.proofs.Padding.{getD-filled}
-use Rattle.sheet.specs.declared.normal.Normal.{Normal as NormalForm}
+use Rattle.rows.specs.declared.Sheet.{Sheet as NormalForm}
 use Rattle.placing.specs.Net.{Range, cellLinks}
 use Rattle.network.specs.NetIn.{atomIn}
 use Rattle.candidates.specs.Laid.{laidAtom, LaidOut}

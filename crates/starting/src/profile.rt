@@ -11,7 +11,7 @@ ghost use lib.ListN.{getD, take};
 ghost use Rattle.hyperlmntal.specs.Link.{_∈_};
 ghost use Rattle.rows.specs.Format.{mostLinks};
 ghost use Rattle.rows.specs.Limits.{sheetAtoms, sheetLinks};
-ghost use Rattle.sheet.specs.declared.normal.Normal.{Normal as NormalForm};
+ghost use Rattle.rows.specs.declared.Sheet.{Sheet as NormalForm};
 ghost use Rattle.network.specs.NetIn.{netIn, Used};
 ghost use Rattle.candidates.specs.Laid.{Rowed, LaidOut};
 ghost use Rattle.candidates.specs.Marks.{MarkLinks, MarksIn};

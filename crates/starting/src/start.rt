@@ -8,8 +8,8 @@ use candidates::LINK_SETS;
 use candidates::frame::Frame;
 use candidates::pairs::common;
 use candidates::pairs::pair_at;
-use candidates::pairs::put;
 use candidates::pairs::set_pair;
+use candidates::pairs::with;
 use candidates::pairs::without;
 use rows::Sheet;
 ghost use mathlib.Core.Path.{_≡_};
@@ -18,7 +18,7 @@ ghost use mathlib.Core.List.{[]};
 ghost use Prim.Native.Nat.{ℕ, _+_, _*_, _-_, _<_, _≤_};
 ghost use lib.ListN.{length, getD};
 ghost use Rattle.rows.specs.Limits.{sheetAtoms, sheetLinks};
-ghost use Rattle.sheet.specs.declared.normal.Normal.{Normal as NormalForm};
+ghost use Rattle.rows.specs.declared.Sheet.{Sheet as NormalForm};
 ghost use Rattle.placing.specs.Net.{Range};
 ghost use Rattle.network.specs.NetIn.{netIn};
 ghost use Rattle.candidates.specs.Frames.{whole};
@@ -51,7 +51,8 @@ fn enough_links(closed: u8, wanted: u16, counts: &[u16; Sheet::LINKS], n: usize)
     let mut y = 0;
     while y < n {
         if enough(closed, wanted, counts[y]) {
-            put(&mut pair, y);
+            let more = with(pair, y);
+            pair = more;
         }
         y += 1;
     }
@@ -85,7 +86,8 @@ fn only_link(x: usize, y: usize, links: &mut [u64; LINK_SETS])
 {
     let mut only = [0u64; 2];
     if y != 0 {
-        put(&mut only, y - 1);
+        let more = with(only, y - 1);
+        only = more;
     }
     let before = pair_at(links, x - 1);
     set_pair(links, x - 1, common(before, only));
@@ -124,8 +126,7 @@ fn only_closed(
     requires { ⌜ Range sheetLinks y × (c ≤ sheetLinks) ⌝ }
     ensures { λ _. ⌜ LinksStay (now (links .entry)) (now (links .exit)) (λ z v. v ≡ y - 1 → getD (now (closed .entry)) z 0 ≡ 1 → z + 1 ≡ x) ⌝ }
 {
-    let mut only = [0u64; 2];
-    put(&mut only, y - 1);
+    let only = with([0u64; 2], y - 1);
     let mut z = 0;
     while z < c {
         if closed[z] == 1 {

@@ -13,7 +13,7 @@ use Rattle.rows.specs.declared.Atom.{Atom}
 use Rattle.placing.specs.Net.{Net}
 use Rattle.placing.specs.Placing.{cellAt}
 use Rattle.stepping.specs.Chains.{nodeOf, NodeOn, LastOn, Chained, RowIn}
-use Rattle.sheet.specs.declared.normal.Normal as form
+use Rattle.rows.specs.declared.Sheet as form
 use Rattle.network.specs.NetIn.{netIn, atomAt, Fit}
 use Rattle.network.proofs.NetIn.{atoms-length}
 use Rattle.candidates.specs.Laid.{laidAtom, LaidOut}
@@ -114,7 +114,7 @@ module _ (S : Net) (j : ℕ) (links : List ℕ) (count : ℕ) (few : count ≤ m
           at (yes e) = let i : o .place < length ((cellAt (S .atoms) (suc j)) .1) = subst (λ (m : ℕ). o .place < length ((cellAt (S .atoms) (suc m)) .1)) e (o .place-in) in let d = r .width in omega (arith, o .node)
           at (no e) = omega (arith, o .node, o .place-few)
 
-pub row-in : (sheet : form.Normal) → Fit sheet → (j : ℕ) → j < sheet .«atom_count» → RowIn (netIn sheet) j (atomAt sheet j .links) (atomAt sheet j .count)
+pub row-in : (sheet : form.Sheet) → Fit sheet → (j : ℕ) → j < sheet .«atom_count» → RowIn (netIn sheet) j (atomAt sheet j .links) (atomAt sheet j .count)
 row-in sheet f j h = record {
   atom-in = let e = atoms-length sheet f in omega arith;
   width = ap length (atom-links sheet f j h) ∙ length-take-le (atomAt sheet j .count) (atomAt sheet j .links) (let a = f .atoms j h .few in let b = f .atoms j h .width in omega arith);
@@ -122,5 +122,5 @@ row-in sheet f j h = record {
 }
 
 -- the same of a row of the atoms that are laid out
-pub laid-in : (sheet : form.Normal) (laid : List ℕ) (n : ℕ) → LaidOut sheet laid n → (j : ℕ) → j < n → RowIn (netIn sheet) j (laidAtom laid j .links) (laidAtom laid j .count)
+pub laid-in : (sheet : form.Sheet) (laid : List ℕ) (n : ℕ) → LaidOut sheet laid n → (j : ℕ) → j < n → RowIn (netIn sheet) j (laidAtom laid j .links) (laidAtom laid j .count)
 laid-in sheet laid n o j h = subst (λ (a : Atom). RowIn (netIn sheet) j (a .links) (a .count)) (sym (o .atoms j h)) (row-in sheet (o .fit) j (omega (arith, o .count)))

@@ -6,7 +6,7 @@ use mathlib.Core.List.{List}
 use native.Mathlib.Omega.{arith}
 use lib.ListN.{take, getD}
 use Rattle.hyperlmntal.specs.Link.{_∈_}
-use Rattle.sheet.specs.declared.normal.Normal as form
+use Rattle.rows.specs.declared.Sheet as form
 use Rattle.placing.specs.Net.{NetCell, Net, Range}
 use Rattle.placing.specs.Placing.{Placing, numberAt, linkTo, At, Linked, here, step}
 use Rattle.network.specs.NetIn.{netIn, contextIn, contextAt, Fit}
@@ -18,11 +18,11 @@ use Rattle.stepping.specs.Labels.{Tie, Labelled, Meet, Apart}
 use Rattle.network.proofs.NetIn.{context-of}
 use Rattle.stepping.proofs.Reading.{context-in, port-in, port-place, link-at}
 
-abbrev pub ApartIn : form.Normal → List ℕ → ℕ → ℕ → Type 0
+abbrev pub ApartIn : form.Sheet → List ℕ → ℕ → ℕ → Type 0
 ApartIn figure to none y = Apart (figure .contexts) (figure .«context_count») (figure .«class_count») to none y
 
 -- linked links have one label
-pub linked-label : (S : Net) (figure : form.Normal) (f : Fit figure) (atoms to labels : List ℕ) → Labelled (figure .contexts) (figure .«context_count») to labels → (y : ℕ) {a b : ℕ} → Linked S (netIn figure) (stateIn figure atoms to) y a b
+pub linked-label : (S : Net) (figure : form.Sheet) (f : Fit figure) (atoms to labels : List ℕ) → Labelled (figure .contexts) (figure .«context_count») to labels → (y : ℕ) {a b : ℕ} → Linked S (netIn figure) (stateIn figure atoms to) y a b
     → numberAt labels a ≡ numberAt labels b
 linked-label S figure f atoms to labels w y here = refl
 linked-label S figure f atoms to labels w y (step {x} {x′} s l) =
@@ -34,7 +34,7 @@ linked-label S figure f atoms to labels w y (step {x} {x′} s l) =
     let e = w .complete (c .0) (k′ .0) (c .1) (k′ .1) (k .0) (k .1) (ap (numberAt to) (k .2) ∙ a ∙ sym (ap (numberAt to) (k′ .2) ∙ b)) in
     sym (ap (numberAt labels) (k .2)) ∙ e ∙ ap (numberAt labels) (k′ .2) ∙ linked-label S figure f atoms to labels w y l
 
-module _ (S : Net) (figure : form.Normal) (f : Fit figure) (atoms to : List ℕ) (none : ℕ) (last : none ≡ S .links + 1) (within : Within none (figure .«class_count») to) where
+module _ (S : Net) (figure : form.Sheet) (f : Fit figure) (atoms to : List ℕ) (none : ℕ) (last : none ≡ S .links + 1) (within : Within none (figure .«class_count») to) where
   abbrev F : Net
   F = netIn figure
 

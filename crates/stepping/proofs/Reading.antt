@@ -8,7 +8,7 @@ use lib.ListN.{take, getD}
 use lib.Seq.{getD-take}
 use Rattle.hyperlmntal.specs.Link.{_∈_}
 use Rattle.rows.specs.Limits.{sheetLinks}
-use Rattle.sheet.specs.declared.normal.Normal as form
+use Rattle.rows.specs.declared.Sheet as form
 use Rattle.placing.specs.Net.{NetCell, Net, Range}
 use Rattle.placing.specs.Placing.{Placing, cellAt, linkTo, PortAt}
 use Rattle.placing.proofs.Lists.{member-at, getD-of}
@@ -19,7 +19,7 @@ use Rattle.network.proofs.NetIn.{used-in, used-at, used-length, atom-index, con
 use Rattle.completing.specs.Fault.{Used}
 use Rattle.stepping.specs.Flags.{Within, goesTo, atPort, portOfNumber}
 use Rattle.stepping.proofs.Tables.{Marked}
-use Rattle.sheet.proofs.normal.Merging.{getD-in}
+use Rattle.reading.proofs.normal.Merging.{getD-in}
 
 -- a number below n that a used link is
 used-place : (n count : ℕ) (links : List ℕ) → net.Used n count links → (y : ℕ) → y ∈ take count links → (k : ℕ) × (k < count) × (getD links k 0 ≡ y)
@@ -36,14 +36,14 @@ marked-only P n l f p = ((λ q. go (f p .0 q)), (λ t. f p .1 (inr t)))
     go (inl b) = absurd b
     go (inr t) = t
 
-module _ (sheet : form.Normal) (f : Fit sheet) where
+module _ (sheet : form.Sheet) (f : Fit sheet) where
   up : (j : ℕ) → j + 1 ≡ suc j
   up j = omega arith
 
   pub atom-links : (j : ℕ) → j < sheet .«atom_count» → (cellAt (netIn sheet .atoms) (suc j)) .1 ≡ take (atomAt sheet j .count) (atomAt sheet j .links)
   atom-links j h = ap (λ (c : NetCell). c .1) (ap (cellAt (netIn sheet .atoms)) (sym (up j)) ∙ atom-index sheet f j h)
 
-module _ (figure : form.Normal) (f : Fit figure) where
+module _ (figure : form.Sheet) (f : Fit figure) where
   pub context-cell : (c : ℕ) → c < figure .«context_count» → cellAt (netIn figure .contexts) (suc c) ≡ contextIn (contextAt figure c)
   context-cell c h = ap (cellAt (netIn figure .contexts)) (let e : suc c ≡ c + 1 = omega arith in e) ∙ context-index figure f c h
 

@@ -6,7 +6,7 @@ use native.Mathlib.Decide.{ℕ-discrete}
 use native.Mathlib.Omega.{arith}
 use lib.ListN.{getD}
 use Rattle.hyperlmntal.specs.Link.{_∈_}
-use Rattle.sheet.specs.declared.normal.Normal as form
+use Rattle.rows.specs.declared.Sheet as form
 use Rattle.placing.specs.Net.{Net, Range}
 use Rattle.placing.specs.Placing.{Placing, linkTo, At, Linked}
 use Rattle.network.specs.NetIn.{netIn, Fit}
@@ -17,7 +17,7 @@ use Rattle.stepping.specs.Labels.{Labelled, Gathered, Differ}
 use Rattle.stepping.proofs.Reading.{link-at}
 use Rattle.stepping.proofs.Linking.{linked-label}
 
-module _ (figure : form.Normal) (f : Fit figure) (to flags all labels : List ℕ) (y : ℕ) (real : (x : ℕ) → x < figure .«class_count» → 1 ≤ getD to x 0)
+module _ (figure : form.Sheet) (f : Fit figure) (to flags all labels : List ℕ) (y : ℕ) (real : (x : ℕ) → x < figure .«class_count» → 1 ≤ getD to x 0)
     (g : Gathered to flags y (figure .«class_count») all) (l : Labelled (figure .contexts) (figure .«context_count») all labels) (d : Differ labels to y (figure .«class_count»)) where
   module _ (S : Net) (atoms un : List ℕ) (few : y ≤ S .links) (flag : (x : ℕ) → suc x ∈ un → getD flags x 0 ≡ 1) where
     there : Range (S .links) y

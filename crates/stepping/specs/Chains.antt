@@ -6,7 +6,7 @@ use mathlib.Core.List.{List}
 use lib.ListN.{length, getD}
 use Rattle.rows.specs.Format.{mostLinks}
 use Rattle.rows.specs.Limits.{sheetLinks}
-use Rattle.sheet.specs.declared.normal.Normal as form
+use Rattle.rows.specs.declared.Sheet as form
 use Rattle.placing.specs.Net.{Net}
 use Rattle.placing.specs.Placing.{cellAt}
 use Rattle.network.specs.NetIn.{netIn}
@@ -43,7 +43,7 @@ pub record Chained (S : Net) (n : ℕ) (table : List ℕ) : Type 0 where
   pub next : (y v : ℕ) → v < n → NodeOn S y v → LastOn S v y (getD table v 0)
 
 -- all places of a sheet
-abbrev pub ChainsIn : form.Normal → List ℕ → Type 0
+abbrev pub ChainsIn : form.Sheet → List ℕ → Type 0
 ChainsIn sheet table = Chained (netIn sheet) (nodeOf (sheet .«atom_count») 0) table
 
 -- the first `count` of these links are those of atom j

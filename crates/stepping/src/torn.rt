@@ -9,7 +9,7 @@ ghost use Prim.Native.Nat.{ℕ, suc, _<_, _≤_};
 ghost use lib.ListN.{length, getD};
 ghost use Rattle.hyperlmntal.specs.Link.{_∈_};
 ghost use Rattle.rows.specs.Limits.{sheetLinks};
-ghost use Rattle.sheet.specs.declared.normal.Normal.{Normal as NormalForm};
+ghost use Rattle.rows.specs.declared.Sheet.{Sheet as NormalForm};
 ghost use Rattle.placing.specs.Net.{Net};
 ghost use Rattle.network.specs.NetIn.{netIn, Ports, ContextsIn};
 ghost use Rattle.network.specs.Ready.{stateIn};

@@ -11,24 +11,21 @@ use Rattle.rows.specs.Pick.{pick}
 use Rattle.rows.specs.Format.{rowWidth}
 use Rattle.rows.specs.Limits.{sheetAtoms, sheetLinks, sheetMarks}
 use Rattle.rows.specs.Held.{Held}
-use Rattle.rows.specs.Packed.{portTable, packed}
+use Rattle.rows.specs.Packed.{portTable}
 use Rattle.rows.proofs.Padding.{length-padded, take-padded}
-use Rattle.sheet.specs.Agrees.{Agrees}
-use Rattle.numbering.specs.Numbering.{Numberable}
 use Rattle.sheet.specs.Filling.{isPassed}
-use Rattle.sheet.specs.Graph.{graphOf}
-use Rattle.sheet.specs.NormalSheet.{normalMarks, packedNormal}
-use Rattle.sheet.specs.NormalText.{textOf, slipLength}
-use Rattle.sheet.specs.NormalRows.{normalRows, Writable}
-use Rattle.sheet.specs.Reading.{Outcome, outcomeOf, readingOf, noPorts}
-use Rattle.sheet.specs.declared.normal.Normal as form
+use Rattle.reading.specs.Graph.{graphOf}
+use Rattle.reading.specs.NormalSheet.{normalMarks, packedNormal}
+use Rattle.normalising.specs.NormalText.{textOf, slipLength}
+use Rattle.normalising.specs.NormalRows.{normalRows, Writable}
+use Rattle.sheet.specs.Reading.{Outcome, outcomeOf, noPorts}
+use Rattle.reading.specs.Readings.{sheetRead}
+use Rattle.rows.specs.declared.Sheet as form
 use Rattle.sheet.specs.declared.kind.Kind.the-variants.{Plain, Pattern, Figure, Replacement}
 use Rattle.sheet.specs.declared.answer.Refusal.{Refusal}
-use Rattle.sheet.specs.declared.read.Reading.{Reading}
+use Rattle.reading.specs.declared.read.Reading.{Reading}
 use Rattle.sheet.specs.declared.answer.Answer.{Answer}
 use Rattle.sheet.specs.declared.answer.Answer.the-variants.{Passed, Refused}
-use Rattle.sheet.proofs.normal.Connected.{agrees-read}
-use Rattle.sheet.proofs.normal.NormalReady.{numberable-read}
 use Rattle.placing.specs.Placing.{Good}
 use Rattle.placing.specs.Fillings.{Filling, Fits}
 use Rattle.placing.specs.Filled.{filledGraph, filledNormal}
@@ -51,7 +48,7 @@ use Rattle.answers.specs.declared.outcome.Done.the-variants as done
 use Rattle.filling.specs.Filled.{FilledIs}
 use Rattle.filling.proofs.Back.{placed-back}
 use Rattle.filling.proofs.ReadAsFigure.{replacement-figure}
-use Rattle.finding.specs.Place.{sheetHeld, patternHeld, sheetNet, patternNet, placedFillings}
+use Rattle.finding.specs.Place.{patternHeld, sheetNet, patternNet, placedFillings}
 use Rattle.finding.proofs.PlaceCode.{none-found, chosen, foundPlacing, foundFillings, some-found, found-text}
 use Rattle.swapping.specs.Swap.{replacementRead, replacementHeld, sameMarks, swappedAnswer, swappedText, swapAnswer, swapSlip}
 use Rattle.swapping.specs.Inputs.{FilledInputs, filledDone, SwapInputs, swapRead, swapText}
@@ -59,7 +56,7 @@ use Rattle.swapping.proofs.ReplacementBlanks.{replacement-covered}
 use Rattle.swapping.proofs.ListWhole.{written-lacks, written-exact}
 
 -- A filled figure, where it is written or too large.
-module _ (figure : form.Normal) (list text : List ℕ) (I : FilledInputs figure list text) (r : form.Normal)
+module _ (figure : form.Sheet) (list text : List ℕ) (I : FilledInputs figure list text) (r : form.Sheet)
     (M : (t : List ℕ) → figure ≡ packedNormal (figureHeld t) → firstLacking (listHeld list .contexts) (figureHeld t .contexts) ≡ 0 → firstDiffering list (listHeld list .contexts) ≡ 0 → FilledIs t list r) where
   filled : FilledIs text list r
   filled = M text (I .of-figure) (I .none-lacking) (I .none-differing)
@@ -84,12 +81,12 @@ module _ (figure : form.Normal) (list text : List ℕ) (I : FilledInputs figure 
     done-slip n e slip = ap₂ (λ (t : List ℕ) (k : ℕ). t ++ drop k slip) (filled .rows few narrow) (sym e)
 
 -- The replacement can be filled from this list, and is then what swapping answers and writes.
-pub record ListSwaps (replacement : form.Normal) (list s p q : List ℕ) : Type 0 where
+pub record ListSwaps (replacement : form.Sheet) (list s p q : List ℕ) : Type 0 where
   pub fills : FilledInputs replacement list q
   pub answer : filledDone q list ≡ swapRead s p q
   pub text : filledText q list ≡ swapText s p q
 
-module _ (sheet pattern replacement : form.Normal) (s p q : List ℕ) (I : SwapInputs sheet pattern replacement s p q) where
+module _ (sheet pattern replacement : form.Sheet) (s p q : List ℕ) (I : SwapInputs sheet pattern replacement s p q) where
   abbrev ports : List ℕ
   ports = portTable (patternHeld p .contexts)
 
@@ -101,17 +98,17 @@ module _ (sheet pattern replacement : form.Normal) (s p q : List ℕ) (I : SwapI
   marks-room =
       let r = fit-read Replacement ports q refl .mark-count in
       let f = fit-read Pattern noPorts p refl .mark-count in (
-        subst (λ (m : form.Normal). m .«mark_count» ≤ sheetMarks) (sym (I .of-replacement)) r,
-        subst (λ (m : form.Normal). m .«mark_count» ≤ sheetMarks) (sym (I .placed .of-pattern)) f,
-        subst (λ (m : form.Normal). length (m .marks) ≡ sheetMarks + 1) (sym (I .of-replacement)) (length-padded (sheetMarks + 1) 0 (normalMarks R) (omega (arith, r))),
-        subst (λ (m : form.Normal). length (m .marks) ≡ sheetMarks + 1) (sym (I .placed .of-pattern)) (length-padded (sheetMarks + 1) 0 (normalMarks (patternHeld p)) (omega (arith, f))),
+        subst (λ (m : form.Sheet). m .«mark_count» ≤ sheetMarks) (sym (I .of-replacement)) r,
+        subst (λ (m : form.Sheet). m .«mark_count» ≤ sheetMarks) (sym (I .placed .of-pattern)) f,
+        subst (λ (m : form.Sheet). length (m .marks) ≡ sheetMarks + 1) (sym (I .of-replacement)) (length-padded (sheetMarks + 1) 0 (normalMarks R) (omega (arith, r))),
+        subst (λ (m : form.Sheet). length (m .marks) ≡ sheetMarks + 1) (sym (I .placed .of-pattern)) (length-padded (sheetMarks + 1) 0 (normalMarks (patternHeld p)) (omega (arith, f))),
       )
 
   module _ (b : Bool) (B : b ≡ sameList (take (replacement .«mark_count») (replacement .marks)) (take (pattern .«mark_count») (pattern .marks))) where
     marks-same : b ≡ sameMarks R (patternHeld p)
     marks-same =
         B
-        ∙ ap₂ (λ (x y : form.Normal). sameList (take (x .«mark_count») (x .marks)) (take (y .«mark_count») (y .marks))) (I .of-replacement) (I .placed .of-pattern)
+        ∙ ap₂ (λ (x y : form.Sheet). sameList (take (x .«mark_count») (x .marks)) (take (y .«mark_count») (y .marks))) (I .of-replacement) (I .placed .of-pattern)
         ∙ ap₂ sameList (take-padded (sheetMarks + 1) 0 (normalMarks R)) (take-padded (sheetMarks + 1) 0 (normalMarks (patternHeld p)))
 
     by-marks : (t : Bool) → b ≡ t → pick t (swappedAnswer (graphOf R) (placedFillings s p)) (done.EdgeDiffers 3 0) ≡ swapRead s p q
@@ -188,7 +185,7 @@ module _ (sheet pattern replacement : form.Normal) (s p q : List ℕ) (I : SwapI
             swap-list = record { fills = part-fills; answer = swap-done; text = swap-text }
 
 -- The bytes that were written are there.
-pub part-room : (sheet pattern : form.Normal) (links given before after : List ℕ) (m : ℕ)
+pub part-room : (sheet pattern : form.Sheet) (links given before after : List ℕ) (m : ℕ)
     → ((atoms : List ℕ) → m ≡ length (fillingsText sheet pattern atoms links given))
     → ((atoms : List ℕ) → after ≡ fillingsText sheet pattern atoms links given ++ drop (length (fillingsText sheet pattern atoms links given)) before) → m ≤ length after
 part-room sheet pattern links given before after m e o =
@@ -200,39 +197,31 @@ part-length after m h = sym (length-take-le m after h)
 
 -- The texts as they were read.
 pub record TextsRead (S P T : Reading) (sheet pattern replacement : List ℕ) : Type 0 where
-  pub first-numberable : Numberable (S .sheet)
-  pub second-numberable : Numberable (P .sheet)
-  pub third-numberable : Numberable (T .sheet)
   pub first-answer : (t : Answer) → S .answer ≡ t → outcomeOf Plain noPorts sheet .answer ≡ t
   pub second-answer : (t : Answer) → P .answer ≡ t → outcomeOf Pattern noPorts pattern .answer ≡ t
   pub third-answer : (t : Answer) → T .answer ≡ t → replacementRead pattern replacement .answer ≡ t
-  pub inputs : S .answer ≡ Passed → P .answer ≡ Passed → T .answer ≡ Passed → (n m o : form.Normal)
-      → ((h : Held) → Agrees h → S .sheet ≡ packed h → n ≡ packedNormal h) → ((h : Held) → Agrees h → P .sheet ≡ packed h → m ≡ packedNormal h) → ((h : Held) → Agrees h → T .sheet ≡ packed h → o ≡ packedNormal h)
-      → SwapInputs n m o sheet pattern replacement
+  pub inputs : S .answer ≡ Passed → P .answer ≡ Passed → T .answer ≡ Passed → SwapInputs (S .normal) (P .normal) (T .normal) sheet pattern replacement
 
 module _ (S P T : Reading) (sheet pattern replacement : List ℕ)
-    (x : S ≡ readingOf (outcomeOf Plain noPorts sheet)) (y : P ≡ readingOf (outcomeOf Pattern noPorts pattern)) (z : T ≡ readingOf (outcomeOf Replacement (P .sheet .ports) replacement)) where
-  third : T ≡ readingOf (replacementRead pattern replacement)
-  third = z ∙ ap (λ (r : Reading). readingOf (outcomeOf Replacement (r .sheet .ports) replacement)) y
+    (x : S ≡ sheetRead (outcomeOf Plain noPorts sheet)) (y : P ≡ sheetRead (outcomeOf Pattern noPorts pattern)) (z : T ≡ sheetRead (outcomeOf Replacement (P .ports) replacement)) where
+  third : T ≡ sheetRead (replacementRead pattern replacement)
+  third = z ∙ ap (λ (r : Reading). sheetRead (outcomeOf Replacement (r .ports) replacement)) y
 
   pub texts-read : TextsRead S P T sheet pattern replacement
   texts-read =
       record {
-        first-numberable = subst (λ (r : Reading). Numberable (r .sheet)) (sym x) (numberable-read Plain noPorts sheet);
-        second-numberable = subst (λ (r : Reading). Numberable (r .sheet)) (sym y) (numberable-read Pattern noPorts pattern);
-        third-numberable = subst (λ (r : Reading). Numberable (r .sheet)) (sym third) (numberable-read Replacement (portTable (patternHeld pattern .contexts)) replacement);
         first-answer = λ t e. sym (ap (λ (r : Reading). r .answer) x) ∙ e;
         second-answer = λ t e. sym (ap (λ (r : Reading). r .answer) y) ∙ e;
         third-answer = λ t e. sym (ap (λ (r : Reading). r .answer) third) ∙ e;
-        inputs = λ a b c n m o N M O.
+        inputs = λ a b c.
             record {
               placed = record {
                 passed = record { sheet-passes = sym (ap (λ (r : Reading). r .answer) x) ∙ a; pattern-passes = sym (ap (λ (r : Reading). r .answer) y) ∙ b };
-                of-sheet = N (sheetHeld sheet) (agrees-read Plain noPorts sheet refl) (ap (λ (r : Reading). r .sheet) x);
-                of-pattern = M (patternHeld pattern) (agrees-read Pattern noPorts pattern refl) (ap (λ (r : Reading). r .sheet) y);
+                of-sheet = ap (λ (r : Reading). r .normal) x;
+                of-pattern = ap (λ (r : Reading). r .normal) y;
               };
               replacement-passes = sym (ap (λ (r : Reading). r .answer) third) ∙ c;
-              of-replacement = O (replacementHeld pattern replacement) (agrees-read Replacement (portTable (patternHeld pattern .contexts)) replacement refl) (ap (λ (r : Reading). r .sheet) third);
+              of-replacement = ap (λ (r : Reading). r .normal) third;
             };
       }
 

@@ -4,10 +4,10 @@ use mathlib.Core.Path.{_≡_}
 use mathlib.Core.List.{List}
 use lib.ListN.{length}
 use Rattle.rows.specs.Pick.{pick}
-use Rattle.sheet.specs.Graph.{graphOf}
+use Rattle.reading.specs.Graph.{graphOf}
 use Rattle.sheet.specs.Filling.{Passes}
-use Rattle.sheet.specs.NormalSheet.{packedNormal}
-use Rattle.sheet.specs.declared.normal.Normal as form
+use Rattle.reading.specs.NormalSheet.{packedNormal}
+use Rattle.rows.specs.declared.Sheet as form
 use Rattle.sheet.specs.declared.answer.Answer.the-variants.{Passed}
 use Rattle.filling.specs.Read.{listHeld}
 use Rattle.filling.specs.Fill.{figureHeld, firstLacking, firstDiffering, filledBy, filledText, tooLarge}
@@ -18,7 +18,7 @@ use Rattle.finding.specs.Inputs.{PlaceInputs}
 use Rattle.swapping.specs.Swap.{replacementRead, replacementHeld, sameMarks, swappedAnswer, swappedText}
 
 -- a list that passed, and no 8 and no 9 over whole texts
-pub record FilledInputs (figure : form.Normal) (list figureText : List ℕ) : Type 0 where
+pub record FilledInputs (figure : form.Sheet) (list figureText : List ℕ) : Type 0 where
   pub of-figure : figure ≡ packedNormal (figureHeld figureText)
   pub passes : Passes list
   pub none-lacking : firstLacking (listHeld list .contexts) (figureHeld figureText .contexts) ≡ 0
@@ -27,7 +27,7 @@ pub record FilledInputs (figure : form.Normal) (list figureText : List ℕ) : Ty
 abbrev pub filledDone : List ℕ → List ℕ → Done
 filledDone figure list = pick (tooLarge (filledBy figure list)) done.TooLarge (done.Written (length (filledText figure list)))
 
-pub record SwapInputs (sheet pattern replacement : form.Normal) (sheetText patternText replacementText : List ℕ) : Type 0 where
+pub record SwapInputs (sheet pattern replacement : form.Sheet) (sheetText patternText replacementText : List ℕ) : Type 0 where
   pub placed : PlaceInputs sheet pattern sheetText patternText
   pub replacement-passes : replacementRead patternText replacementText .answer ≡ Passed
   pub of-replacement : replacement ≡ packedNormal (replacementHeld patternText replacementText)

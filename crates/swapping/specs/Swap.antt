@@ -9,9 +9,9 @@ use Rattle.hyperlmntal.specs.Hypergraph.{Flat}
 use Rattle.rows.specs.Pick.{pick}
 use Rattle.rows.specs.Held.{Held}
 use Rattle.rows.specs.Packed.{portTable}
-use Rattle.sheet.specs.Graph.{graphOf}
-use Rattle.sheet.specs.Normal.{marksOf}
-use Rattle.sheet.specs.NormalText.{textOf, slipLength}
+use Rattle.reading.specs.Graph.{graphOf}
+use Rattle.reading.specs.Normal.{marksOf}
+use Rattle.normalising.specs.NormalText.{textOf, slipLength}
 use Rattle.sheet.specs.Reading.{Outcome, outcomeOf, noPorts}
 use Rattle.sheet.specs.declared.kind.Kind.the-variants.{Plain, Pattern, Replacement}
 use Rattle.placing.specs.Fillings.{Filling}

@@ -3,20 +3,18 @@ use answers::outcome::Done;
 use filling::filled::normal_filled;
 use listing::write_fillings;
 use matching::search::smallest_placing;
+use normalising::normal_text::write_normal;
+use reading::read::read_pattern;
+use reading::read::read_replacement;
+use reading::read::read_sheet;
 use rows::Sheet;
 use sheet::answer::Answer;
-use sheet::normal::Normal;
-use sheet::normal::normal_of;
-use sheet::normal_text::write_normal;
-use sheet::read::read_pattern;
-use sheet::read::read_replacement;
-use sheet::read::read_sheet;
 ghost use mathlib.Core.Path.{_≡_};
 ghost use mathlib.Core.List.{List};
 ghost use Prim.Native.Nat.{ℕ, _+_, _≤_};
 ghost use lib.ListN.{length, take};
 ghost use Rattle.rows.specs.Limits.{sheetMarks};
-ghost use Rattle.sheet.specs.NormalText.{slipLength};
+ghost use Rattle.normalising.specs.NormalText.{slipLength};
 ghost use Rattle.placing.specs.Smallest.{sameList};
 ghost use Rattle.answers.specs.Done.{slipAfter};
 ghost use Rattle.filling.specs.Fill.{filledText};
@@ -47,7 +45,7 @@ fn same_marks<'a>(
 }
 
 // A figure filled from a list that has a filling for each of its contexts.
-fn write_filled(figure: Normal, list: &[u8], out: &mut [u8]) -> Done
+fn write_filled(figure: Sheet, list: &[u8], out: &mut [u8]) -> Done
     requires { ⌜ ((text : List ℕ) × FilledInputs figure (now list) text) ⌝ }
     requires { ⌜ slipLength ≤ length (now out) ⌝ }
     ensures { λ r. ⌜ ((text : List ℕ) → FilledInputs figure (now (list .entry)) text → r ≡ filledDone text (now (list .entry))) ⌝ }
@@ -66,7 +64,7 @@ fn write_filled(figure: Normal, list: &[u8], out: &mut [u8]) -> Done
 }
 
 // Texts that passed row by row: the list of the fillings is written, and the replacement filled from it.
-fn swap_read(sheet: Normal, pattern: Normal, replacement: Normal, out: &mut [u8]) -> Done
+fn swap_read(sheet: Sheet, pattern: Sheet, replacement: Sheet, out: &mut [u8]) -> Done
     requires { ⌜ ((s : List ℕ) × ((p : List ℕ) × ((q : List ℕ) × SwapInputs sheet pattern replacement s p q))) ⌝ }
     requires { ⌜ slipLength ≤ length (now out) ⌝ }
     ensures { λ r. ⌜ ((s p q : List ℕ) → SwapInputs sheet pattern replacement s p q → r ≡ swapRead s p q) ⌝ }
@@ -105,18 +103,16 @@ pub fn swap(sheet: &[u8], pattern: &[u8], replacement: &[u8], out: &mut [u8]) ->
             match two {
                 Answer::Refused(why, row) => Done::Refused(2, why, row),
                 Answer::Passed => {
-                    let part = second.sheet;
-                    let ports = part.ports;
+                    let ports = second.ports;
                     let third = read_replacement(ports, replacement);
                     let three = third.answer;
                     match three {
                         Answer::Refused(why, row) => Done::Refused(3, why, row),
                         Answer::Passed => {
-                            let whole = first.sheet;
-                            let other = third.sheet;
-                            let normal = normal_of(whole);
-                            let pattern = normal_of(part);
-                            swap_read(normal, pattern, normal_of(other), out)
+                            let whole = first.normal;
+                            let part = second.normal;
+                            let other = third.normal;
+                            swap_read(whole, part, other, out)
                         }
                     }
                 }

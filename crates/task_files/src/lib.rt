@@ -6,7 +6,7 @@ use answers::TaskAnswer;
 use answers::of_normalised;
 use answers::row::answer_row;
 use libc::STDOUT_FILENO;
-use sheet::normalise::Normalised;
+use normalising::normalise::Normalised;
 ghost use Rattle.io.specs.Counts.{Counts};
 
 // Opens the file that argument k names or, where there is no such argument, the file of this name,

@@ -9,7 +9,7 @@ use native.Mathlib.Omega.{arith}
 use Rattle.hyperlmntal.specs.Congruence.{_≅_, ≅-sym, ≅-trans}
 use Rattle.hyperlmntal.specs.Hypergraph.{Flat}
 use Rattle.rows.specs.Pick.{pick}
-use Rattle.sheet.specs.Graph.{graphOf, termOfText}
+use Rattle.reading.specs.Graph.{graphOf, termOfText}
 use Rattle.sheet.specs.Reading.{noPorts}
 use Rattle.sheet.specs.declared.kind.Kind.the-variants.{Fillings}
 use Rattle.sheet.proofs.read.HeldLimits.{held-within}

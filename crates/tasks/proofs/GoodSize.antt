@@ -6,7 +6,7 @@ use mathlib.Core.List.{[], _++_, map, List·Memᴰ·append-cases, List·Memᴰ·
 use native.Mathlib.Omega.{arith}
 use lib.ListN.{length, getD, length-map}
 use Rattle.hyperlmntal.specs.Link.{_∈_}
-use Rattle.sheet.proofs.normal.Distinct.{once-length}
+use Rattle.reading.proofs.normal.Distinct.{once-length}
 use Rattle.placing.specs.Net.{NetCell, Net, Range, cellLinks, markLinks, NormalSheet}
 use Rattle.placing.specs.Placing.{Placing, cellAt, atomTo, linkTo, Linked, here, step, Good}
 use Rattle.placing.proofs.Lists.{member-at, getD-of, table-length}

@@ -10,8 +10,8 @@ use lib.ListN.{length}
 use Rattle.hyperlmntal.specs.Hypergraph.{Flat}
 use Rattle.rows.specs.Pick.{or}
 use Rattle.rows.specs.Limits.{sheetAtoms, sheetLinks}
-use Rattle.sheet.specs.Normal.{normalForm}
-use Rattle.sheet.proofs.normal.NormalBounds.{classCount}
+use Rattle.reading.specs.Normal.{normalForm}
+use Rattle.reading.proofs.normal.NormalBounds.{classCount}
 use Rattle.placing.specs.Net.{Net, netOf}
 use Rattle.filling.specs.Fill.{tooLarge}
 use Rattle.filling.proofs.ResultNet.{Atoms, result-atoms, result-links}

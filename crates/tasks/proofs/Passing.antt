@@ -8,7 +8,7 @@ use native.Mathlib.Omega.{arith}
 use borrow.Author.Tests.{le-ltb, ltb-false}
 use lib.Dec.{ltb}
 use Rattle.rows.specs.Pick.{pick}
-use Rattle.sheet.specs.NormalText.{slipLength}
+use Rattle.normalising.specs.NormalText.{slipLength}
 use Rattle.sheet.specs.declared.answer.Answer.{Answer}
 use Rattle.sheet.specs.declared.answer.Answer.the-variants.{Passed, Refused}
 use Rattle.filling.specs.Read.{listHeld}

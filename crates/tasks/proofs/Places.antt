@@ -10,8 +10,8 @@ use lib.ListN.{length, take, drop}
 use lib.Seq.{take-at}
 use Rattle.hyperlmntal.specs.Congruence.{_≅_}
 use Rattle.rows.specs.declared.Context.{Context}
-use Rattle.sheet.specs.Graph.{termOfText}
-use Rattle.sheet.specs.NormalText.{slipLength}
+use Rattle.reading.specs.Graph.{termOfText}
+use Rattle.normalising.specs.NormalText.{slipLength}
 use Rattle.sheet.specs.Reading.{Outcome, outcomeOf, noPorts}
 use Rattle.sheet.specs.declared.kind.Kind.the-variants.{Pattern, Figure}
 use Rattle.sheet.proofs.read.Ranges.{Every}

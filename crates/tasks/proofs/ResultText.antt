@@ -13,21 +13,21 @@ use Rattle.rows.specs.Limits.{sheetAtoms, sheetLinks, sheetMarks}
 use Rattle.rows.specs.Held.{Held}
 use Rattle.rows.specs.declared.Atom.{Atom}
 use Rattle.rows.proofs.RowRange.{Within}
-use Rattle.sheet.specs.Agrees.{Agrees}
-use Rattle.sheet.specs.Graph.{atomCell, edgeOf, graphOf}
-use Rattle.sheet.specs.Normal.{classOf, marksOf, numberedBy, markedBy, normalFormBy, normalForm}
-use Rattle.sheet.specs.NormalText.{textOf}
+use Rattle.reading.specs.Agrees.{Agrees}
+use Rattle.reading.specs.Graph.{atomCell, edgeOf, graphOf}
+use Rattle.reading.specs.Normal.{classOf, marksOf, numberedBy, markedBy, normalFormBy, normalForm}
+use Rattle.normalising.specs.NormalText.{textOf}
 use Rattle.sheet.specs.Reading.{outcomeOf, noPorts}
 use Rattle.sheet.specs.declared.kind.Kind.{Kind}
 use Rattle.sheet.specs.declared.kind.Kind.the-variants.{Plain}
 use Rattle.sheet.specs.declared.answer.Answer.the-variants.{Passed}
 use Rattle.sheet.proofs.read.Ranges.{Every, AtomRange, MarkRange, WithinLimits}
-use Rattle.sheet.proofs.normal.Distinct.{once-length}
-use Rattle.sheet.proofs.normal.Marks.{marks-of}
-use Rattle.sheet.proofs.normal.Connected.{edge-links}
-use Rattle.sheet.proofs.normal.TextGraph.{graph-name}
-use Rattle.sheet.proofs.normal.NormalBounds.{normal-marks}
-use Rattle.sheet.proofs.normal.Merging.{among-in}
+use Rattle.reading.proofs.normal.Distinct.{once-length}
+use Rattle.reading.proofs.normal.Marks.{marks-of}
+use Rattle.reading.proofs.normal.Connected.{edge-links}
+use Rattle.reading.proofs.normal.TextGraph.{graph-name}
+use Rattle.reading.proofs.normal.NormalBounds.{normal-marks}
+use Rattle.reading.proofs.normal.Merging.{among-in}
 use Rattle.texts.proofs.NormalFits.{every-member, upTo, upTo-length, upTo-in, upTo-of}
 use Rattle.texts.proofs.BuiltRows.{Fitting, every-in}
 use Rattle.texts.proofs.ReadBack.{builtGraph, Known, Readable, read-back, graph-back}

@@ -8,9 +8,9 @@ use Rattle.hyperlmntal.specs.Link.{_∈_}
 use Rattle.hyperlmntal.specs.Hypergraph.{Node, Label, symbol, hole, Cell, Fusion, Flat, mapCell}
 use Rattle.rows.specs.Format.{rowWidth}
 use Rattle.rows.specs.Limits.{sheetAtoms, sheetMarks}
-use Rattle.rows.proofs.RowBytes.{row-width}
-use Rattle.sheet.specs.Normal.{classOf, marksOf, numberedBy, markedBy, normalFormBy, normalForm}
-use Rattle.sheet.specs.NormalText.{nodeNumber, cellBytes, edgeBytes, joined, textOf, slipLength}
+use Rattle.writing.proofs.RowBytes.{row-width}
+use Rattle.reading.specs.Normal.{classOf, marksOf, numberedBy, markedBy, normalFormBy, normalForm}
+use Rattle.normalising.specs.NormalText.{nodeNumber, cellBytes, edgeBytes, joined, textOf, slipLength}
 use Rattle.placing.specs.Net.{Net, NormalSheet, NormalPattern}
 use Rattle.placing.specs.Placing.{Placing, Good}
 use Rattle.placing.specs.Fillings.{Row, symbolRow, pointRow, edgeRow, Filling, fillingsOf, normalFilling, normalFillingsOf}

@@ -8,13 +8,13 @@ use borrow.Author.Tests.{ltb-false}
 use lib.Dec.{ltb}
 use lib.ListN.{length, drop, length-append, length-drop}
 use Rattle.rows.specs.Pick.{pick}
-use Rattle.sheet.specs.Graph.{graphOf}
-use Rattle.sheet.specs.NormalText.{textOf, slipLength, normalText, answered, writtenOver, normalisedAnswer, normalisedSlip, normalisedNumber}
+use Rattle.reading.specs.Graph.{graphOf}
+use Rattle.normalising.specs.NormalText.{textOf, slipLength, normalText, answered, writtenOver, normalisedAnswer, normalisedSlip, normalisedNumber}
 use Rattle.sheet.specs.Reading.{outcomeOf, noPorts}
 use Rattle.sheet.specs.declared.kind.Kind.{Kind}
 use Rattle.sheet.specs.declared.answer.Answer.{Answer}
 use Rattle.sheet.specs.declared.answer.Answer.the-variants.{Passed, Refused}
-use Rattle.sheet.specs.declared.normalise.Normalised.the-variants as normal
+use Rattle.normalising.specs.declared.normalise.Normalised.the-variants as normal
 use Rattle.placing.specs.ListText.{listText}
 use Rattle.answers.specs.Done.{doneNumber, doneInput, slipAfter}
 use Rattle.filling.specs.Fill.{filledText, fillAnswer, fillSlip}

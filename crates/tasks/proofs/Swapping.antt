@@ -15,12 +15,12 @@ use Rattle.rows.specs.Pick.{pick}
 use Rattle.rows.specs.Limits.{sheetAtoms, sheetLinks}
 use Rattle.rows.specs.Held.{Held}
 use Rattle.rows.specs.Packed.{portTable}
-use Rattle.sheet.specs.Graph.{graphOf, termOfText}
-use Rattle.sheet.specs.NormalText.{textOf, slipLength}
+use Rattle.reading.specs.Graph.{graphOf, termOfText}
+use Rattle.normalising.specs.NormalText.{textOf, slipLength}
 use Rattle.sheet.specs.Reading.{Outcome, outcomeOf, noPorts}
 use Rattle.sheet.specs.declared.kind.Kind.the-variants.{Figure, Replacement}
 use Rattle.sheet.proofs.read.HeldLimits.{held-within}
-use Rattle.sheet.proofs.normal.Connected.{agrees-read}
+use Rattle.reading.proofs.normal.Connected.{agrees-read}
 use Rattle.placing.specs.Net.{netOf}
 use Rattle.placing.specs.Fillings.{Filling}
 use Rattle.placing.specs.Holding.{holdingTerm}

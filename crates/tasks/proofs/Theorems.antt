@@ -5,8 +5,8 @@ use mathlib.Core.Logic.{_⊎_, _↔_}
 use mathlib.Core.List.{List}
 use lib.ListN.{length}
 use Rattle.hyperlmntal.specs.Congruence.{_≅_}
-use Rattle.sheet.specs.Graph.{termOfText}
-use Rattle.sheet.specs.NormalText.{slipLength, normalisedAnswer, normalisedSlip, normalisedNumber}
+use Rattle.reading.specs.Graph.{termOfText}
+use Rattle.normalising.specs.NormalText.{slipLength, normalisedAnswer, normalisedSlip, normalisedNumber}
 use Rattle.sheet.specs.declared.kind.Kind.{Kind}
 use Rattle.placing.specs.Fillings.{Filling}
 use Rattle.placing.specs.Holding.{holdingTerm}

@@ -8,8 +8,8 @@ use lib.ListN.{length, take, drop}
 use Rattle.hyperlmntal.specs.Congruence.{_≅_}
 use Rattle.hyperlmntal.specs.Hypergraph.{Flat}
 use Rattle.rows.specs.Limits.{sheetAtoms, sheetLinks}
-use Rattle.sheet.specs.Graph.{graphOf, termOfText}
-use Rattle.sheet.specs.NormalText.{textOf, slipLength}
+use Rattle.reading.specs.Graph.{graphOf, termOfText}
+use Rattle.normalising.specs.NormalText.{textOf, slipLength}
 use Rattle.sheet.specs.Reading.{outcomeOf, noPorts}
 use Rattle.sheet.specs.declared.kind.Kind.the-variants.{Plain, Fillings}
 use Rattle.sheet.specs.declared.answer.Answer.the-variants.{Passed}

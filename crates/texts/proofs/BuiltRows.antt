@@ -14,16 +14,16 @@ use Rattle.rows.specs.Pick.{and}
 use Rattle.rows.specs.Format.{mostLinks}
 use Rattle.rows.specs.Limits.{rowLimit, figureContexts, sheetAtoms, sheetMarks}
 use Rattle.rows.specs.Row.{rowWith, rowOf}
-use Rattle.rows.specs.RowText.{rowBytes}
+use Rattle.writing.specs.RowText.{rowBytes}
 use Rattle.rows.specs.Held.{Held, withLinks, merged, withFusion, withAtom, withContext, withFusionRow, withEdgeRow, withHead, withRow}
 use Rattle.rows.specs.Packed.{padded, portsOf}
 use Rattle.rows.specs.declared.Atom.{Atom}
 use Rattle.rows.specs.declared.Context.{Context}
 use Rattle.rows.proofs.Padding.{take-padded}
 use Rattle.rows.proofs.RowRange.{Within}
-use Rattle.rows.proofs.Wired.{links-marks, mark-links}
+use Rattle.linking.proofs.Wired.{links-marks, mark-links}
 use Rattle.sheet.specs.Kinds.{isFigure, isList, atomLimit, linkLimit}
-use Rattle.sheet.specs.NormalText.{nodeNumber, cellBytes}
+use Rattle.normalising.specs.NormalText.{nodeNumber, cellBytes}
 use Rattle.sheet.specs.Reading.{strange, lastNumber, clashOf, clashes, readFrom}
 use Rattle.sheet.specs.declared.kind.Kind.{Kind}
 use Rattle.sheet.specs.declared.kind.Kind.the-variants.{Fillings}

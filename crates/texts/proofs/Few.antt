@@ -7,8 +7,8 @@ use native.Mathlib.Omega.{arith}
 use lib.ListN.{length}
 use Rattle.hyperlmntal.specs.Link.{_∈_}
 use Rattle.rows.specs.Held.{Wiring, withLink, withLinks, merged, withMark}
-use Rattle.rows.proofs.Wired.{link-by, mark-by}
-use Rattle.sheet.proofs.normal.Distinct.{index-below, Once, once-length}
+use Rattle.linking.proofs.Wired.{link-by, mark-by}
+use Rattle.reading.proofs.normal.Distinct.{index-below, Once, once-length}
 
 -- Each number of l stands there once, and is one of k.
 pub record Few (k l : List ℕ) : Type 0 where

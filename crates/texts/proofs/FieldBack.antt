@@ -8,7 +8,7 @@ use borrow.Author.Tests.{le-ltb, ne-eqb, ltb-true, ltb-false, eqb-true}
 use lib.Dec.{ltb, eqb}
 use Rattle.rows.specs.Pick.{pick, and, or, not}
 use Rattle.rows.specs.Row.{holds, misplacedIn, isNil, fieldOf}
-use Rattle.rows.specs.RowText.{fieldBytes}
+use Rattle.writing.specs.RowText.{fieldBytes}
 use Rattle.rows.proofs.Bools.{or-true}
 
 -- A digit may stand in a column, a zero where it is not the first or is the only one.

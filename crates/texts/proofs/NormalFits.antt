@@ -17,23 +17,23 @@ use Rattle.rows.specs.Packed.{portsOf}
 use Rattle.rows.specs.Held.{Held, contextOf, withAtom, withContext, withFusionRow, withEdgeRow, withRow}
 use Rattle.rows.specs.declared.Atom.{Atom}
 use Rattle.rows.specs.declared.Context.{Context}
-use Rattle.rows.proofs.Wired.{row-by}
+use Rattle.linking.proofs.Wired.{row-by}
 use Rattle.sheet.specs.Kinds.{isFigure, isList, atomLimit, linkLimit}
-use Rattle.sheet.specs.Graph.{atomCell, contextCell, edgeOf, graphOf}
-use Rattle.sheet.specs.Normal.{classOf, markNode, shown, numberedBy, normalFormBy, normalForm}
-use Rattle.sheet.specs.NormalSheet.{numberIn, normalMarks}
+use Rattle.reading.specs.Graph.{atomCell, contextCell, edgeOf, graphOf}
+use Rattle.reading.specs.Normal.{classOf, markNode, shown, numberedBy, normalFormBy, normalForm}
+use Rattle.reading.specs.NormalSheet.{numberIn, normalMarks}
 use Rattle.sheet.specs.Reading.{strange, clashOf, clashes, outcomeOf}
 use Rattle.sheet.specs.declared.kind.Kind.{Kind}
 use Rattle.sheet.specs.declared.kind.Kind.the-variants.{Plain, Pattern, Figure, Replacement, Fillings}
-use Rattle.sheet.specs.Agrees.{Agrees}
+use Rattle.reading.specs.Agrees.{Agrees}
 use Rattle.sheet.proofs.read.Ranges.{Every, every-one, MarkRange, AtomRange, ContextRange, EdgeRange, WithinLimits}
 use Rattle.sheet.proofs.read.Taken.{rowAt, Taken, outcome-keeps}
-use Rattle.sheet.proofs.normal.Marks.{marks-of}
-use Rattle.sheet.proofs.normal.Connected.{no-head, ports-in}
-use Rattle.sheet.proofs.normal.TextGraph.{graph-name}
-use Rattle.sheet.proofs.normal.NormalBy.{port-shown, mark-shown}
-use Rattle.sheet.proofs.normal.NormalBounds.{classCount, number-range, text-links}
-use Rattle.sheet.proofs.normal_text.NormalWritten.{links-known, few-marks}
+use Rattle.reading.proofs.normal.Marks.{marks-of}
+use Rattle.reading.proofs.normal.Connected.{no-head, ports-in}
+use Rattle.reading.proofs.normal.TextGraph.{graph-name}
+use Rattle.reading.proofs.normal.NormalBy.{port-shown, mark-shown}
+use Rattle.reading.proofs.normal.NormalBounds.{classCount, number-range, text-links}
+use Rattle.normalising.proofs.normal_text.NormalWritten.{links-known, few-marks}
 use Rattle.texts.proofs.Texts.{downFrom}
 use Rattle.texts.proofs.BuiltRows.{Vertex, symbolCell, blankCell, every-in, Stock, Fitting}
 use Rattle.texts.proofs.ReadBack.{portsBy, portsIn, ports-by, Clear, portsAt, builtGraph, Known, Readable}

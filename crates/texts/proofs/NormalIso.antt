@@ -22,14 +22,14 @@ use Rattle.hyperlmntal.proofs.Denoting.{termOf-isomorphic}
 use Rattle.hyperlmntal.proofs.Completeness.{isomorphic-congruent}
 use Rattle.rows.specs.Pick.{pick}
 use Rattle.rows.specs.Held.{Held, indexOf}
-use Rattle.sheet.specs.Graph.{graphOf, termOfText}
-use Rattle.sheet.specs.Normal.{classOf, markNode, marksOf, shown, distinct, classesBy, numberBy, numberedBy, markedBy, normalFormBy, normalForm}
-use Rattle.sheet.proofs.normal.Classes.{connected-of-class, class-of-connected}
-use Rattle.sheet.proofs.normal.Distinct.{index-below, index-injective, distinct-in}
-use Rattle.sheet.proofs.normal.Marks.{marks-in, marks-of}
-use Rattle.sheet.proofs.normal.NormalBy.{port-shown, mark-shown}
-use Rattle.sheet.proofs.normal.NormalNodes.{Formed, form-nodes, form-mark}
-use Rattle.sheet.proofs.normal.TextGraph.{graph-marked}
+use Rattle.reading.specs.Graph.{graphOf, termOfText}
+use Rattle.reading.specs.Normal.{classOf, markNode, marksOf, shown, distinct, classesBy, numberBy, numberedBy, markedBy, normalFormBy, normalForm}
+use Rattle.reading.proofs.normal.Classes.{connected-of-class, class-of-connected}
+use Rattle.reading.proofs.normal.Distinct.{index-below, index-injective, distinct-in}
+use Rattle.reading.proofs.normal.Marks.{marks-in, marks-of}
+use Rattle.reading.proofs.normal.NormalBy.{port-shown, mark-shown}
+use Rattle.reading.proofs.normal.NormalNodes.{Formed, form-nodes, form-mark}
+use Rattle.reading.proofs.normal.TextGraph.{graph-marked}
 
 -- The first node of a list with number k.
 abbrev found : (Node ℕ → ℕ) → List (Node ℕ) → ℕ → Node ℕ

@@ -10,13 +10,13 @@ use Rattle.hyperlmntal.specs.Congruence.{_≅_, ≅-sym, ≅-trans, E2, E3, E4}
 use Rattle.hyperlmntal.specs.Isomorphism.{Isomorphic}
 use Rattle.hyperlmntal.proofs.Denoting.{terms-congruent}
 use Rattle.rows.specs.Held.{Held}
-use Rattle.sheet.specs.Graph.{graphOf, termOfText}
-use Rattle.sheet.specs.Normal.{classOf, inserted, marksAmong, others, distinct, classesBy, numberBy, normalFormBy, normalForm}
-use Rattle.sheet.specs.NormalText.{joined, normalText}
+use Rattle.reading.specs.Graph.{graphOf, termOfText}
+use Rattle.reading.specs.Normal.{classOf, inserted, marksAmong, others, distinct, classesBy, numberBy, normalFormBy, normalForm}
+use Rattle.normalising.specs.NormalText.{joined, normalText}
 use Rattle.sheet.specs.Reading.{outcomeOf, noPorts}
 use Rattle.sheet.specs.declared.kind.Kind.the-variants.{Plain}
 use Rattle.sheet.specs.declared.answer.Answer.the-variants.{Passed}
-use Rattle.sheet.proofs.normal.TextGraph.{graph-marked}
+use Rattle.reading.proofs.normal.TextGraph.{graph-marked}
 use Rattle.texts.proofs.Texts.{symbol, answerTo}
 
 abbrev pub oneTwo : List ℕ

@@ -7,15 +7,15 @@ use Rattle.hyperlmntal.specs.Congruence.{_≅_}
 use Rattle.hyperlmntal.specs.TermOf.{termOf}
 use Rattle.rows.specs.Held.{Held}
 use Rattle.sheet.specs.Kinds.{isList}
-use Rattle.sheet.specs.Graph.{graphOf, termOfText}
-use Rattle.sheet.specs.Normal.{normalForm}
-use Rattle.sheet.specs.NormalSheet.{normalMarks}
-use Rattle.sheet.specs.NormalText.{textOf, normalText}
+use Rattle.reading.specs.Graph.{graphOf, termOfText}
+use Rattle.reading.specs.Normal.{normalForm}
+use Rattle.reading.specs.NormalSheet.{normalMarks}
+use Rattle.normalising.specs.NormalText.{textOf, normalText}
 use Rattle.sheet.specs.Reading.{outcomeOf, noPorts}
 use Rattle.sheet.specs.declared.kind.Kind.{Kind}
 use Rattle.sheet.specs.declared.answer.Answer.the-variants.{Passed}
 use Rattle.sheet.proofs.read.HeldLimits.{held-within}
-use Rattle.sheet.proofs.normal.Connected.{agrees-read}
+use Rattle.reading.proofs.normal.Connected.{agrees-read}
 use Rattle.texts.proofs.NormalIso.{text-normal}
 use Rattle.texts.proofs.NormalTwice.{normal-idempotent}
 use Rattle.texts.proofs.ReadBack.{Readable, read-back, graph-back}

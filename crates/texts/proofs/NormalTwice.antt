@@ -9,10 +9,10 @@ use Rattle.hyperlmntal.proofs.Lists.{map-agree, all-map, all-append}
 use Rattle.hyperlmntal.proofs.Flats.{flat-≡, cell-≡, mapCells-agree}
 use Rattle.hyperlmntal.proofs.Connection.{connected-ind, connected-≡}
 use Rattle.rows.specs.Held.{indexOf}
-use Rattle.sheet.specs.Normal.{classOf, markNode, marksOf, shown, distinct, classesBy, numberBy, numberedBy, markedBy, normalFormBy, normalForm}
-use Rattle.sheet.proofs.normal.Distinct.{Agree, index-agree, index-label}
-use Rattle.sheet.proofs.normal.NormalBy.{port-shown, mark-shown, Labels, normal-by}
-use Rattle.sheet.proofs.normal.NormalNodes.{form-marks, form-shown}
+use Rattle.reading.specs.Normal.{classOf, markNode, marksOf, shown, distinct, classesBy, numberBy, numberedBy, markedBy, normalFormBy, normalForm}
+use Rattle.reading.proofs.normal.Distinct.{Agree, index-agree, index-label}
+use Rattle.reading.proofs.normal.NormalBy.{port-shown, mark-shown, Labels, normal-by}
+use Rattle.reading.proofs.normal.NormalNodes.{form-marks, form-shown}
 
 number-at : (label : Node ℕ → ℕ) (F : Flat ℕ) (x : Node ℕ) → numberBy label F x ≡ suc (indexOf (label x) (distinct (map label (shown F))))
 unfolding numberBy classesBy

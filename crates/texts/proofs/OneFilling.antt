@@ -12,15 +12,15 @@ use Rattle.rows.specs.Held.{Held, withAtom, withFusionRow, withEdgeRow, withHea
 use Rattle.rows.specs.declared.Context.{Context}
 use Rattle.rows.specs.declared.row.Row.{Row}
 use Rattle.rows.proofs.Bools.{or-false}
-use Rattle.rows.proofs.Wired.{row-by}
+use Rattle.linking.proofs.Wired.{row-by}
 use Rattle.sheet.specs.Kinds.{allowed}
 use Rattle.sheet.specs.Reading.{strange, outcomeOf}
 use Rattle.sheet.specs.declared.kind.Kind.the-variants.{Fillings}
-use Rattle.sheet.specs.Agrees.{Agrees}
+use Rattle.reading.specs.Agrees.{Agrees}
 use Rattle.sheet.proofs.read.Taken.{rowAt, outcome-keeps}
 use Rattle.sheet.proofs.read.HeldLimits.{context-figure}
-use Rattle.sheet.proofs.normal.Agreeing.{agrees-row}
-use Rattle.sheet.proofs.normal.Connected.{agrees-none}
+use Rattle.reading.proofs.normal.Agreeing.{agrees-row}
+use Rattle.reading.proofs.normal.Connected.{agrees-none}
 
 -- What is held, without heads.
 abbrev pub headless : Held → Held

@@ -17,14 +17,14 @@ use Rattle.rows.specs.Packed.{portsOf}
 use Rattle.rows.specs.declared.Context.{Context}
 use Rattle.rows.proofs.Padding.{take-padded}
 use Rattle.sheet.specs.Kinds.{isFigure, isList, atomLimit}
-use Rattle.sheet.specs.Graph.{atomCell, contextCell, fusionOf, edgeOf, graphOf}
-use Rattle.sheet.specs.NormalText.{cellBytes, edgeBytes, joined, textOf}
+use Rattle.reading.specs.Graph.{atomCell, contextCell, fusionOf, edgeOf, graphOf}
+use Rattle.normalising.specs.NormalText.{cellBytes, edgeBytes, joined, textOf}
 use Rattle.sheet.specs.Reading.{clashOf, Outcome, passed, readFrom, outcomeOf}
 use Rattle.sheet.specs.declared.kind.Kind.{Kind}
 use Rattle.sheet.specs.declared.answer.Answer.the-variants.{Passed}
 use Rattle.sheet.proofs.read.Ranges.{Every}
 use Rattle.sheet.proofs.read.ReadingLaws.{read-none}
-use Rattle.sheet.proofs.normal_text.NormalRows.{joined-append}
+use Rattle.normalising.proofs.normal_text.NormalRows.{joined-append}
 use Rattle.texts.proofs.BuiltRows.{Vertex, symbolCell, blankCell, vertexNums, heldAtom, heldContext, symbol-bytes, blank-bytes, Stock, Fitting, Stocked, Led, led-none, led-then, led-symbol, led-blank, led-edge}
 use Rattle.texts.proofs.Few.{few-none}
 

@@ -13,13 +13,13 @@ use lib.ListN.{length, getD, set, take, drop, replicate, length-set, length-appe
 use lib.Seq.{take-at, drop-at, getD-at, getD-set-same, getD-set-other, ext-getD}
 use Rattle.rows.specs.Format.{mostLinks, fieldCount, rowWidth, letterOf, ruleOf}
 use Rattle.rows.specs.Row.{holds, misplacedIn, fieldOf, needed, suits, rowWith, judged, fieldsOf, rowOf}
-use Rattle.rows.specs.RowText.{fieldBytes, fieldsBytes, rowBytes}
+use Rattle.writing.specs.RowText.{fieldBytes, fieldsBytes, rowBytes}
 use Rattle.rows.specs.Packed.{padded}
 use Rattle.rows.specs.declared.row.Rule.{Rule}
 use Rattle.rows.proofs.Padding.{getD-filled, length-padded, getD-padding}
 use Rattle.rows.proofs.RowLaws.{columns, suits-by, row-fields}
 use Rattle.rows.proofs.RowRange.{suited, le-or-lt, early-needed, alike, Within}
-use Rattle.rows.proofs.RowBytes.{fieldText, fieldAt, fields-length, row-width}
+use Rattle.writing.proofs.RowBytes.{fieldText, fieldAt, fields-length, row-width}
 use Rattle.sheet.specs.Reading.{ragged}
 use Rattle.sheet.proofs.read.Ranges.{Every, every-at, LinkRange, MarkRange}
 use Rattle.texts.proofs.FieldBack.{field-back}

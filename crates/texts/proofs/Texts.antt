@@ -6,7 +6,7 @@ use lib.ListN.{length}
 use Rattle.rows.specs.Format.{rowWidth, letterOf, ruleOf}
 use Rattle.rows.specs.Limits.{rowLimit}
 use Rattle.rows.specs.Row.{misplacedIn, fieldOf, suits, judged, fieldsOf, rowOf}
-use Rattle.rows.specs.RowText.{fieldBytes, fieldsBytes, rowBytes}
+use Rattle.writing.specs.RowText.{fieldBytes, fieldsBytes, rowBytes}
 use Rattle.rows.specs.Held.{Held, nothing, indexOf, withLink, withLinks, merged, withFusion, withMark, withAtom, withContext, withFusionRow, withEdgeRow, withHead, withRow}
 use Rattle.rows.specs.Packed.{portsOf}
 use Rattle.sheet.specs.Reading.{strange, lastNumber, clashOf, clashes, firstOf, Outcome, passed, readFrom, outcomeOf}

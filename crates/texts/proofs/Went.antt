@@ -7,7 +7,7 @@ use native.Mathlib.Omega.{arith}
 use lib.ListN.{length}
 use Rattle.rows.specs.Limits.{rowLimit, figureContexts, sheetMarks}
 use Rattle.rows.specs.Row.{rowWith, rowOf}
-use Rattle.rows.specs.RowText.{rowBytes}
+use Rattle.writing.specs.RowText.{rowBytes}
 use Rattle.rows.specs.Held.{Held, withRow}
 use Rattle.rows.specs.declared.Atom.{Atom}
 use Rattle.rows.specs.declared.Context.{Context}

@@ -29,9 +29,9 @@ fn read_file(name: &[u8], text: &mut [u8]) -> usize
 // The task of this name; a text that it does not use is empty.
 fn run_task(task: &[u8], first: &[u8], second: &[u8], third: &[u8], out: &mut [u8]) -> TaskAnswer {
     if check::same(task, b"normalise") {
-        of_normalised(sheet::normalise::normalise_sheet(first, out))
+        of_normalised(normalising::normalise::normalise_sheet(first, out))
     } else if check::same(task, b"normalise_figure") {
-        of_normalised(sheet::normalise::normalise_figure(first, out))
+        of_normalised(normalising::normalise::normalise_figure(first, out))
     } else if check::same(task, b"fill") {
         of_done(filling::fill::fill(first, second, out))
     } else if check::same(task, b"place") {

@@ -15,7 +15,7 @@ use Rattle.rows.specs.Row.{rowOf}
 use Rattle.rows.specs.Held.{Wiring, Held, nothing, withLink, withLinks, merged, withFusion, withMark, linksOf, atomOf, contextOf, withAtom, withContext, withFusionRow, withEdgeRow, withHead, withRow}
 use Rattle.rows.specs.declared.Context.{Context}
 use Rattle.rows.proofs.RowRange.{Within, Linked, good-letter, good-field, row-length, atom-range, context-range, fusion-range, mark-range, head-range}
-use Rattle.rows.proofs.Wired.{link-by, links-marks, mark-by, mark-links, wired-none, wired-row, row-by}
+use Rattle.linking.proofs.Wired.{link-by, links-marks, mark-by, mark-links, wired-none, wired-row, row-by}
 use Rattle.sheet.specs.Kinds.{isList}
 use Rattle.sheet.specs.Reading.{strange, outcomeOf}
 use Rattle.sheet.specs.declared.kind.Kind.{Kind}

@@ -6,17 +6,15 @@ use mathlib.Core.Bool.{Bool, true, false, true≢false}
 use lib.ListN.{length}
 use Rattle.rows.specs.Pick.{pick}
 use Rattle.rows.specs.Held.{Held, nothing, withRow}
-use Rattle.rows.specs.Packed.{packed}
-use Rattle.rows.specs.declared.Sheet.{Sheet}
+use Rattle.rows.specs.Packed.{packed, TextArrays}
 use Rattle.rows.specs.declared.row.Row.{Row}
 use Rattle.rows.proofs.Bools.{not-false}
 use Rattle.sheet.specs.Filling.{isPassed}
-use Rattle.sheet.specs.Reading.{ragged, strange, clashes, Verdict, taken, refused, firstOf, tests, Outcome, settled, readingOf}
+use Rattle.sheet.specs.Reading.{ragged, strange, clashes, Verdict, taken, refused, firstOf, tests, Outcome, settled}
 use Rattle.sheet.specs.Steps.{answerOf, earlyTests, lateTests}
 use Rattle.sheet.specs.declared.kind.Kind.{Kind}
 use Rattle.sheet.specs.declared.answer.Answer.{Answer}
 use Rattle.sheet.specs.declared.answer.Refusal.{Refusal}
-use Rattle.sheet.specs.declared.read.Reading.{Reading}
 use Rattle.sheet.proofs.read.Taken.{rowAt, none-first}
 
 abbrev isTaken : Verdict → Bool
@@ -45,10 +43,10 @@ pub answer-taken : (v : Verdict) (n : ℕ) → isPassed (answerOf v n) ≡ true 
 answer-taken taken n e = refl
 answer-taken (refused why) n e = absurd (true≢false (sym e))
 
-pub answer-refused : (u v : Verdict) (h : Held) (o : Outcome) (x : Answer) (s : Sheet) (n : ℕ) → x ≡ answerOf v n → isPassed x ≡ false → s ≡ packed nothing → n ≡ h .rows + 1
-    → ((why : Refusal) → v ≡ refused why → u ≡ refused why) → _≡_ {A = Reading} (record { answer = x; sheet = s }) (readingOf (settled u h o))
-answer-refused u taken h o x s n e p q r f = absurd (true≢false (sym (ap isPassed e) ∙ p))
-answer-refused u (refused why) h o x s n e p q r f = rw (f why refl) (rw e (rw q (rw r)))
+pub answer-refused : (u v : Verdict) (h : Held) (o : Outcome) (x : Answer) (n : ℕ) → x ≡ answerOf v n → isPassed x ≡ false → n ≡ h .rows + 1
+    → ((why : Refusal) → v ≡ refused why → u ≡ refused why) → settled u h o ≡ record { answer = x; held = nothing }
+answer-refused u taken h o x n e p r f = absurd (true≢false (sym (ap isPassed e) ∙ p))
+answer-refused u (refused why) h o x n e p r f = rw (f why refl) (rw e (rw r))
 
 module _ (kind : Kind) (pattern : List ℕ) (h : Held) (text : List ℕ) where
   -- the definition's tests before and after the row is taken in
@@ -74,7 +72,7 @@ module _ (kind : Kind) (pattern : List ℕ) (h : Held) (text : List ℕ) where
     pub early-refused : (why : Refusal) → firstOf early ≡ refused why → firstOf (tests kind pattern h text) ≡ refused why
     early-refused why e = both ∙ first-refused after before why (same ∙ e)
 
-    pub late-verdict : firstOf early ≡ taken → (t : Sheet) (clash : Bool) → t ≡ packed (withRow h (rowAt text)) → clash ≡ clashes kind pattern (h .contexts) (rowAt text)
+    pub late-verdict : firstOf early ≡ taken → (t : TextArrays) (clash : Bool) → t ≡ packed (withRow h (rowAt text)) → clash ≡ clashes kind pattern (h .contexts) (rowAt text)
         → firstOf (tests kind pattern h text) ≡ firstOf (lateTests kind (t .«atom_count») (t .«context_count») (t .«link_count») (t .«mark_count») clash)
     late-verdict p t clash et ecl = both ∙ first-taken after before (same ∙ p) ∙ rw et (rw ecl)
 

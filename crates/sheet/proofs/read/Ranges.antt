@@ -8,7 +8,7 @@ use Rattle.rows.specs.Pick.{pick}
 use Rattle.rows.specs.Format.{mostLinks}
 use Rattle.rows.specs.Limits.{rowLimit, figureContexts, sheetMarks}
 use Rattle.rows.specs.Held.{Held}
-use Rattle.rows.specs.Steps.{Wired}
+use Rattle.linking.specs.Steps.{Wired}
 use Rattle.rows.specs.declared.Atom.{Atom}
 use Rattle.rows.specs.declared.Context.{Context}
 use Rattle.rows.proofs.RowRange.{Within}

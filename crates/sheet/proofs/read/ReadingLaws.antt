@@ -8,17 +8,15 @@ use native.Mathlib.Nat.{zero-add, suc-add}
 use native.Mathlib.Omega.{arith}
 use borrow.Author.Tests.{ltb-true, ltb-false, lt-ltb, le-ltb, le-leb, eqb-true, eqb-false, eq-eqb, ne-eqb}
 use lib.Dec.{eqb, ltb}
-use lib.ListN.{length, take, drop, replicate, length-take}
+use lib.ListN.{length, take, drop, length-take}
 use lib.Seq.{take-take, getD-take, take-nil}
 use Rattle.rows.specs.Pick.{pick}
-use Rattle.rows.specs.Format.{mostLinks, rowWidth}
-use Rattle.rows.specs.Limits.{rowLimit, sheetAtoms, figureContexts, sheetMarks, fillingLinks}
+use Rattle.rows.specs.Format.{rowWidth}
+use Rattle.rows.specs.Limits.{rowLimit}
 use Rattle.rows.specs.Row.{rowOf}
 use Rattle.rows.specs.Held.{Held, nothing, withAtom, withContext, withFusionRow, withEdgeRow, withHead, withRow}
-use Rattle.rows.specs.Packed.{padded, noAtom, noContext, portsOf, packed}
-use Rattle.rows.specs.declared.Sheet.{Sheet}
 use Rattle.rows.specs.declared.row.Row.{Row}
-use Rattle.rows.proofs.Wired.{row-by}
+use Rattle.linking.proofs.Wired.{row-by}
 use Rattle.sheet.specs.Reading.{ragged, firstOf, passed, refusedAfter, readFrom, outcomeOf}
 use Rattle.sheet.specs.declared.kind.Kind.{Kind}
 use Rattle.sheet.specs.declared.answer.Refusal.the-variants.{Long}
@@ -33,27 +31,6 @@ read-none (suc n) kind pattern h = refl
 pub empty-passes : (kind : Kind) (pattern : List ℕ) → outcomeOf kind pattern [] ≡ passed nothing
 unfolding outcomeOf
 empty-passes kind pattern = read-none (rowLimit + 1) kind pattern nothing
-
--- The sheet that holds nothing.
-abbrev pub emptySheet : Sheet
-emptySheet =
-    record {
-      atoms = replicate (sheetAtoms + 1) noAtom;
-      «atom_count» = 0;
-      contexts = replicate (figureContexts + 1) noContext;
-      «context_count» = 0;
-      ports = replicate 5 0;
-      links = replicate (fillingLinks + mostLinks) 0;
-      classes = replicate (fillingLinks + mostLinks) 0;
-      «link_count» = 0;
-      marks = replicate (sheetMarks + 1) 0;
-      marked = replicate (sheetMarks + 1) 0;
-      «mark_count» = 0;
-    }
-
-pub packed-nothing : packed nothing ≡ emptySheet
-unfolding padded portsOf
-packed-nothing = refl
 
 -- A row more is counted.
 module _ (h : Held) (r : Row) where

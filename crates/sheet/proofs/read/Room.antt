@@ -9,7 +9,8 @@ use Rattle.rows.specs.Limits.{sheetAtoms, sheetMarks, fillingLinks}
 use Rattle.rows.specs.Row.{rowOf}
 use Rattle.rows.specs.Held.{Held}
 use Rattle.rows.specs.Packed.{padded, packed}
-use Rattle.rows.specs.Steps.{Room, Ranged}
+use Rattle.linking.specs.Steps.{Room}
+use Rattle.rows.specs.Entry.{Ranged}
 use Rattle.rows.proofs.Padding.{getD-filled}
 use Rattle.rows.proofs.RowRange.{good-letter, linked-range, context-range, head-range}
 use Rattle.sheet.specs.Kinds.{atomLimit, linkLimit}

@@ -8,7 +8,7 @@ use native.Mathlib.Omega.{arith}
 use lib.ListN.{getD, take}
 use mir.Val.{boolByte}
 use Rattle.rows.specs.Pick.{pick}
-use Rattle.rows.specs.RowText.{rowBytes}
+use Rattle.writing.specs.RowText.{rowBytes}
 use Rattle.answers.proofs.row.numbers_row.Statement.{statement}
 use Rattle.answers.proofs.row.numbers_row.Tie as tie
 

@@ -1,11 +1,10 @@
 -- An input that is refused at a row, and inputs that passed.
 use borrow.Author.Needs.{needs}
-use mathlib.Core.Path.{refl, ap, sym, _∙_}
+use mathlib.Core.Path.{ap, sym, _∙_, subst}
 use Rattle.sheet.specs.Filling.{isPassed}
-use Rattle.sheet.specs.Reading.{noPorts}
-use Rattle.sheet.specs.declared.kind.Kind.the-variants.{Plain, Figure}
-use Rattle.sheet.specs.declared.read.Reading.{Reading}
-use Rattle.sheet.proofs.normal.NormalReady.{numberable-read, normal-read}
+use Rattle.reading.specs.declared.read.Reading.{Reading}
+use Rattle.filling.specs.Parts.{Headed}
+use Rattle.filling.proofs.Parts.{headed-read}
 use Rattle.claiming.proofs.ClaimCode.{claim-first, claim-second, claim-third, claim-all}
 use Rattle.claiming.proofs.claim.claim.Statement.{statement}
 use Rattle.claiming.proofs.claim.claim.Tie as tie
@@ -37,20 +36,9 @@ enum-known-three c = search needs
 enum-told-3 : tie.Need-enum-told-3
 enum-told-3 c = search needs
 
-normal-of-requires : tie.Need-normal-of-requires
-normal-of-requires c κs =
-    let r = c .before .before .before .before .before .before .before .before .before .before .before in
-    rw (r .read-sheet .ensures) (numberable-read Plain noPorts (r .before .before .before .before .args .sheet .now))
-
-normal-of-requires-2 : tie.Need-normal-of-requires-2
-normal-of-requires-2 c κs =
-    let g = c .before .before .before .before .before .before .before .before .before in
-    rw (g .read-figure .ensures) (numberable-read Figure noPorts (g .before .before .before .before .before .before .before .args .figure .now))
-
 claim-read-requires : tie.Need-claim-read-requires
 claim-read-requires c κs =
-    let n = c .before in
-    let w = n .before .before .before .before in
+    let w = c .before .before .before .before in
     let l = w .before .before in
     let v = l .before in
     let g = v .before .before in
@@ -62,12 +50,12 @@ claim-read-requires c κs =
         (
           a .figure .now,
           record {
-            of-sheet = normal-read Plain noPorts (a .sheet .now) refl (n .normal-of .result) (rw (r .read-sheet .ensures) at (n .normal-of .ensures));
-            of-figure = normal-read Figure noPorts (a .figure .now) refl (c .normal-of2 .result) (rw (g .read-figure .ensures) at (c .normal-of2 .ensures));
+            of-sheet = ap (λ (x : Reading). x .normal) (r .read-sheet .ensures);
+            of-figure = ap (λ (x : Reading). x .normal) (g .read-figure .ensures);
           },
         ),
       ),
-      ap (λ (x : Reading). x .sheet) (l .read-list .ensures),
+      subst (λ (x : Reading). Headed (x .normal) (x .ports) (a .list .now)) (sym (l .read-list .ensures)) (headed-read (a .list .now)),
       ap isPassed (sym (ap (λ (x : Reading). x .answer) (l .read-list .ensures)) ∙ w .enum-told3 .given .1),
     )
 
@@ -103,9 +91,7 @@ returns-3 c =
 
 returns-4 : tie.Need-returns-4
 returns-4 c =
-    let m = c .before in
-    let n = m .before in
-    let w = n .before .before .before .before in
+    let w = c .before .before .before .before .before in
     let l = w .before .before in
     let v = l .before in
     let g = v .before .before in
@@ -113,8 +99,8 @@ returns-4 c =
     let r = u .before .before in
     let a = r .before .before .before .before .args in
     c .claim-read .ensures (a .sheet .now) (a .figure .now) (record {
-      of-sheet = normal-read Plain noPorts (a .sheet .now) refl (n .normal-of .result) (rw (r .read-sheet .ensures) at (n .normal-of .ensures));
-      of-figure = normal-read Figure noPorts (a .figure .now) refl (m .normal-of2 .result) (rw (g .read-figure .ensures) at (m .normal-of2 .ensures));
+      of-sheet = ap (λ (x : Reading). x .normal) (r .read-sheet .ensures);
+      of-figure = ap (λ (x : Reading). x .normal) (g .read-figure .ensures);
     })
     ∙ claim-all (a .sheet .now) (a .figure .now) (a .list .now) (sym (ap (λ (x : Reading). x .answer) (r .read-sheet .ensures)) ∙ u .enum-told .given .1)
     (sym (ap (λ (x : Reading). x .answer) (g .read-figure .ensures)) ∙ v .enum-told2 .given .1)
@@ -133,8 +119,6 @@ claim-spec =
     read-list-requires
     enum-known-three
     enum-told-3
-    normal-of-requires
-    normal-of-requires-2
     claim-read-requires
     returns
     returns-2

@@ -1,34 +1,35 @@
 -- Refusals 8 and 9, too large a filled figure, and one that is placed or not.
 use mathlib.Core.Path.{_∙_}
+use Rattle.filling.proofs.Parts.{headed-counted}
 use Rattle.filling.proofs.Loops.{exacts-none}
-use Rattle.claiming.proofs.ClaimCode.{figure-counted, heads-counted, says-lacking, says-differing, says-many, says-wide, filled-ready, says-placed}
+use Rattle.claiming.proofs.ClaimCode.{figure-counted, says-lacking, says-differing, says-many, says-wide, filled-ready, says-placed}
 use Rattle.claiming.proofs.claim.claim_read.Statement.{statement}
 use Rattle.claiming.proofs.claim.claim_read.Tie as tie
 
 first-lacking-requires : tie.Need-first-lacking-requires
 first-lacking-requires c κs =
-    let t = c .before .before .before in
+    let t = c .before .before in
     let i = t .pre .0 in
     figure-counted (t .args .sheet) (t .args .figure) (i .0) (i .1 .0) (i .1 .1)
 
 returns : tie.Need-returns
 returns c =
     let l = c .before in
-    let t = l .before .before .before .before in
+    let t = l .before .before .before in
     let a = t .args in
-    λ s f I. says-lacking (a .sheet) (a .figure) (a .heads) (a .list .now) (t .pre .1) s f I (l .first-lacking .result) (l .first-lacking .ensures) (c .if1 .taken)
+    λ s f I. says-lacking (a .sheet) (a .figure) (a .heads) (a .ports) (a .list .now) (t .pre .1) s f I (l .first-lacking .result) (l .first-lacking .ensures) (c .if1 .taken)
 
 normal-filled-requires : tie.Need-normal-filled-requires
 normal-filled-requires c κs =
-    let t = c .before .before .before .before .before .before in
+    let t = c .before .before .before .before .before in
     let i = t .pre .0 in
     ((i .1 .0, i .1 .1 .of-figure), t .pre .2, exacts-none (t .args .list .now) 5)
 
 first-differing-requires : tie.Need-first-differing-requires
 first-differing-requires c κs =
     let n = c .before .before in
-    let t = n .before .before .before .before .before .before .before in
-    (heads-counted (t .args .heads) (t .args .list .now) (t .pre .1), t .pre .2, n .normal-filled .ensures .0)
+    let t = n .before .before .before .before .before .before in
+    (headed-counted (t .args .heads) (t .args .ports) (t .args .list .now) (t .pre .1), t .pre .2, n .normal-filled .ensures .0)
 
 returns-2 : tie.Need-returns-2
 returns-2 c =
@@ -36,9 +37,9 @@ returns-2 c =
     let n = d .before .before .before in
     let e = n .before .before in
     let l = e .before in
-    let t = l .before .before .before .before in
+    let t = l .before .before .before in
     let a = t .args in
-    λ s f I. says-differing (a .sheet) (a .figure) (a .heads) (a .list .now) (t .pre .1) s f I (l .first-lacking .result) (l .first-lacking .ensures) (e .if1 .left) (d .first-differing .result) (d .first-differing .ensures) (c .if2 .taken)
+    λ s f I. says-differing (a .sheet) (a .figure) (a .heads) (a .ports) (a .list .now) (t .pre .1) s f I (l .first-lacking .result) (l .first-lacking .ensures) (e .if1 .left) (d .first-differing .result) (d .first-differing .ensures) (c .if2 .taken)
 
 returns-3 : tie.Need-returns-3
 returns-3 c =
@@ -47,9 +48,9 @@ returns-3 c =
     let n = d .before .before .before in
     let e = n .before .before in
     let l = e .before in
-    let t = l .before .before .before .before in
+    let t = l .before .before .before in
     let a = t .args in
-    λ s f I. says-many (a .sheet) (a .figure) (a .heads) (a .list .now) (t .pre .1) s f I (l .first-lacking .result) (l .first-lacking .ensures) (e .if1 .left) (d .first-differing .result) (d .first-differing .ensures)
+    λ s f I. says-many (a .sheet) (a .figure) (a .heads) (a .ports) (a .list .now) (t .pre .1) s f I (l .first-lacking .result) (l .first-lacking .ensures) (e .if1 .left) (d .first-differing .result) (d .first-differing .ensures)
     (y .if2 .left) (n .normal-filled .result) (n .normal-filled .ensures .1) (c .if3 .taken)
 
 returns-4 : tie.Need-returns-4
@@ -59,9 +60,9 @@ returns-4 c =
     let n = d .before .before .before in
     let e = n .before .before in
     let l = e .before in
-    let t = l .before .before .before .before in
+    let t = l .before .before .before in
     let a = t .args in
-    λ s f I. says-wide (a .sheet) (a .figure) (a .heads) (a .list .now) (t .pre .1) s f I (l .first-lacking .result) (l .first-lacking .ensures) (e .if1 .left) (d .first-differing .result) (d .first-differing .ensures)
+    λ s f I. says-wide (a .sheet) (a .figure) (a .heads) (a .ports) (a .list .now) (t .pre .1) s f I (l .first-lacking .result) (l .first-lacking .ensures) (e .if1 .left) (d .first-differing .result) (d .first-differing .ensures)
     (y .if2 .left) (n .normal-filled .result) (n .normal-filled .ensures .1) (c .if4 .taken)
 
 claim-filled-requires : tie.Need-claim-filled-requires
@@ -72,10 +73,10 @@ claim-filled-requires c κs =
     let n = d .before .before .before in
     let e = n .before .before in
     let l = e .before in
-    let t = l .before .before .before .before in
+    let t = l .before .before .before in
     let a = t .args in
     let i = t .pre .0 in
-    filled-ready (a .sheet) (a .figure) (a .heads) (a .list .now) (t .pre .1) (i .0) (i .1 .0) (i .1 .1) (l .first-lacking .result) (l .first-lacking .ensures) (e .if1 .left) (d .first-differing .result) (d .first-differing .ensures)
+    filled-ready (a .sheet) (a .figure) (a .heads) (a .ports) (a .list .now) (t .pre .1) (i .0) (i .1 .0) (i .1 .1) (l .first-lacking .result) (l .first-lacking .ensures) (e .if1 .left) (d .first-differing .result) (d .first-differing .ensures)
     (y .if2 .left) (n .normal-filled .result) (n .normal-filled .ensures .1) (m .if3 .left) (c .if4 .left)
 
 returns-5 : tie.Need-returns-5
@@ -87,10 +88,10 @@ returns-5 c =
     let n = d .before .before .before in
     let e = n .before .before in
     let l = e .before in
-    let t = l .before .before .before .before in
+    let t = l .before .before .before in
     let a = t .args in
     λ s f I. c .claim-filled .ensures
-    ∙ says-placed (a .sheet) (a .figure) (a .heads) (a .list .now) (t .pre .1) s f I (l .first-lacking .result) (l .first-lacking .ensures) (e .if1 .left) (d .first-differing .result) (d .first-differing .ensures)
+    ∙ says-placed (a .sheet) (a .figure) (a .heads) (a .ports) (a .list .now) (t .pre .1) s f I (l .first-lacking .result) (l .first-lacking .ensures) (e .if1 .left) (d .first-differing .result) (d .first-differing .ensures)
     (y .if2 .left) (n .normal-filled .result) (n .normal-filled .ensures .1) (m .if3 .left) (b .if4 .left)
 
 pub claim-read-spec : {M : Type 1} → statement M

@@ -1,10 +1,7 @@
 -- `compare::compare` meets its contract: an input that is refused, or two that passed. Assumes nothing.
 use borrow.Author.Needs.{needs}
-use mathlib.Core.Path.{refl, ap, sym, _∙_}
-use Rattle.sheet.specs.Reading.{noPorts}
-use Rattle.sheet.specs.declared.kind.Kind.the-variants.{Plain}
-use Rattle.sheet.specs.declared.read.Reading.{Reading}
-use Rattle.sheet.proofs.normal.NormalReady.{numberable-read, normal-read}
+use mathlib.Core.Path.{ap, sym, _∙_}
+use Rattle.reading.specs.declared.read.Reading.{Reading}
 use Rattle.comparing.proofs.Comparing.{first-refused, second-refused, ready-read, both-passed}
 use Rattle.comparing.proofs.compare.compare.Statement.{statement}
 use Rattle.comparing.proofs.compare.compare.Tie as tie
@@ -27,25 +24,13 @@ enum-known-two c = search needs
 enum-told-2 : tie.Need-enum-told-2
 enum-told-2 c = search needs
 
-normal-of-requires : tie.Need-normal-of-requires
-normal-of-requires c κs =
-    let r = c .before .before .before .before .before .before .before in
-    rw (r .read-sheet .ensures) (numberable-read Plain noPorts (r .before .before .before .args .a .now))
-
-normal-of-requires-2 : tie.Need-normal-of-requires-2
-normal-of-requires-2 c κs =
-    let t = c .before .before .before .before .before in
-    let r = t .before .before .before in
-    rw (t .read-sheet2 .ensures) (numberable-read Plain noPorts (r .before .before .before .args .b .now))
-
 compare-normals-requires : tie.Need-compare-normals-requires
 compare-normals-requires c κs =
-    let t = c .before .before .before .before .before .before in
+    let t = c .before .before .before .before in
     let r = t .before .before .before in
     let a = r .before .before .before .args in
-    ready-read (a .a .now) (a .b .now) (c .before .normal-of .result) (c .normal-of2 .result)
-    (normal-read Plain noPorts (a .a .now) refl (c .before .normal-of .result) (rw (r .read-sheet .ensures) at (c .before .normal-of .ensures)))
-    (normal-read Plain noPorts (a .b .now) refl (c .normal-of2 .result) (rw (t .read-sheet2 .ensures) at (c .normal-of2 .ensures)))
+    ready-read (a .a .now) (a .b .now) (r .read-sheet .result .normal) (t .read-sheet2 .result .normal)
+    (ap (λ (x : Reading). x .normal) (r .read-sheet .ensures)) (ap (λ (x : Reading). x .normal) (t .read-sheet2 .ensures))
 
 returns : tie.Need-returns
 returns c =
@@ -65,16 +50,15 @@ returns-2 c =
 
 returns-3 : tie.Need-returns-3
 returns-3 c =
-    let n = c .before in
-    let t = n .before .before .before .before .before .before in
+    let x = c .before in
+    let t = x .before .before .before .before in
     let r = t .before .before .before in
     let a = r .before .before .before .args in
     c .compare-normals .ensures
-    ∙ both-passed (a .a .now) (a .b .now) (n .before .normal-of .result) (n .normal-of2 .result)
-    (normal-read Plain noPorts (a .a .now) refl (n .before .normal-of .result) (rw (r .read-sheet .ensures) at (n .before .normal-of .ensures)))
-    (normal-read Plain noPorts (a .b .now) refl (n .normal-of2 .result) (rw (t .read-sheet2 .ensures) at (n .normal-of2 .ensures)))
+    ∙ both-passed (a .a .now) (a .b .now) (r .read-sheet .result .normal) (t .read-sheet2 .result .normal)
+    (ap (λ (x : Reading). x .normal) (r .read-sheet .ensures)) (ap (λ (x : Reading). x .normal) (t .read-sheet2 .ensures))
     (sym (ap (λ (x : Reading). x .answer) (r .read-sheet .ensures)) ∙ t .before .enum-told .given .1)
-    (sym (ap (λ (x : Reading). x .answer) (t .read-sheet2 .ensures)) ∙ n .before .before .before .before .enum-told2 .given .1)
+    (sym (ap (λ (x : Reading). x .answer) (t .read-sheet2 .ensures)) ∙ x .before .before .enum-told2 .given .1)
 
 pub compare-spec : {M : Type 1} → statement M
 compare-spec =
@@ -86,8 +70,6 @@ compare-spec =
     read-sheet-requires-2
     enum-known-two
     enum-told-2
-    normal-of-requires
-    normal-of-requires-2
     compare-normals-requires
     returns
     returns-2

@@ -12,7 +12,7 @@ use Rattle.filling.proofs.classes.number_label.Statement.{statement}
 use Rattle.filling.proofs.classes.number_label.Tie as tie
 use Rattle.filling.proofs.classes.number_label.Reads as reads
 use Rattle.filling.proofs.classes.number_label.Lts as lts
-use Rattle.rows.proofs.take.index_of.Reads as index-of-reads
+use Rattle.linking.proofs.take.index_of.Reads as index-of-reads
 
 index-of-requires : tie.Need-index-of-requires
 index-of-requires c κs = search needs

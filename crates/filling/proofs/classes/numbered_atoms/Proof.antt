@@ -9,7 +9,7 @@ use lib.Seq.{getD-take, length-take-le}
 use Rattle.rows.specs.Limits.{sheetAtoms}
 use Rattle.rows.specs.declared.Atom.{Atom}
 use Rattle.rows.proofs.Lists.{mapped, mapped-at}
-use Rattle.sheet.specs.NormalRows.{pastAtoms}
+use Rattle.normalising.specs.NormalRows.{pastAtoms}
 use Rattle.numbering.proofs.Turns.{unmapped}
 use Rattle.filling.specs.Whole.{labelledAtom, Linked}
 use Rattle.filling.specs.Classes.{Sees, withLabels, linksIn, numberedAt}

@@ -1,15 +1,12 @@
 -- A short slip, an input that is refused at a row, and inputs that passed.
 use borrow.Author.Needs.{needs}
 use mathlib.Core.Path.{_≡_, sym, _∙_, ap, subst}
-use Rattle.rows.specs.Packed.{packed}
-use Rattle.numbering.specs.Numbering.{Numberable}
 use Rattle.sheet.specs.Filling.{isPassed}
-use Rattle.sheet.specs.NormalSheet.{packedNormal}
-use Rattle.sheet.specs.declared.kind.Kind.the-variants.{Figure}
-use Rattle.sheet.specs.declared.read.Reading.{Reading}
-use Rattle.sheet.proofs.normal.NormalReady.{numberable-held}
+use Rattle.reading.specs.NormalSheet.{packedNormal}
+use Rattle.reading.specs.declared.read.Reading.{Reading}
 use Rattle.filling.specs.Fill.{figureHeld}
-use Rattle.filling.proofs.Parts.{figure-within, figure-agrees}
+use Rattle.filling.specs.Parts.{Headed}
+use Rattle.filling.proofs.Parts.{headed-read}
 use Rattle.filling.proofs.Answers.{fill-short, fill-figure, fill-list, fill-passed}
 use Rattle.filling.proofs.fill.fill.Statement.{statement}
 use Rattle.filling.proofs.fill.fill.Tie as tie
@@ -30,26 +27,17 @@ enum-told c = search needs
 enum-told-2 : tie.Need-enum-told-2
 enum-told-2 c = search needs
 
--- The figure as it was read, and its normal form.
-figure-read : (i : tie.After-read-figure) → i .read-figure .result .sheet ≡ packed (figureHeld (i .before .before .before .before .before .args .figure .now))
-figure-read i = ap (λ (x : Reading). x .sheet) (i .read-figure .ensures)
-
-figure-normal : (n : tie.After-normal-of) → n .normal-of .result ≡ packedNormal (figureHeld (n .before .before .before .before .before .before .before .before .before .before .before .before .before .args .figure .now))
-figure-normal n = let T = n .before .before .before .before .before .before .before .before .before .before .before .before .before .args .figure .now in
-    n .normal-of .ensures (figureHeld T) (figure-agrees T) (figure-read (n .before .before .before .before .before .before .before .before))
-
-normal-of-requires : tie.Need-normal-of-requires
-normal-of-requires c κs = let i = c .before .before .before .before .before .before .before in
-    let T = i .before .before .before .before .before .args .figure .now in
-    subst Numberable (sym (figure-read i)) (numberable-held Figure (figureHeld T) (figure-within T) (figure-agrees T .labels))
+-- The figure as it was read is in its normal form.
+figure-normal : (i : tie.After-read-figure) → i .read-figure .result .normal ≡ packedNormal (figureHeld (i .before .before .before .before .before .args .figure .now))
+figure-normal i = ap (λ (x : Reading). x .normal) (i .read-figure .ensures)
 
 fill-read-requires : tie.Need-fill-read-requires
-fill-read-requires c κs = let n = c .before in
-    let t = n .before .before .before in
+fill-read-requires c κs = let t = c .before .before .before .before in
     let r = t .before .before in
-    let e = r .before .before .before .before in
+    let i = r .before .before .before in
+    let e = i .before in
     let a = e .before .before .before .before .args in
-    (((a .figure .now, figure-normal n), ap (λ (x : Reading). x .sheet) (r .read-list .ensures), ap isPassed (sym (ap (λ (x : Reading). x .answer) (r .read-list .ensures)) ∙ t .enum-told2 .given .1)), e .if1 .left)
+    (((a .figure .now, figure-normal i), subst (λ (x : Reading). Headed (x .normal) (x .ports) (a .list .now)) (sym (r .read-list .ensures)) (headed-read (a .list .now)), ap isPassed (sym (ap (λ (x : Reading). x .answer) (r .read-list .ensures)) ∙ t .enum-told2 .given .1)), e .if1 .left)
 
 enum-known-list-answer : tie.Need-enum-known-list-answer
 enum-known-list-answer c = search needs
@@ -62,14 +50,13 @@ same-length c = search needs
 
 returns-2 : tie.Need-returns-2
 returns-2 c = let w = c .before .before in
-    let n = w .before .before in
-    let t = n .before .before .before in
+    let t = w .before .before .before .before .before in
     let r = t .before .before in
     let i = r .before .before .before in
     let e = i .before in
     let a = e .before .before .before .before .args in
     fill-passed (a .figure .now) (a .list .now) (a .out .now) (e .if1 .left) (sym (ap (λ (x : Reading). x .answer) (i .read-figure .ensures)) ∙ r .before .enum-told .given .1) (sym (ap (λ (x : Reading). x .answer) (r .read-list .ensures)) ∙ t .enum-told2 .given .1)
-    (w .fill-read .result) (w .fill-read .ensures .0 (a .figure .now) (figure-normal n)) _ (w .fill-read .ensures .1 (a .figure .now) (figure-normal n))
+    (w .fill-read .result) (w .fill-read .ensures .0 (a .figure .now) (figure-normal i)) _ (w .fill-read .ensures .1 (a .figure .now) (figure-normal i))
 
 returns-3 : tie.Need-returns-3
 returns-3 c = let g = c .before .list-answer .given in
@@ -95,7 +82,6 @@ fill-spec =
     enum-told
     read-list-requires
     enum-told-2
-    normal-of-requires
     fill-read-requires
     enum-known-list-answer
     enum-known-figure-answer

@@ -7,7 +7,8 @@ use lib.ListN.{length, getD, set, length-set}
 use lib.Seq.{set-getD}
 use mathlib.Core.Logic.{⊎-elim}
 use Rattle.rows.specs.Held.{relabelled}
-use Rattle.rows.proofs.Lists.{mapped, relabel-hit, relabel-miss}
+use Rattle.rows.proofs.Lists.{mapped}
+use Rattle.linking.proofs.Loops.{relabel-hit, relabel-miss}
 use Rattle.filling.specs.Parts.{places}
 use Rattle.filling.proofs.Fresh.{merged-first}
 use Rattle.filling.proofs.glue.merged.Statement.{statement}

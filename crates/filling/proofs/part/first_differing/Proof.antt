@@ -7,7 +7,7 @@ use mathlib.Core.Path.{_≡_, refl, sym, _∙_}
 use mathlib.Core.Bool.{true, false}
 use lib.ListN.{length, getD, take, drop}
 use Rattle.rows.specs.Limits.{figureContexts}
-use Rattle.sheet.specs.NormalRows.{pastContexts}
+use Rattle.normalising.specs.NormalRows.{pastContexts}
 use Rattle.numbering.proofs.Turns.{unmapped}
 use Rattle.filling.specs.Fill.{firstDiffering}
 use Rattle.filling.proofs.Found.{exact-part}

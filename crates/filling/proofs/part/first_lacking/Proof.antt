@@ -8,7 +8,7 @@ use lib.ListN.{length, getD, take, drop}
 use mathlib.Core.Bool.{true, false}
 use borrow.Author.Tests.{eq-eqb, ne-eqb}
 use Rattle.rows.specs.Limits.{figureContexts}
-use Rattle.sheet.specs.NormalRows.{pastContexts}
+use Rattle.normalising.specs.NormalRows.{pastContexts}
 use Rattle.numbering.proofs.Turns.{unmapped}
 use Rattle.filling.specs.Parts.{firstUnported}
 use Rattle.filling.proofs.Loops.{lacking-next, lacking-end}

@@ -7,10 +7,10 @@ use mathlib.Core.List.{List, _++_, append-nil, append-assoc}
 use lib.ListN.{length, getD, take, drop, length-take}
 use Rattle.rows.specs.Limits.{sheetAtoms, figureContexts, sheetMarks}
 use Rattle.rows.specs.declared.Atom.{Atom}
-use Rattle.sheet.specs.NormalRows.{pastContexts}
-use Rattle.sheet.specs.declared.normal.Normal.{Normal}
+use Rattle.normalising.specs.NormalRows.{pastAtoms, pastContexts}
+use Rattle.rows.specs.declared.Sheet.{Sheet as Normal}
 use Rattle.numbering.proofs.Turns.{unmapped}
-use Rattle.filling.specs.Parts.{partNormal, partRoom, Low, Exacts}
+use Rattle.filling.specs.Parts.{partNormal, partRoom, Exacts}
 use Rattle.filling.specs.Glued.{FreshFrom, joinedAll, portPairs, allPairs}
 use Rattle.filling.specs.Whole.{partAtoms, contextAtoms, roomFor, wholeAtoms}
 use Rattle.filling.proofs.Parts.{part-low, part-marks}
@@ -71,8 +71,8 @@ with-part-requires c κs = let p = c .before .before .before .before .before .be
     let l = p .before .before .before .before in
     let s = l .before .before in
     let x = getD (s .args .t2) (l .loop .i) pastContexts in
-    let low : Low (p .part-of .result) = subst Low (sym (p .part-of .ensures)) (part-low (s .args .list .now) (x .number)) in
-    (l .loop .inv .3, omega (arith, s .pre .0 .counted .few, p .before .before .before .loop-test .taken), low .atoms, low .atomLinks)
+    let low = part-low (s .args .list .now) (x .number) in
+    (l .loop .inv .3, omega (arith, s .pre .0 .counted .few, p .before .before .before .loop-test .taken), subst (λ (n : Normal). n .«atom_count» ≤ sheetAtoms) (sym (p .part-of .ensures)) (low .atoms), subst (λ (n : Normal). (i k : ℕ) → getD (getD (n .atoms) i pastAtoms .links) k 0 < partRoom) (sym (p .part-of .ensures)) (low .atomLinks))
 
 add-i : tie.Need-add-i Inv-loop μ-loop
 add-i c = let t = c .before .before .before .before .before .before .before .before .before .before .before .before .before in

@@ -1,10 +1,7 @@
 -- A short slip, an input that is refused at a row, and inputs that passed.
 use borrow.Author.Needs.{needs}
-use mathlib.Core.Path.{refl, ap, sym, _∙_}
-use Rattle.sheet.specs.Reading.{noPorts}
-use Rattle.sheet.specs.declared.kind.Kind.the-variants.{Plain, Pattern}
-use Rattle.sheet.specs.declared.read.Reading.{Reading}
-use Rattle.sheet.proofs.normal.NormalReady.{numberable-read, normal-read}
+use mathlib.Core.Path.{ap, sym, _∙_}
+use Rattle.reading.specs.declared.read.Reading.{Reading}
 use Rattle.finding.specs.Inputs.{PlaceInputs}
 use Rattle.finding.proofs.PlaceCode.{place-short, place-first, place-second, place-both}
 use Rattle.finding.proofs.place.place.Statement.{statement}
@@ -32,23 +29,9 @@ enum-known-two c = search needs
 enum-told-2 : tie.Need-enum-told-2
 enum-told-2 c = search needs
 
-normal-of-requires : tie.Need-normal-of-requires
-normal-of-requires c κs =
-    let q = c .before .before .before .before in
-    let r = q .before .before .before in
-    rw (r .read-sheet .ensures) (numberable-read Plain noPorts (r .before .before .before .before .before .args .sheet .now))
-
-normal-of-requires-2 : tie.Need-normal-of-requires-2
-normal-of-requires-2 c κs =
-    let q = c .before .before .before .before .before in
-    let r = q .before .before .before in
-    rw (q .read-pattern .ensures) (numberable-read Pattern noPorts (r .before .before .before .before .before .args .pattern .now))
-
 place-normals-requires : tie.Need-place-normals-requires
 place-normals-requires c κs =
-    let m = c .before in
-    let n = m .before in
-    let t = n .before .before .before in
+    let t = c .before .before .before in
     let q = t .before .before in
     let u = q .before in
     let r = u .before .before in
@@ -60,8 +43,8 @@ place-normals-requires c κs =
           a .pattern .now,
           record {
             passed = record { sheet-passes = sym (ap (λ (x : Reading). x .answer) (r .read-sheet .ensures)) ∙ u .enum-told .given .1; pattern-passes = sym (ap (λ (x : Reading). x .answer) (q .read-pattern .ensures)) ∙ t .enum-told2 .given .1 };
-            of-sheet = normal-read Plain noPorts (a .sheet .now) refl (n .normal-of .result) (rw (r .read-sheet .ensures) at (n .normal-of .ensures));
-            of-pattern = normal-read Pattern noPorts (a .pattern .now) refl (m .normal-of2 .result) (rw (q .read-pattern .ensures) at (m .normal-of2 .ensures));
+            of-sheet = ap (λ (x : Reading). x .normal) (r .read-sheet .ensures);
+            of-pattern = ap (λ (x : Reading). x .normal) (q .read-pattern .ensures);
           },
         ),
       ),
@@ -92,9 +75,7 @@ same-length c = search needs
 returns-4 : tie.Need-returns-4
 returns-4 c =
     let w = c .before .before in
-    let m = w .before .before in
-    let n = m .before in
-    let t = n .before .before .before in
+    let t = w .before .before .before .before in
     let q = t .before .before in
     let u = q .before in
     let r = u .before .before in
@@ -102,10 +83,10 @@ returns-4 c =
     let a = e .before .before .before .before .args in
     let S = sym (ap (λ (x : Reading). x .answer) (r .read-sheet .ensures)) ∙ u .enum-told .given .1 in
     let P = sym (ap (λ (x : Reading). x .answer) (q .read-pattern .ensures)) ∙ t .enum-told2 .given .1 in
-    let I : PlaceInputs (n .normal-of .result) (m .normal-of2 .result) (a .sheet .now) (a .pattern .now) = record {
+    let I : PlaceInputs (r .read-sheet .result .normal) (q .read-pattern .result .normal) (a .sheet .now) (a .pattern .now) = record {
       passed = record { sheet-passes = S; pattern-passes = P };
-      of-sheet = normal-read Plain noPorts (a .sheet .now) refl (n .normal-of .result) (rw (r .read-sheet .ensures) at (n .normal-of .ensures));
-      of-pattern = normal-read Pattern noPorts (a .pattern .now) refl (m .normal-of2 .result) (rw (q .read-pattern .ensures) at (m .normal-of2 .ensures));
+      of-sheet = ap (λ (x : Reading). x .normal) (r .read-sheet .ensures);
+      of-pattern = ap (λ (x : Reading). x .normal) (q .read-pattern .ensures);
     } in
     place-both (a .sheet .now) (a .pattern .now) (a .out .now) (e .if1 .left) S P
     (w .place-normals .result) (w .place-normals .ensures .0 (a .sheet .now) (a .pattern .now) I) _ (w .place-normals .ensures .1 (a .sheet .now) (a .pattern .now) I)
@@ -121,8 +102,6 @@ place-spec =
     read-pattern-requires
     enum-known-two
     enum-told-2
-    normal-of-requires
-    normal-of-requires-2
     place-normals-requires
     returns-2
     returns-3

@@ -3,7 +3,7 @@ use borrow.Author.Needs.{needs}
 use native.Mathlib.Omega.{arith}
 use lib.ListN.{replicate}
 use Rattle.rows.specs.Format.{mostLinks}
-use Rattle.sheet.proofs.normal_text.NormalRows.{two-narrow}
+use Rattle.normalising.proofs.normal_text.NormalRows.{two-narrow}
 use Rattle.listing.proofs.put_rows.put_pair.Statement.{statement}
 use Rattle.listing.proofs.put_rows.put_pair.Tie as tie
 

@@ -6,7 +6,7 @@ use mathlib.Core.List.{List, [], _∷_}
 use native.Mathlib.Omega.{arith}
 use lib.ListN.{length, take, getD, length-take}
 use Rattle.rows.specs.Format.{mostLinks, rowWidth}
-use Rattle.rows.proofs.RowBytes.{over, over-none}
+use Rattle.writing.proofs.RowBytes.{over, over-none}
 use Rattle.numbering.specs.Numbering.{numbering, withClasses}
 use Rattle.listing.specs.Writing.{numberIn, portsBytes}
 use Rattle.listing.proofs.Steps.{links-next, links-few, number-put, number-few, number-later, ports-put}

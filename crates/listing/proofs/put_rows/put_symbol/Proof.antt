@@ -6,7 +6,7 @@ use mathlib.Core.List.{[]}
 use native.Mathlib.Omega.{arith}
 use lib.ListN.{length}
 use Rattle.rows.specs.Format.{rowWidth}
-use Rattle.rows.proofs.RowBytes.{over-none}
+use Rattle.writing.proofs.RowBytes.{over-none}
 use Rattle.numbering.specs.Numbering.{numbering, withClasses}
 use Rattle.listing.specs.Writing.{numberIn, cellIf, symbolsBytes}
 use Rattle.listing.proofs.Atoms.{given-one, given-links, given-symbol, row-low, row-taken}

@@ -6,7 +6,7 @@ use mathlib.Core.List.{List, _++_}
 use native.Mathlib.Omega.{arith}
 use lib.ListN.{length}
 use Rattle.rows.specs.Format.{rowWidth}
-use Rattle.rows.proofs.RowBytes.{over, over-none}
+use Rattle.writing.proofs.RowBytes.{over, over-none}
 use Rattle.numbering.specs.Numbering.{numbering, withClasses}
 use Rattle.numbering.proofs.Turns.{with-classes-count}
 use Rattle.numbering.proofs.Kept.{low-after, later-all}

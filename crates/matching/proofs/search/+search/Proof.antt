@@ -12,7 +12,7 @@ use borrow.Fn.PlainCycle.{Measures, is, falls, and}
 use Rattle.network.specs.NetIn.{netIn}
 use Rattle.network.specs.Ready.{AtomsIn}
 use Rattle.matching.specs.Search.{Kept, searchFrom, Onward}
-use Rattle.sheet.specs.declared.normal.Normal.{Normal as NormalForm}
+use Rattle.rows.specs.declared.Sheet.{Sheet as NormalForm}
 use Rattle.candidates.specs.Frames.{whole}
 use Rattle.candidates.specs.Laid.{LaidOut}
 use Rattle.candidates.proofs.Laying.{laid-rowed}

@@ -1,7 +1,7 @@
 -- `search::leaf` meets its contract: what completing gives stands behind the chosen atoms. Assumes nothing.
 use borrow.Author.Needs.{needs}
 use borrow.Author.Tests.{not-true, not-false}
-use Rattle.sheet.specs.declared.normal.Normal.{Normal as NormalForm}
+use Rattle.rows.specs.declared.Sheet.{Sheet as NormalForm}
 use Rattle.candidates.specs.Frames.{whole}
 use Rattle.matching.proofs.SearchLaws.{leaf-none, leaf-found}
 use Rattle.matching.proofs.search.leaf.Statement.{statement}

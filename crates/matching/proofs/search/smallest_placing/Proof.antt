@@ -4,17 +4,19 @@ use Rattle.matching.proofs.SearchWhole.{no-atoms, placed-smallest, laid
 use Rattle.matching.proofs.SearchTurns.{nothing-begun, narrow-kept}
 use Prim.Native.Nat.{ℕ}
 use mathlib.Core.List.{List, []}
-use lib.ListN.{length, replicate}
+use lib.ListN.{length, take, replicate}
 use Rattle.rows.specs.Limits.{sheetAtoms, sheetLinks}
-use Rattle.sheet.specs.declared.normal.Normal.{Normal as NormalForm}
-use Rattle.network.specs.Ready.{Ready}
+use Rattle.rows.specs.declared.Sheet.{Sheet as NormalForm}
+use Rattle.network.specs.NetIn.{netIn}
+use Rattle.network.specs.Ready.{Ready, AtomsIn}
+use Rattle.matching.specs.Search.{searchFrom}
 use Rattle.candidates.specs.Frames.{whole}
 use Rattle.candidates.specs.Laid.{LaidOut}
 use Rattle.candidates.proofs.Framing.{whole-laid}
 use Rattle.candidates.proofs.Laying.{laid-rowed}
 use Rattle.candidates.proofs.Marks.{own-marks, mark-links}
 use Rattle.matching.proofs.Leftover.{leftover}
-use mathlib.Core.Path.{_≡_, refl}
+use mathlib.Core.Path.{_≡_, refl, sym, _∙_, ap, subst}
 use native.Mathlib.Omega.{arith}
 use borrow.Author.Needs.{needs}
 use Rattle.matching.proofs.search.smallest_placing.Statement.{statement}
@@ -68,14 +70,29 @@ frame-of-requires c κs = search needs
 frame-of-requires-2 : tie.Need-frame-of-requires-2
 frame-of-requires-2 c κs = search needs
 
-start-requires : tie.Need-start-requires
-start-requires c κs = let a = c .before .before .before .before in (sheet-laid a, figure-laid a, refl, refl)
-
-mark-lost-requires : tie.Need-mark-lost-requires
-mark-lost-requires c κs = let a = c .before .before .before .before .before .before .before .before in
-    mark-links (figure-of a) _ _ _ (own-marks (figure-of a) (ready a .figure-fit) (ready a .figure-normal))
+leaf-requires : tie.Need-leaf-requires
+leaf-requires c κs = let a = c .before .before .before in
+    (ready a, subst (λ (k : ℕ). AtomsIn (sheet-of a) k (replicate sheetAtoms 0)) (sym (c .before .before .if2 .taken)) (no-atoms (sheet-of a) (replicate sheetAtoms 0) refl), sheet-laid a, figure-laid a)
 
 -- the arrays of what is returned have their room
+leaf-room : (c : tie.After-leaf) → (length (c .leaf .result .«atoms_to») ≡ sheetAtoms) × (length (c .leaf .result .«links_to») ≡ sheetLinks)
+leaf-room c = (search (needs, c .leaf .ok), search (needs, c .leaf .ok))
+
+returns-2 : tie.Need-returns-2
+returns-2 c =
+    let a = c .before .before .before .before in
+    let b = a .before .before .before .before .before .before .before .before in
+    placed-whole (b .args .sheet) (b .args .figure) _ _ (given-sheet a) (given-figure a) _ _ (a .before .frame-of .ensures) (a .frame-of2 .ensures) (c .leaf .result)
+    (placed-smallest (sheet-of a) (figure-of a) (ready a) (c .leaf .result) (leaf-room c .0) (leaf-room c .1)
+    (c .leaf .ensures ∙ ap (λ (k : ℕ). searchFrom (netIn (sheet-of a)) (netIn (figure-of a)) (take k (replicate sheetAtoms 0))) (c .before .before .before .if2 .taken)))
+
+start-requires : tie.Need-start-requires
+start-requires c κs = let a = c .before .before .before .before .before in (sheet-laid a, figure-laid a, refl, refl)
+
+mark-lost-requires : tie.Need-mark-lost-requires
+mark-lost-requires c κs = let a = c .before .before .before .before .before .before .before .before .before in
+    mark-links (figure-of a) _ _ _ (own-marks (figure-of a) (ready a .figure-fit) (ready a .figure-normal))
+
 nothing-room : (c : tie.After-nothing2) → (length (c .nothing2 .result .«atoms_to») ≡ sheetAtoms) × (length (c .nothing2 .result .«links_to») ≡ sheetLinks)
 nothing-room c = (search (needs, c .nothing2 .ok), search (needs, c .nothing2 .ok))
 
@@ -85,29 +102,29 @@ search-room c = (search (needs, c .search .ok), search (needs, c .search .ok))
 nothing-requires-2 : tie.Need-nothing-requires-2
 nothing-requires-2 c κs = search needs
 
-returns-2 : tie.Need-returns-2
-returns-2 c =
-    let a = c .before .before .before .before .before .before .before .before .before .before .before in
+returns-3 : tie.Need-returns-3
+returns-3 c =
+    let a = c .before .before .before .before .before .before .before .before .before .before .before .before in
     let b = a .before .before .before .before .before .before .before .before in
     let s = c .before .before .before .before .before .before .start in
     let chosen : List ℕ = replicate sheetAtoms 0 in
     placed-whole (b .args .sheet) (b .args .figure) _ _ (given-sheet a) (given-figure a) _ _ (a .before .frame-of .ensures) (a .frame-of2 .ensures) (c .nothing2 .result)
     (placed-smallest (sheet-of a) (figure-of a) (ready a) (c .nothing2 .result) (nothing-room c .0) (nothing-room c .1)
     (nothing-begun (sheet-of a) (figure-of a) (ready a) chosen 0 (omega arith) (no-atoms (sheet-of a) chosen refl)
-    (c .before .before .mark-lost .ensures (c .before .if2 .taken) (sheet-of a) (figure-of a) _ (ready a .sheet-fit) (ready a .sheet-normal) (own-marks (figure-of a) (ready a .figure-fit) (ready a .figure-normal)) [] (s .last .1 .1 .1 .1 .0) (s .ensures)) (c .nothing2 .result) (c .nothing2 .ensures)))
+    (c .before .before .mark-lost .ensures (c .before .if3 .taken) (sheet-of a) (figure-of a) _ (ready a .sheet-fit) (ready a .sheet-normal) (own-marks (figure-of a) (ready a .figure-fit) (ready a .figure-normal)) [] (s .last .1 .1 .1 .1 .0) (s .ensures)) (c .nothing2 .result) (c .nothing2 .ensures)))
 
 users-of-requires : tie.Need-users-of-requires
-users-of-requires c κs = (laid-rowed _ _ _ (sheet-laid (c .before .before .before .before .before .before .before .before .before .before .before .before)), refl)
+users-of-requires c κs = (laid-rowed _ _ _ (sheet-laid (c .before .before .before .before .before .before .before .before .before .before .before .before .before)), refl)
 
 users-of-requires-2 : tie.Need-users-of-requires-2
-users-of-requires-2 c κs = (laid-rowed _ _ _ (figure-laid (c .before .before .before .before .before .before .before .before .before .before .before .before .before .before .before)), refl)
+users-of-requires-2 c κs = (laid-rowed _ _ _ (figure-laid (c .before .before .before .before .before .before .before .before .before .before .before .before .before .before .before .before)), refl)
 
 narrow-all-requires : tie.Need-narrow-all-requires
-narrow-all-requires c κs = let a = c .before .before .before .before .before .before .before .before .before .before .before .before .before .before .before .before .before .before .before .before .before .before in
+narrow-all-requires c κs = let a = c .before .before .before .before .before .before .before .before .before .before .before .before .before .before .before .before .before .before .before .before .before .before .before in
     (laid-rowed _ _ _ (sheet-laid a), c .before .before .before .before .before .before .before .before .before .users-of .ensures, laid-rowed _ _ _ (figure-laid a), c .before .before .before .before .before .before .users-of2 .ensures)
 
 search-requires : tie.Need-search-requires
-search-requires c κs = let a = c .before .before .before .before .before .before .before .before .before .before .before .before .before .before .before .before .before .before .before .before .before .before .before .before .before .before .before .before .before in
+search-requires c κs = let a = c .before .before .before .before .before .before .before .before .before .before .before .before .before .before .before .before .before .before .before .before .before .before .before .before .before .before .before .before .before .before in
     let s = c .before .before .before .before .before .before .before .before .before .before .before .before .before .before .before .before .before .before .before .before .before .before .before .before .start in
     let w = c .before .before .before .before .before .before .narrow-all in (
       ready a,
@@ -120,9 +137,9 @@ search-requires c κs = let a = c .before .before .before .before .before .befor
       c .before .before .before .before .before .before .before .before .before .before .before .before .before .users-of2 .ensures,
     )
 
-returns-3 : tie.Need-returns-3
-returns-3 c =
-    let a = c .before .before .before .before .before .before .before .before .before .before .before .before .before .before .before .before .before .before .before .before .before .before .before .before .before .before .before .before .before .before in
+returns-4 : tie.Need-returns-4
+returns-4 c =
+    let a = c .before .before .before .before .before .before .before .before .before .before .before .before .before .before .before .before .before .before .before .before .before .before .before .before .before .before .before .before .before .before .before in
     let b = a .before .before .before .before .before .before .before .before in
     placed-whole (b .args .sheet) (b .args .figure) _ _ (given-sheet a) (given-figure a) _ _ (a .before .frame-of .ensures) (a .frame-of2 .ensures) (c .search .result)
     (placed-smallest (sheet-of a) (figure-of a) (ready a) (c .search .result) (search-room c .0) (search-room c .1) (c .search .ensures))
@@ -138,12 +155,14 @@ smallest-placing-spec =
     lay-requires-2
     frame-of-requires
     frame-of-requires-2
+    leaf-requires
+    returns-2
     start-requires
     mark-lost-requires
     nothing-requires-2
-    returns-2
+    returns-3
     users-of-requires
     users-of-requires-2
     narrow-all-requires
     search-requires
-    returns-3)
+    returns-4)

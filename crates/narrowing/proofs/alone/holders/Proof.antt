@@ -5,10 +5,10 @@ use Rattle.narrowing.proofs.alone.holders.Statement.{statement}
 use Rattle.narrowing.proofs.alone.holders.Tie as tie
 
 abbrev Inv-loop : tie.InvT-loop
-Inv-loop m row atoms set₀ j₀ set j = j ≤ m
+Inv-loop m row atoms set₀ bit₀ j₀ set bit j = j ≤ m
 
 abbrev μ-loop : tie.MeasureT-loop
-μ-loop m row atoms set₀ j₀ set j = m - j
+μ-loop m row atoms set₀ bit₀ j₀ set bit j = m - j
 
 loop-holds : tie.Need-loop-holds Inv-loop μ-loop
 loop-holds c = search needs
@@ -18,9 +18,6 @@ mul-if1 c = search needs
 
 element-copy-out-if1 : tie.Need-element-copy-out-if1 Inv-loop μ-loop
 element-copy-out-if1 c = search needs
-
-one-requires : tie.Need-one-requires Inv-loop μ-loop
-one-requires c κs = search needs
 
 add-j : tie.Need-add-j Inv-loop μ-loop
 add-j c = search needs
@@ -43,7 +40,6 @@ holders-spec =
     loop-holds
     mul-if1
     element-copy-out-if1
-    one-requires
     add-j
     loop-less
     loop-again

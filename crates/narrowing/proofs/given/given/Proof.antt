@@ -1,10 +1,9 @@
 -- Invariant: a link that the set gives is in the pair, or what is left of the set gives it.
-use mathlib.Core.Path.{_≡_, refl, _∙_, subst}
+use mathlib.Core.Path.{_≡_, subst}
 use native.Mathlib.Decide.{ℕ-discrete}
 use native.Mathlib.Omega.{arith}
 use Prim.Native.Nat.{ℕ, _-_, _<_}
 use mathlib.Core.Logic.{_≢_, _⊎_, inl, inr, ⊎-elim}
-use lib.ListN.{length}
 use Rattle.rows.specs.Limits.{sheetLinks}
 use Rattle.rows.specs.declared.Atom.{Atom}
 use Rattle.candidates.specs.Laid.{laidAtom}
@@ -16,7 +15,7 @@ use Rattle.narrowing.proofs.given.given.Statement.{statement}
 use Rattle.narrowing.proofs.given.given.Tie as tie
 
 abbrev Inv-loop : tie.InvT-loop
-Inv-loop laid n row k pair₀ rest₀ pair rest = (length pair ≡ 2) × ((y : ℕ) → y < sheetLinks → Given (laidAtom laid) n row k y → InPair pair y ⊎ Given (laidAtom laid) n rest k y)
+Inv-loop laid n row k pair₀ rest₀ pair rest = (y : ℕ) → y < sheetLinks → Given (laidAtom laid) n row k y → InPair pair y ⊎ Given (laidAtom laid) n rest k y
 
 abbrev μ-loop : tie.MeasureT-loop
 μ-loop laid n row k pair₀ rest₀ pair rest = rest
@@ -40,7 +39,7 @@ rest : (c : tie.After-minus Inv-loop μ-loop) (y : ℕ) →
 rest c y g = given-less _ _ _ _ _ _ (λ u m d. c .minus .ensures .1 u m (λ q. d (c .before .one .ensures .1 u q))) y g
 
 loop-holds : tie.Need-loop-holds Inv-loop μ-loop
-loop-holds c = (refl, λ y h g. inr g)
+loop-holds c = λ y h g. inr g
 
 first-requires : tie.Need-first-requires Inv-loop μ-loop
 first-requires c κs = search needs
@@ -56,20 +55,20 @@ link-at-requires c κs = let s = c .before .before .before .before .before .befo
     let h = c .if1 .taken in
     (omega (arith, h, s .pre .0 .few), s .pre .1, s .pre .0 .atoms (c .before .before .before .first .result) h)
 
-sub-put : tie.Need-sub-put Inv-loop μ-loop
-sub-put c = search needs
+sub-with : tie.Need-sub-with Inv-loop μ-loop
+sub-with c = search needs
 
-put-requires : tie.Need-put-requires Inv-loop μ-loop
-put-requires c κs = search needs
+with-requires : tie.Need-with-requires Inv-loop μ-loop
+with-requires c κs = search needs
 
 loop-less : tie.Need-loop-less Inv-loop μ-loop
-loop-less c = less (c .before .before .before .before .before)
+loop-less c = less (c .before .before .before .before)
 
 loop-again : tie.Need-loop-again Inv-loop μ-loop
-loop-again c = let l = c .before .before .before .before .before .before .before .before .before in
-    let a = c .before .before .before .link-at in
-    let e = c .put .ensures in
-    (e .1 .1 .1 ∙ l .loop .inv .0, λ y h g. ⊎-elim (λ p. inl (e .0 y h p)) (λ q. ⊎-elim (λ b. inl (subst (InPair (c .put .last .0)) (let z : a .result - 1 ≡ y = omega (arith, a .ensures .0 (b .place), b .there) in z) (e .1 .0 (l .loop .inv .0)))) inr (rest (c .before .before .before .before .before) y q)) (l .loop .inv .1 y h g))
+loop-again c = let l = c .before .before .before .before .before .before .before .before in
+    let a = c .before .before .link-at in
+    let e = c .with .ensures in
+    λ y h g. ⊎-elim (λ p. inl (e .0 y h p)) (λ q. ⊎-elim (λ b. inl (subst (InPair (c .with .result)) (let z : a .result - 1 ≡ y = omega (arith, a .ensures .0 (b .place), b .there) in z) (e .1 .0))) inr (rest (c .before .before .before .before) y q)) (l .loop .inv y h g)
 
 loop-less-2 : tie.Need-loop-less-2 Inv-loop μ-loop
 loop-less-2 c = less (c .before .before .before)
@@ -77,17 +76,17 @@ loop-less-2 c = less (c .before .before .before)
 loop-again-2 : tie.Need-loop-again-2 Inv-loop μ-loop
 loop-again-2 c = let l = c .before .before .before .before .before .before .before in
     let a = c .before .link-at in
-    (l .loop .inv .0, λ y h g. ⊎-elim inl (λ q. ⊎-elim (λ b. absurd (omega (arith, c .if2 .left, a .ensures .0 (b .place), b .there))) inr (rest (c .before .before .before) y q)) (l .loop .inv .1 y h g))
+    λ y h g. ⊎-elim inl (λ q. ⊎-elim (λ b. absurd (omega (arith, c .if2 .left, a .ensures .0 (b .place), b .there))) inr (rest (c .before .before .before) y q)) (l .loop .inv y h g)
 
 loop-less-3 : tie.Need-loop-less-3 Inv-loop μ-loop
 loop-less-3 c = less (c .before)
 
 loop-again-3 : tie.Need-loop-again-3 Inv-loop μ-loop
 loop-again-3 c = let l = c .before .before .before .before .before in
-    (l .loop .inv .0, λ y h g. ⊎-elim inl (λ q. ⊎-elim (λ b. absurd (omega (arith, c .if1 .left, b .sheet-atom))) inr (rest (c .before) y q)) (l .loop .inv .1 y h g))
+    λ y h g. ⊎-elim inl (λ q. ⊎-elim (λ b. absurd (omega (arith, c .if1 .left, b .sheet-atom))) inr (rest (c .before) y q)) (l .loop .inv y h g)
 
 returns : tie.Need-returns Inv-loop μ-loop
-returns c = λ y h g. ⊎-elim (λ p. p) (λ q. absurd (omega (arith, in-some (c .before .loop .rest) (q .0) (q .1 .may)))) (c .before .loop .inv .1 y h g)
+returns c = λ y h g. ⊎-elim (λ p. p) (λ q. absurd (omega (arith, in-some (c .before .loop .rest) (q .0) (q .1 .may)))) (c .before .loop .inv y h g)
 
 pub given-spec : {M : Type 1} → statement M
 given-spec =
@@ -100,8 +99,8 @@ given-spec =
     one-requires
     minus-requires
     link-at-requires
-    sub-put
-    put-requires
+    sub-with
+    with-requires
     loop-less
     loop-again
     loop-less-2

@@ -55,20 +55,20 @@ mul-if3-2 c = search needs
 element-copy-out-if3 : tie.Need-element-copy-out-if3 Inv-loop μ-loop
 element-copy-out-if3 c = search needs
 
-sub-put : tie.Need-sub-put Inv-loop μ-loop
-sub-put c = search needs
+sub-with : tie.Need-sub-with Inv-loop μ-loop
+sub-with c = search needs
 
-put-requires : tie.Need-put-requires Inv-loop μ-loop
-put-requires c κs = search needs
+with-requires : tie.Need-with-requires Inv-loop μ-loop
+with-requires c κs = search needs
 
 loop-less : tie.Need-loop-less Inv-loop μ-loop
-loop-less c = less (c .before .before .before .before .before .before .before)
+loop-less c = less (c .before .before .before .before .before .before)
 
 loop-again : tie.Need-loop-again Inv-loop μ-loop
-loop-again c = let l = c .before .before .before .before .before .before .before .before .before .before .before in
+loop-again c = let l = c .before .before .before .before .before .before .before .before .before .before in
     let s = l .before .args in
     let k = s .k in
-    λ y h p t r u. ⊎-elim (λ q. l .loop .inv y h q t r u) (λ e. none-in t (subst (λ (w : ℕ). In w t) (c .before .before .if3 .taken) (in-and _ (s .row) t (subst (λ (z : ℕ). In (getD (s .users .now) (k * sheetLinks + z) 0) t) e u) r))) (c .put .ensures .1 .1 .0 y h p)
+    λ y h p t r u. ⊎-elim (λ q. l .loop .inv y h q t r u) (λ e. none-in t (subst (λ (w : ℕ). In w t) (c .before .if3 .taken) (in-and _ (s .row) t (subst (λ (z : ℕ). In (getD (s .users .now) (k * sheetLinks + z) 0) t) e u) r))) (c .with .ensures .1 .1 y h p)
 
 loop-less-2 : tie.Need-loop-less-2 Inv-loop μ-loop
 loop-less-2 c = less (c .before .before .before .before .before)
@@ -107,8 +107,8 @@ missing-spec =
     add-if3
     mul-if3-2
     element-copy-out-if3
-    sub-put
-    put-requires
+    sub-with
+    with-requires
     loop-less
     loop-again
     loop-less-2

@@ -1,5 +1,4 @@
 use borrow.Author.Needs.{needs}
-use Rattle.rows.specs.Packed.{padded, portsOf}
 use Rattle.rows.proofs.Sheet.empty.Statement.{statement}
 use Rattle.rows.proofs.Sheet.empty.Tie as tie
 
@@ -10,7 +9,6 @@ none-requires-2 : tie.Need-none-requires-2
 none-requires-2 c κs = search needs
 
 returns : tie.Need-returns
-unfolding padded portsOf
 returns c = rw (c .before .none .ensures) (rw (c .none2 .ensures))
 
 pub empty-spec : {M : Type 1} → statement M

@@ -11,7 +11,7 @@ use lib.Seq.{set-set}
 use borrow.Author.Tests.{not-true, not-false}
 use borrow.Fn.Kinds.{In}
 use borrow.Fn.PlainCycle.{Measures, is, falls, and}
-use Rattle.sheet.specs.declared.normal.Normal as form
+use Rattle.rows.specs.declared.Sheet as form
 use Rattle.network.proofs.NetIn.{ports-of}
 use Rattle.deciding.specs.Flags.{flagged}
 use Rattle.settling.specs.Completes.{Tables, CompletesAt}
@@ -49,14 +49,14 @@ mendable-below t = and 7 mendable-kinds.ps (falls 7 mendable-kinds.ps _<_ μ-men
 
 abbrev completable-Inv-loop : completable-lts.InvT-loop
 completable-Inv-loop nets laid chains taken kinds to flags y links x₀ x =
-    (x ≤ nets .count) × ((sheet figure : form.Normal) → Tables sheet figure nets laid chains kinds to → TriedTo sheet figure taken to flags links x)
+    (x ≤ nets .count) × ((sheet figure : form.Sheet) → Tables sheet figure nets laid chains kinds to → TriedTo sheet figure taken to flags links x)
 
 abbrev completable-μ-loop : completable-lts.MeasureT-loop
 completable-μ-loop nets laid chains taken kinds to flags y links x₀ x = nets .count - x
 
 abbrev mendable-Inv-loop : mendable-lts.InvT-loop
 mendable-Inv-loop nets laid chains taken kinds to flags links x next₀ rest y₀ next y =
-    (y ≤ nets .links) × ((v : ℕ) → set next x v ≡ set to x v) × ((sheet figure : form.Normal) → Tables sheet figure nets laid chains kinds to → TriedAt sheet figure taken to x links rest y)
+    (y ≤ nets .links) × ((v : ℕ) → set next x v ≡ set to x v) × ((sheet figure : form.Sheet) → Tables sheet figure nets laid chains kinds to → TriedAt sheet figure taken to x links rest y)
 
 abbrev mendable-μ-loop : mendable-lts.MeasureT-loop
 mendable-μ-loop nets laid chains taken kinds to flags links x next₀ rest y₀ next y = nets .links - y

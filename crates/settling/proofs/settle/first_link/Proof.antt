@@ -5,7 +5,7 @@ use mathlib.Core.Path.{_≡_, refl, _∙_}
 use native.Mathlib.Omega.{arith}
 use lib.ListN.{set, length-set}
 use lib.Seq.{set-set}
-use Rattle.sheet.specs.declared.normal.Normal as form
+use Rattle.rows.specs.declared.Sheet as form
 use Rattle.network.proofs.NetIn.{ports-of}
 use Rattle.faults.proofs.Finding.{links-few}
 use Rattle.settling.specs.Completes.{Tables}
@@ -15,7 +15,7 @@ use Rattle.settling.proofs.settle.first_link.Tie as tie
 
 abbrev Inv-loop : tie.InvT-loop
 Inv-loop nets laid chains taken kinds to flags x next₀ rest y₀ next y =
-    (y ≤ nets .links) × ((v : ℕ) → set next x v ≡ set to x v) × ((sheet figure : form.Normal) → Tables sheet figure nets laid chains kinds to → TriedAll sheet figure taken to x rest y)
+    (y ≤ nets .links) × ((v : ℕ) → set next x v ≡ set to x v) × ((sheet figure : form.Sheet) → Tables sheet figure nets laid chains kinds to → TriedAll sheet figure taken to x rest y)
 
 abbrev μ-loop : tie.MeasureT-loop
 μ-loop nets laid chains taken kinds to flags x next₀ rest y₀ next y = nets .links - y

@@ -3,7 +3,7 @@
 use Prim.Native.Nat.{_-_, _≤_}
 use mathlib.Core.Logic.{⊎-elim}
 use native.Mathlib.Omega.{arith}
-use Rattle.sheet.specs.declared.normal.Normal as form
+use Rattle.rows.specs.declared.Sheet as form
 use Rattle.network.proofs.NetIn.{ports-of}
 use Rattle.settling.specs.Completes.{Tables}
 use Rattle.settling.proofs.Trying.{tables-links}
@@ -13,7 +13,7 @@ use Rattle.settling.proofs.settle.settled.Tie as tie
 
 abbrev Inv-loop : tie.InvT-loop
 Inv-loop nets laid chains taken kinds to flags next₀ rest₀ x₀ next rest x =
-    (x ≤ nets .count) × ((sheet figure : form.Normal) → Tables sheet figure nets laid chains kinds to → SettledTo sheet figure taken to flags next rest x)
+    (x ≤ nets .count) × ((sheet figure : form.Sheet) → Tables sheet figure nets laid chains kinds to → SettledTo sheet figure taken to flags next rest x)
 
 abbrev μ-loop : tie.MeasureT-loop
 μ-loop nets laid chains taken kinds to flags next₀ rest₀ x₀ next rest x = nets .count - x

@@ -8,7 +8,7 @@ use lib.ListN.{getD, take}
 use Rattle.rows.specs.Format.{mostLinks}
 use Rattle.rows.specs.Limits.{sheetLinks}
 use Rattle.rows.specs.declared.Atom.{Atom}
-use Rattle.sheet.specs.declared.normal.Normal.{Normal as NormalForm}
+use Rattle.rows.specs.declared.Sheet.{Sheet as NormalForm}
 use Rattle.placing.specs.Net.{cellLinks}
 use Rattle.network.specs.NetIn.{atomIn, Used}
 use Rattle.candidates.specs.Laid.{LaidOut}

@@ -3,9 +3,8 @@ use borrow.Author.Needs.{needs}
 use borrow.Author.Count.{below-more}
 use native.Mathlib.Omega.{arith}
 use Prim.Native.Nat.{ℕ, _≤_, _-_, _<_}
-use mathlib.Core.Path.{_≡_, refl, _∙_}
 use mathlib.Core.Logic.{⊎-elim}
-use lib.ListN.{length, getD}
+use lib.ListN.{getD}
 use Rattle.placing.proofs.FirstLaws.{both-ways}
 use Rattle.candidates.specs.Words.{InPair}
 use Rattle.starting.specs.Steps.{Enough}
@@ -13,13 +12,13 @@ use Rattle.starting.proofs.start.enough_links.Statement.{statement}
 use Rattle.starting.proofs.start.enough_links.Tie as tie
 
 abbrev Inv-loop : tie.InvT-loop
-Inv-loop closed wanted counts n pair₀ y₀ pair y = (y ≤ n) × (length pair ≡ 2) × ((v : ℕ) → v < y → Enough closed wanted (getD counts v 0) → InPair pair v)
+Inv-loop closed wanted counts n pair₀ y₀ pair y = (y ≤ n) × ((v : ℕ) → v < y → Enough closed wanted (getD counts v 0) → InPair pair v)
 
 abbrev μ-loop : tie.MeasureT-loop
 μ-loop closed wanted counts n pair₀ y₀ pair y = n - y
 
 loop-holds : tie.Need-loop-holds Inv-loop μ-loop
-loop-holds c = (search needs, refl, λ v h. absurd (omega arith))
+loop-holds c = (search needs, λ v h. absurd (omega arith))
 
 mul-enough : tie.Need-mul-enough Inv-loop μ-loop
 mul-enough c = search needs
@@ -30,9 +29,9 @@ element-copy-out-enough c = search needs
 enough-requires : tie.Need-enough-requires Inv-loop μ-loop
 enough-requires c κs = search needs
 
-put-requires : tie.Need-put-requires Inv-loop μ-loop
-put-requires c κs = let l = c .before .before .before .before .before in
-    omega (arith, c .before .before .before .before .loop-test .taken, l .before .pre)
+with-requires : tie.Need-with-requires Inv-loop μ-loop
+with-requires c κs = let l = c .before .before .before .before in
+    omega (arith, c .before .before .before .loop-test .taken, l .before .pre)
 
 add-y : tie.Need-add-y Inv-loop μ-loop
 add-y c = search needs
@@ -46,19 +45,17 @@ loop-again c = let l = c .before .before .before .before in
     ⊎-elim
     (λ w. (
       search needs,
-      rw (w .3) (w .2 .ensures .1 .1 .1 ∙ l .loop .inv .1),
-      rw (w .3) (below-more (λ (v : ℕ). Enough (s .closed) (s .wanted) (getD (s .counts .now) v 0) → InPair (w .2 .last .0) v) (l .loop .y) (λ v h e. w .2 .ensures .0 v (omega (arith, h, l .loop .inv .0, l .before .pre)) (l .loop .inv .2 v h e)) (λ e. w .2 .ensures .1 .0 (l .loop .inv .1))),
+      rw (w .2) (below-more (λ (v : ℕ). Enough (s .closed) (s .wanted) (getD (s .counts .now) v 0) → InPair (w .1 .result) v) (l .loop .y) (λ v h e. w .1 .ensures .0 v (omega (arith, h, l .loop .inv .0, l .before .pre)) (l .loop .inv .1 v h e)) (λ e. w .1 .ensures .1 .0)),
     ))
     (λ w. (
       search needs,
-      rw (w .1) (l .loop .inv .1),
-      rw (w .1) (below-more (λ (v : ℕ). Enough (s .closed) (s .wanted) (getD (s .counts .now) v 0) → InPair (l .loop .pair) v) (l .loop .y) (l .loop .inv .2) (λ e. absurd (both-ways (c .before .enough .ensures e) (w .0 .left)))),
+      rw (w .1) (below-more (λ (v : ℕ). Enough (s .closed) (s .wanted) (getD (s .counts .now) v 0) → InPair (l .loop .pair) v) (l .loop .y) (l .loop .inv .1) (λ e. absurd (both-ways (c .before .enough .ensures e) (w .0 .left)))),
     ))
     (c .if1 .came)
 
 returns : tie.Need-returns Inv-loop μ-loop
 returns c = let l = c .before in
-    λ v h. l .loop .inv .2 v (omega arith)
+    λ v h. l .loop .inv .1 v (omega arith)
 
 pub enough-links-spec : {M : Type 1} → statement M
 enough-links-spec =
@@ -70,7 +67,7 @@ enough-links-spec =
     mul-enough
     element-copy-out-enough
     enough-requires
-    put-requires
+    with-requires
     add-y
     loop-less
     loop-again

@@ -19,11 +19,11 @@ Inv-loop x y n closed links₀ only z₀ links z = (z ≤ n) × LinksStay links�
 abbrev μ-loop : tie.MeasureT-loop
 μ-loop x y n closed links₀ only z₀ links z = n - z
 
-sub-put : tie.Need-sub-put Inv-loop μ-loop
-sub-put c = search needs
+sub-with : tie.Need-sub-with Inv-loop μ-loop
+sub-with c = search needs
 
-put-requires : tie.Need-put-requires Inv-loop μ-loop
-put-requires c κs = search needs
+with-requires : tie.Need-with-requires Inv-loop μ-loop
+with-requires c κs = search needs
 
 loop-holds : tie.Need-loop-holds Inv-loop μ-loop
 loop-holds c = (search needs, λ w v h m p. m)
@@ -51,15 +51,15 @@ loop-less c = search needs
 
 loop-again : tie.Need-loop-again Inv-loop μ-loop
 loop-again c = let l = c .before .before .before in
-    let s = l .before .before .before .args in
-    let put = l .before .put in
+    let s = l .before .before .args in
+    let only = l .before .with in
     let P : ℕ → ℕ → Type 0 = λ z v. v ≡ s .y - 1 → getD (s .closed .now) z 0 ≡ 1 → z + 1 ≡ s .x in
     ⊎-elim
     (λ w. (
       search needs,
       rw (w .7) (rw (w .6 .ensures) (links-put (s .links .now) (l .loop .links) P (l .loop .inv .1) (l .loop .z) (w .5 .result)
           (λ v h p m. w .5 .ensures .0 v h (subst (λ (k : List ℕ). InPair k v) (sym (w .3 .ensures)) (pair-in (l .loop .links) (l .loop .z) v h m))
-          (λ i. ⊎-elim (empty-pair v) (λ e. w .1 .taken (p e (w .0 .taken))) (put .ensures .1 .1 .0 v h i))))),
+          (λ i. ⊎-elim (empty-pair v) (λ e. w .1 .taken (p e (w .0 .taken))) (only .ensures .1 .1 v h i))))),
     ))
     (λ w. ⊎-elim (λ u. (search needs, rw (u .2) (l .loop .inv .1))) (λ u. (search needs, rw (u .1) (l .loop .inv .1))) w)
     (c .if1 .came)
@@ -73,8 +73,8 @@ only-closed-spec =
     (tie.spec
     Inv-loop
     μ-loop
-    sub-put
-    put-requires
+    sub-with
+    with-requires
     loop-holds
     element-copy-out-if1
     add-if2

@@ -11,11 +11,11 @@ use Rattle.candidates.proofs.Halves.{pair-in}
 use Rattle.starting.proofs.start.only_link.Statement.{statement}
 use Rattle.starting.proofs.start.only_link.Tie as tie
 
-sub-put : tie.Need-sub-put
-sub-put c = search needs
+sub-with : tie.Need-sub-with
+sub-with c = search needs
 
-put-requires : tie.Need-put-requires
-put-requires c κs = search needs
+with-requires : tie.Need-with-requires
+with-requires c κs = search needs
 
 sub-pair-at : tie.Need-sub-pair-at
 sub-pair-at c = search needs
@@ -37,14 +37,14 @@ returns c = let j = c .before .before .before .before .before in
     let s = j .before .args in
     rw (c .set-pair .ensures) (links-put (s .links .now) (s .links .now) (λ z v. z ≡ s .x - 1 → v + 1 ≡ s .y) (λ z v h m p. m) (s .x - 1) (c .before .common .result)
     (λ v h p m. c .before .common .ensures v h (subst (λ (l : List ℕ). InPair l v) (sym (c .before .before .before .pair-at .ensures)) (pair-in (s .links .now) (s .x - 1) v h m))
-    (⊎-elim (λ w. rw (w .3) (subst (InPair (w .2 .last .0)) (let q : s .y - 1 ≡ v = omega (arith, p refl) in q) (w .2 .ensures .1 .0 refl))) (λ w. absurd (omega (arith, p refl, w .0 .left))) (j .if1 .came))))
+    (⊎-elim (λ w. rw (w .2) (subst (InPair (w .1 .result)) (let q : s .y - 1 ≡ v = omega (arith, p refl) in q) (w .1 .ensures .1 .0))) (λ w. absurd (omega (arith, p refl, w .0 .left))) (j .if1 .came))))
 
 pub only-link-spec : {M : Type 1} → statement M
 only-link-spec =
     tie.close
     (tie.spec
-    sub-put
-    put-requires
+    sub-with
+    with-requires
     sub-pair-at
     pair-at-requires
     sub-set-pair

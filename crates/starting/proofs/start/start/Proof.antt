@@ -1,6 +1,6 @@
 -- Each step keeps what a good placing needs.
 use borrow.Author.Needs.{needs}
-use Rattle.sheet.specs.declared.normal.Normal.{Normal as NormalForm}
+use Rattle.rows.specs.declared.Sheet.{Sheet as NormalForm}
 use Rattle.candidates.specs.Frames.{whole}
 use Rattle.candidates.specs.Marks.{MarksIn}
 use Rattle.candidates.proofs.Laying.{laid-rowed}

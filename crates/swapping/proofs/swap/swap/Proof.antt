@@ -1,15 +1,15 @@
 -- A short slip, an input that is refused at a row, and inputs that passed.
 use borrow.Author.Needs.{needs}
 use mathlib.Core.Path.{ap, sym, _∙_}
-use Rattle.sheet.specs.declared.read.Reading.{Reading}
+use Rattle.reading.specs.declared.read.Reading.{Reading}
 use Rattle.swapping.proofs.SwapCode.{TextsRead, texts-read, swap-short, swap-first, swap-second, swap-third, swap-all}
 use Rattle.swapping.proofs.swap.swap.Statement.{statement}
 use Rattle.swapping.proofs.swap.swap.Tie as tie
 
-texts : (l : tie.After-read-replacement) → let g = l .before .before .before .before .before in let r = g .before .before .before in let a = r .before .before .before .before .before .before .args in
+texts : (l : tie.After-read-replacement) → let g = l .before .before .before .before in let r = g .before .before .before in let a = r .before .before .before .before .before .before .args in
     TextsRead (r .read-sheet .result) (g .read-pattern .result) (l .read-replacement .result) (a .sheet .now) (a .pattern .now) (a .replacement .now)
 texts l =
-    let g = l .before .before .before .before .before in
+    let g = l .before .before .before .before in
     let r = g .before .before .before in
     let a = r .before .before .before .before .before .before .args in
     texts-read (r .read-sheet .result) (g .read-pattern .result) (l .read-replacement .result) (a .sheet .now) (a .pattern .now) (a .replacement .now) (r .read-sheet .ensures) (g .read-pattern .ensures) (l .read-replacement .ensures)
@@ -46,23 +46,11 @@ enum-known-three c = search needs
 enum-told-3 : tie.Need-enum-told-3
 enum-told-3 c = search needs
 
-normal-of-requires : tie.Need-normal-of-requires
-normal-of-requires c κs = texts (c .before .before .before .before) .first-numberable
-
-normal-of-requires-2 : tie.Need-normal-of-requires-2
-normal-of-requires-2 c κs = texts (c .before .before .before .before .before) .second-numberable
-
-normal-of-requires-3 : tie.Need-normal-of-requires-3
-normal-of-requires-3 c κs = texts (c .before .before .before .before .before .before) .third-numberable
-
 swap-read-requires : tie.Need-swap-read-requires
 swap-read-requires c κs =
-    let o = c .before in
-    let m = o .before in
-    let n = m .before in
-    let w = n .before .before .before in
+    let w = c .before .before .before .before in
     let l = w .before .before in
-    let v = l .before .before .before in
+    let v = l .before .before in
     let g = v .before .before in
     let u = g .before in
     let r = u .before .before in
@@ -74,8 +62,7 @@ swap-read-requires c κs =
           a .pattern .now,
           (
             a .replacement .now,
-            texts l .inputs
-                (u .enum-told .given .1) (v .enum-told2 .given .1) (w .enum-told3 .given .1) (n .normal-of .result) (m .normal-of2 .result) (o .normal-of3 .result) (n .normal-of .ensures) (m .normal-of2 .ensures) (o .normal-of3 .ensures),
+            texts l .inputs (u .enum-told .given .1) (v .enum-told2 .given .1) (w .enum-told3 .given .1),
           ),
         ),
       ),
@@ -108,7 +95,7 @@ returns-4 : tie.Need-returns-4
 returns-4 c =
     let k = c .before .three .given in
     let l = c .before .before .before in
-    let v = l .before .before .before in
+    let v = l .before .before in
     let g = v .before .before in
     let u = g .before in
     let r = u .before .before in
@@ -126,19 +113,15 @@ same-length c = search needs
 returns-5 : tie.Need-returns-5
 returns-5 c =
     let z = c .before .before in
-    let o = z .before .before in
-    let m = o .before in
-    let n = m .before in
-    let w = n .before .before .before in
+    let w = z .before .before .before .before .before in
     let l = w .before .before in
-    let v = l .before .before .before in
+    let v = l .before .before in
     let g = v .before .before in
     let u = g .before in
     let r = u .before .before in
     let e = r .before in
     let a = e .before .before .before .before .before .args in
-    let I = texts l .inputs
-    (u .enum-told .given .1) (v .enum-told2 .given .1) (w .enum-told3 .given .1) (n .normal-of .result) (m .normal-of2 .result) (o .normal-of3 .result) (n .normal-of .ensures) (m .normal-of2 .ensures) (o .normal-of3 .ensures) in
+    let I = texts l .inputs (u .enum-told .given .1) (v .enum-told2 .given .1) (w .enum-told3 .given .1) in
     swap-all (a .sheet .now) (a .pattern .now) (a .replacement .now) (a .out .now) (e .if1 .left) (I .placed .passed .sheet-passes) (I .placed .passed .pattern-passes) (I .replacement-passes)
     (z .swap-read .result) (z .swap-read .ensures .0 (a .sheet .now) (a .pattern .now) (a .replacement .now) I) _ (z .swap-read .ensures .1 (a .sheet .now) (a .pattern .now) (a .replacement .now) I)
 
@@ -156,9 +139,6 @@ swap-spec =
     read-replacement-requires
     enum-known-three
     enum-told-3
-    normal-of-requires
-    normal-of-requires-2
-    normal-of-requires-3
     swap-read-requires
     returns-2
     returns-3

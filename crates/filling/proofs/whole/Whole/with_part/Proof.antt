@@ -8,7 +8,7 @@ use mathlib.Core.List.{List, [], _∷_, map}
 use lib.ListN.{length, getD, take, length-set}
 use Rattle.rows.specs.Limits.{sheetAtoms}
 use Rattle.rows.specs.declared.Atom.{Atom}
-use Rattle.sheet.specs.NormalRows.{pastAtoms}
+use Rattle.normalising.specs.NormalRows.{pastAtoms}
 use Rattle.numbering.proofs.Turns.{unmapped}
 use Rattle.filling.specs.Whole.{placedAtom, Grown}
 use Rattle.filling.specs.declared.whole.Whole.{Whole}

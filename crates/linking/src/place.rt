@@ -1,0 +1,77 @@
+// The place of a link among those of a text, found or given.
+use crate::take::index_of;
+ghost use mathlib.Core.Path.{_≡_};
+ghost use Prim.Native.Nat.{_+_, _<_, _≤_};
+ghost use lib.ListN.{length, take};
+ghost use Rattle.rows.specs.Format.{mostLinks};
+ghost use Rattle.rows.specs.Limits.{fillingLinks};
+ghost use Rattle.rows.specs.Held.{indexOf};
+ghost use Rattle.linking.specs.Steps.{Distinct, countWith, Places, hintCount, hintAt, Hinted};
+
+// How many hints there are. A hint is 1 more than the place where a link was last found or put; links
+// whose numbers leave the same rest share one, so it may be another's. It is 0 where none was.
+pub const HINTS: usize = 256;
+
+// Where the hint of link x stands.
+fn hint_at(x: u16) -> usize
+    ensures { λ r. ⌜ (r < hintCount) × (r ≡ hintAt x) ⌝ }
+{
+    x as usize % HINTS
+}
+
+fn wide(b: u8) -> usize
+    ensures { λ r. ⌜ r ≡ b ⌝ }
+{
+    b as usize
+}
+
+// The place of x among the first n links, none of which stands twice, or n where it is not there.
+// Where its hint is 0, it is new; else the place that the hint says is tried first.
+fn place_of(links: &[u16], n: usize, x: u16, hints: &[u8; HINTS]) -> usize
+    requires { ⌜ (n ≤ length (now links)) × Hinted (now hints) (now links) n ⌝ }
+    ensures { λ r. ⌜ (r ≤ n) × (Distinct (take n (now (links .entry))) → r ≡ indexOf x (take n (now (links .entry)))) ⌝ }
+{
+    let hint = wide(hints[hint_at(x)]);
+    if hint == 0 {
+        return n;
+    }
+    let p = hint - 1;
+    if p < n {
+        if links[p] == x {
+            return p;
+        }
+    }
+    index_of(links, n, x)
+}
+
+// The place of link x. Where it is new, it is put behind the n others, in a class of its own.
+pub(crate) fn place_link(
+    links: &mut [u16],
+    classes: &mut [u16],
+    n: usize,
+    x: u16,
+    hints: &mut [u8; HINTS],
+) -> usize
+    requires { ⌜ (n < fillingLinks + mostLinks) × (length (now links) ≡ fillingLinks + mostLinks) × (length (now classes) ≡ fillingLinks + mostLinks) × Hinted (now hints) (now links) n ⌝ }
+    ensures { λ r. ⌜ (r ≤ n) × Places (now (links .entry)) (now (classes .entry)) n (now (links .exit)) (now (classes .exit)) x r × Hinted (now (hints .exit)) (now (links .exit)) (countWith n r) ⌝ }
+{
+    let p = place_of(links, n, x, hints);
+    hints[hint_at(x)] = (p + 1) as u8;
+    if p < n {
+        return p;
+    }
+    links[n] = x;
+    classes[n] = n as u16;
+    n
+}
+
+// How many links there are with the one at place p: one more than n where it was put behind them.
+pub(crate) fn count_with(n: usize, p: usize) -> usize
+    requires { ⌜ n < fillingLinks + mostLinks ⌝ }
+    ensures { λ r. ⌜ (r ≤ n + 1) × (r ≡ countWith n p) ⌝ }
+{
+    if p == n {
+        return n + 1;
+    }
+    n
+}

@@ -1,0 +1,2 @@
+pub mod NormalText
+pub mod NormalRows

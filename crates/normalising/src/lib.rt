@@ -1,0 +1,3 @@
+// The normal text of sheets and figures.
+pub mod normal_text;
+pub mod normalise;

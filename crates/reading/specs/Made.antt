@@ -1,0 +1,55 @@
+-- What a reader hands back of what a text holds, by the steps of making a normal form.
+use Prim.Native.Nat.{ℕ, _+_}
+use mathlib.Core.Path.{_≡_}
+use mathlib.Core.List.{List, [], _++_, map}
+use lib.ListN.{length, take, drop}
+use Rattle.rows.specs.Pick.{pick}
+use Rattle.rows.specs.Format.{mostLinks}
+use Rattle.rows.specs.Limits.{sheetMarks, fillingLinks}
+use Rattle.rows.specs.Packed.{padded, portTable, packed, TextArrays}
+use Rattle.rows.specs.declared.Atom.{Atom}
+use Rattle.rows.specs.declared.Context.{Context}
+use Rattle.numbering.specs.Numbering.{Numbering, labelAt, markLabelAt, noNumbers, withClasses, atomLabels, contextLabels, atomNumbered, contextNumbered, marksBy, sortedInto}
+use Rattle.sheet.specs.Kinds.{isList}
+use Rattle.sheet.specs.Reading.{Outcome}
+use Rattle.sheet.specs.declared.kind.Kind.{Kind}
+use Rattle.rows.specs.declared.Sheet.{Sheet as Normal}
+use Rattle.reading.specs.declared.read.Reading.{Reading}
+
+-- the arrays of a text, without its table of ports
+abbrev pub arrays : List Atom → ℕ → List Context → ℕ → List ℕ → List ℕ → ℕ → List ℕ → List ℕ → ℕ → TextArrays
+arrays atoms a contexts c links classes n marks marked m =
+    record { atoms = atoms; «atom_count» = a; contexts = contexts; «context_count» = c; ports = []; links = links; classes = classes; «link_count» = n; marks = marks; marked = marked; «mark_count» = m }
+
+-- how long the arrays of links and marks are
+abbrev pub Widths : TextArrays → Type 0
+Widths s = (length (s .links) ≡ fillingLinks + mostLinks) × (length (s .classes) ≡ fillingLinks + mostLinks) × (length (s .marks) ≡ sheetMarks + 1) × (length (s .marked) ≡ sheetMarks + 1)
+
+abbrev pub sortedMarks : TextArrays → List ℕ
+sortedMarks s = padded (sheetMarks + 1) 0 (sortedInto [] (take (s .«mark_count») (s .marks)))
+
+-- the classes of the atoms, of the first k contexts and of the marks, numbered in this order
+abbrev pub numberingOf : ℕ → TextArrays → Numbering
+numberingOf k s =
+    withClasses
+    (withClasses (withClasses noNumbers (atomLabels (labelAt s) (take (s .«atom_count») (s .atoms)))) (contextLabels (labelAt s) (take k (s .contexts))))
+    (map (markLabelAt s) (take (s .«mark_count») (sortedMarks s)))
+
+-- atoms, the first k contexts and marks by these numbers; the other contexts as they stand
+abbrev pub normalMade : ℕ → TextArrays → Normal
+normalMade k s =
+    record {
+      atoms = map (atomNumbered (numberingOf k s .numbers) (labelAt s)) (take (s .«atom_count») (s .atoms)) ++ drop (s .«atom_count») (s .atoms);
+      «atom_count» = s .«atom_count»;
+      contexts = map (contextNumbered (numberingOf k s .numbers) (labelAt s)) (take k (s .contexts)) ++ drop k (s .contexts);
+      «context_count» = s .«context_count»;
+      marks = sortedMarks s;
+      marked = marksBy (numberingOf k s .numbers) (markLabelAt s) (take (s .«mark_count») (sortedMarks s));
+      «mark_count» = s .«mark_count»;
+      «class_count» = numberingOf k s .count;
+    }
+
+-- what a reader hands back: the answer, the normal form of what is held, and the table of ports; the heads of a list have no links
+abbrev pub readingOf : Kind → Outcome → Reading
+readingOf kind o =
+    record { answer = o .answer; normal = normalMade (pick (isList kind) 0 (length (o .held .contexts))) (packed (o .held)); ports = portTable (o .held .contexts) }

@@ -1,0 +1,4 @@
+// Sheets, figures and lists of fillings as they are read: in normal form.
+pub mod normal;
+pub mod part;
+pub mod read;

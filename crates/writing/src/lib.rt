@@ -1,0 +1,2 @@
+// Rows of 34 bytes: how one is written.
+pub mod write;
