@@ -77,7 +77,7 @@ pub figure-counted : (sheet figure : form.Sheet) (s f : List ℕ) → ClaimInput
 figure-counted sheet figure s f I = low-counted figure (subst Low (sym (I .of-figure)) (normal-low Figure (figureHeld f) (figure-within f) (figure-agrees f)))
 
 -- What the code finds.
-module _ (sheet figure : form.Sheet) (heads : form.Sheet) (ports list : List ℕ) (H : Headed heads ports list) (s f : List ℕ) (I : ClaimInputs sheet figure s f)
+module _ (sheet figure : form.Sheet) (heads : List Context) (n : ℕ) (ports list : List ℕ) (H : Headed heads n ports list) (s f : List ℕ) (I : ClaimInputs sheet figure s f)
     (clash : ℕ) (L : clash ≡ firstUnported ports (take (figure .«context_count») (figure .contexts))) where
   lacks : clash ≡ lack s f list
   lacks = L ∙ ap₂ (λ (x : List ℕ) (y : form.Sheet). firstUnported x (take (y .«context_count») (y .contexts))) (H .ports) (I .of-figure) ∙ lacking-made f list
@@ -85,9 +85,9 @@ module _ (sheet figure : form.Sheet) (heads : form.Sheet) (ports list : List ℕ
   pub says-lacking : (clash ≡ 0 → ⊥) → BlankClash 2 clash ≡ claimedAnswer s f list
   says-lacking h = answer-lacking s f list clash lacks h
 
-  module _ (z : clash ≡ 0) (other : ℕ) (D : other ≡ firstDiffering list (take (heads .«context_count») (heads .contexts))) where
+  module _ (z : clash ≡ 0) (other : ℕ) (D : other ≡ firstDiffering list (take n heads)) where
     differs : other ≡ differ s f list
-    differs = D ∙ ap₂ (λ (n : ℕ) (x : List Context). firstDiffering list (take n x)) (H .count) (H .contexts) ∙ differing-made f list
+    differs = D ∙ ap₂ (λ (k : ℕ) (x : List Context). firstDiffering list (take k x)) (H .count) (H .contexts) ∙ differing-made f list
 
     pub says-differing : (other ≡ 0 → ⊥) → EdgeDiffers 3 other ≡ claimedAnswer s f list
     says-differing h = answer-differing s f list (sym lacks ∙ z) other differs h

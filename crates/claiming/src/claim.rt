@@ -8,6 +8,7 @@ use matching::search::smallest_placing;
 use reading::read::read_figure;
 use reading::read::read_list;
 use reading::read::read_sheet;
+use rows::Context;
 use rows::Sheet;
 use sheet::answer::Answer;
 ghost use mathlib.Core.Path.{_≡_};
@@ -40,11 +41,12 @@ fn claim_filled(sheet: Sheet, filled: Sheet) -> Claimed
 fn claim_read(
     sheet: Sheet,
     figure: Sheet,
-    heads: Sheet,
+    heads: [Context; Sheet::CONTEXT_ROOM],
+    head_count: usize,
     ports: [u16; Sheet::NUMBERS],
     list: &[u8],
 ) -> Claimed
-    requires { ⌜ ((s : List ℕ) × ((f : List ℕ) × ClaimInputs sheet figure s f)) × Headed heads ports (now list) × Passes (now list) ⌝ }
+    requires { ⌜ ((s : List ℕ) × ((f : List ℕ) × ClaimInputs sheet figure s f)) × Headed heads «head_count» ports (now list) × Passes (now list) ⌝ }
     ensures { λ r. ⌜ ((s f : List ℕ) → ClaimInputs sheet figure s f → r ≡ claimedAnswer s f (now (list .entry))) ⌝ }
 {
     let contexts = figure.contexts;
@@ -54,8 +56,7 @@ fn claim_read(
     }
     let mut exact = [0u16; Sheet::NUMBERS];
     let filled = normal_filled(figure, list, &mut exact);
-    let rows = heads.contexts;
-    let other = first_differing(rows, heads.context_count, list, &exact);
+    let other = first_differing(heads, head_count, list, &exact);
     if other != 0 {
         return Claimed::EdgeDiffers(3, other);
     }
@@ -89,9 +90,10 @@ pub fn claim(sheet: &[u8], figure: &[u8], list: &[u8]) -> Claimed
                         Answer::Passed => {
                             let whole = first.normal;
                             let part = second.normal;
-                            let heads = third.normal;
+                            let heads = third.normal.contexts;
+                            let head_count = third.normal.context_count;
                             let ports = third.ports;
-                            claim_read(whole, part, heads, ports, list)
+                            claim_read(whole, part, heads, head_count, ports, list)
                         }
                     }
                 }

@@ -1,8 +1,11 @@
 -- A figure and the fillings of a list as normal forms: what they agree with, and the bounds of their numbers.
 use Prim.Native.Nat.{ℕ, suc, _+_, _-_, _<_, _≤_, zero}
 use mathlib.Core.Path.{_≡_, refl, ap, subst}
+use mathlib.Core.Bool.{false}
 use mathlib.Core.List.{List, [], _∷_, _++_, map, List·Memᴰ·head, List·Memᴰ·tail, Memᴰ·append-left, Memᴰ·append-right, Memᴰ·map, Memᴰ·of-map}
 use native.Mathlib.Omega.{arith}
+use borrow.Author.Tests.{le-ltb}
+use lib.Dec.{ltb}
 use lib.ListN.{length, getD, take, replicate}
 use Rattle.hyperlmntal.specs.Link.{_∈_}
 use Rattle.hyperlmntal.specs.Hypergraph.{Node, inner, portNodes}
@@ -17,9 +20,10 @@ use Rattle.reading.specs.Normal.{classOf, markNode, marksOf, shown}
 use Rattle.numbering.specs.Numbering.{Numberable}
 use Rattle.reading.specs.NormalSheet.{numberIn, normalAtom, normalContext, normalMarks, packedNormal}
 use Rattle.normalising.specs.NormalRows.{pastAtoms, pastContexts}
+use Rattle.rows.specs.declared.Context.{Context}
 use Rattle.rows.specs.declared.Sheet.{Sheet as Normal}
 use Rattle.sheet.specs.Reading.{outcomeOf, noPorts}
-use Rattle.reading.specs.Made.{normalMade, readingOf}
+use Rattle.reading.specs.Made.{readingOf}
 use Rattle.sheet.specs.Filling.{fillingOf}
 use Rattle.sheet.specs.declared.kind.Kind.{Kind}
 use Rattle.sheet.specs.declared.kind.Kind.the-variants.{Figure, Fillings}
@@ -144,19 +148,20 @@ counted kind h w =
       count = padded-any (λ c. c .count ≤ mostLinks) (figureContexts + 1) noContext pastContexts (h .contexts) (omega arith) (omega arith) (λ c i. every-member (ContextRange kind) (h .contexts) c (w .ranges .contexts) i .count);
     }
 
-pub headed-counted : (heads : Normal) (ports list : List ℕ) → Headed heads ports list → Counted (heads .contexts) (heads .«context_count»)
-headed-counted heads ports list H = rw (H .contexts, H .count) (counted Fillings (listHeld list) (list-within list))
+pub headed-counted : (heads : List Context) (n : ℕ) (ports list : List ℕ) → Headed heads n ports list → Counted heads n
+headed-counted heads n ports list H = rw (H .contexts, H .count) (counted Fillings (listHeld list) (list-within list))
 
 pub part-low : (list : List ℕ) (number : ℕ) → Low (partNormal list number)
 part-low list number = normal-low Fillings (withoutHeads (partHeld list number)) (part-within list number) (part-agrees list number)
 
 -- What is read of it.
-pub part-made : (list : List ℕ) (number : ℕ) → normalMade 0 (packed (partHeld list number)) ≡ partRead list number
+pub part-made : (list : List ℕ) (number : ℕ) → readingOf Fillings (outcomeOf Fillings noPorts (fillingOf list number)) .normal ≡ partRead list number
 part-made list number = let h = partHeld list number in
-    ap (withHeads h) (normal-made (withoutHeads h) (part-agrees list number) (part-numberable list number))
+    let one : ltb 1 (length (h .contexts)) ≡ false = le-ltb 1 (length (h .contexts)) (part-heads list number) in
+    rw one (ap (withHeads h) (normal-made (withoutHeads h) (part-agrees list number) (part-numberable list number)))
 
 -- The H rows of a list that was read.
-pub headed-read : (list : List ℕ) → Headed (readingOf Fillings (outcomeOf Fillings noPorts list) .normal) (readingOf Fillings (outcomeOf Fillings noPorts list) .ports) list
+pub headed-read : (list : List ℕ) → Headed (readingOf Fillings (outcomeOf Fillings noPorts list) .normal .contexts) (readingOf Fillings (outcomeOf Fillings noPorts list) .normal .«context_count») (readingOf Fillings (outcomeOf Fillings noPorts list) .ports) list
 headed-read list = record { contexts = refl; count = refl; ports = refl }
 
 pub part-marks : (list : List ℕ) (number : ℕ) → length (partNormal list number .marks) ≡ sheetMarks + 1

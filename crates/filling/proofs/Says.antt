@@ -17,7 +17,7 @@ use Rattle.filling.specs.Filled.{FilledIs}
 use Rattle.answers.specs.declared.outcome.Done.the-variants as done
 use Rattle.filling.proofs.Answers.{lacking-made, differing-made, answer-lacking, answer-differing, answer-large, answer-written}
 
-module _ (normal : Normal) (heads : Normal) (ports list : List ℕ) (H : Headed heads ports list)
+module _ (normal : Normal) (heads : List Context) (n : ℕ) (ports list : List ℕ) (H : Headed heads n ports list)
     (lacking : ℕ) (L : lacking ≡ firstUnported ports (take (normal .«context_count») (normal .contexts))) (figure : List ℕ) (q : normal ≡ packedNormal (figureHeld figure)) where
   lacks : lacking ≡ firstLacking (listHeld list .contexts) (figureHeld figure .contexts)
   lacks = L ∙ ap₂ (λ (x : List ℕ) (y : Normal). firstUnported x (take (y .«context_count») (y .contexts))) (H .ports) q ∙ lacking-made figure list
@@ -25,9 +25,9 @@ module _ (normal : Normal) (heads : Normal) (ports list : List ℕ) (H : Headed 
   pub says-lacking : (lacking ≡ 0 → ⊥) → done.BlankClash 1 lacking ≡ filledAnswer figure list
   says-lacking h = answer-lacking figure list lacking lacks h
 
-  module _ (z : lacking ≡ 0) (differing : ℕ) (D : differing ≡ firstDiffering list (take (heads .«context_count») (heads .contexts))) where
+  module _ (z : lacking ≡ 0) (differing : ℕ) (D : differing ≡ firstDiffering list (take n heads)) where
     differs : differing ≡ firstDiffering list (listHeld list .contexts)
-    differs = D ∙ ap₂ (λ (n : ℕ) (x : List Context). firstDiffering list (take n x)) (H .count) (H .contexts) ∙ differing-made figure list
+    differs = D ∙ ap₂ (λ (k : ℕ) (x : List Context). firstDiffering list (take k x)) (H .count) (H .contexts) ∙ differing-made figure list
 
     pub says-differing : (differing ≡ 0 → ⊥) → done.EdgeDiffers 2 differing ≡ filledAnswer figure list
     says-differing h = answer-differing figure list (sym lacks ∙ z) differing differs h
@@ -50,8 +50,8 @@ module _ (normal : Normal) (heads : Normal) (ports list : List ℕ) (H : Headed 
         rows : normalRows r ≡ filledText figure list
         rows = filled .rows few narrow
 
-        pub says-written : (n : ℕ) → n ≡ length (normalRows r) → done.Written n ≡ filledAnswer figure list
-        says-written n e = ap done.Written (e ∙ ap length rows) ∙ answer-written figure list (sym lacks ∙ z) (sym differs ∙ y) (filled .not-large few narrow)
+        pub says-written : (k : ℕ) → k ≡ length (normalRows r) → done.Written k ≡ filledAnswer figure list
+        says-written k e = ap done.Written (e ∙ ap length rows) ∙ answer-written figure list (sym lacks ∙ z) (sym differs ∙ y) (filled .not-large few narrow)
 
-        pub says-slip : (n : ℕ) → n ≡ length (normalRows r) → (slip : List ℕ) → normalRows r ++ drop (length (normalRows r)) slip ≡ filledText figure list ++ drop n slip
-        says-slip n e slip = ap₂ (λ (t : List ℕ) (k : ℕ). t ++ drop k slip) rows (sym e)
+        pub says-slip : (k : ℕ) → k ≡ length (normalRows r) → (slip : List ℕ) → normalRows r ++ drop (length (normalRows r)) slip ≡ filledText figure list ++ drop k slip
+        says-slip k e slip = ap₂ (λ (t : List ℕ) (j : ℕ). t ++ drop j slip) rows (sym e)

@@ -1,6 +1,7 @@
 -- Labels of the link classes of a figure and of the fillings put in, and how ports make them one.
 use Prim.Native.Nat.{ℕ, _+_, _*_, _<_, _≤_}
 use mathlib.Core.Path.{_≡_}
+use mathlib.Core.Logic.{_⊎_}
 use mathlib.Core.List.{List, [], _∷_, _++_, map}
 use lib.ListN.{length, take, getD}
 use Rattle.rows.specs.Held.{relabelled}
@@ -17,11 +18,12 @@ pub record Own (labels : List ℕ) : Type 0 where
   pub size : length labels ≡ places
   pub own : (k : ℕ) → k < places → getD labels k 0 ≡ k
 
--- the places from n on have labels of their own, and those before n have no label of theirs
+-- the places from n on have labels of their own, and those before n have no label of theirs; a label is a place's own or the figure's
 pub record FreshFrom (n : ℕ) (labels : List ℕ) : Type 0 where
   pub size : length labels ≡ places
   pub low : (k : ℕ) → k < n → getD labels k 0 < n
   pub own : (k : ℕ) → n ≤ k → k < places → getD labels k 0 ≡ k
+  pub rooted : (k : ℕ) → k < places → (getD labels k 0 ≡ k) ⊎ (getD labels k 0 < partRoom)
 
 -- the labels of two places made one
 abbrev pub joinedAt : List ℕ → ℕ × ℕ → List ℕ

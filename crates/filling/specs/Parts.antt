@@ -35,9 +35,9 @@ abbrev pub partRead : List ℕ → ℕ → Normal
 partRead list number = withHeads (partHeld list number) (partNormal list number)
 
 -- the H rows of a list, and the table of their port counts and 1
-pub record Headed (heads : Normal) (table list : List ℕ) : Type 0 where
-  pub contexts : heads .contexts ≡ packed (listHeld list) .contexts
-  pub count : heads .«context_count» ≡ packed (listHeld list) .«context_count»
+pub record Headed (heads : List Context) (n : ℕ) (table list : List ℕ) : Type 0 where
+  pub contexts : heads ≡ packed (listHeld list) .contexts
+  pub count : n ≡ packed (listHeld list) .«context_count»
   pub ports : table ≡ packed (listHeld list) .ports
 
 -- the marks of a filling

@@ -6,6 +6,7 @@ use answers::outcome::Done;
 use normalising::normal_text::write_normal;
 use reading::read::read_figure;
 use reading::read::read_list;
+use rows::Context;
 use rows::Sheet;
 use sheet::answer::Answer;
 ghost use mathlib.Core.Path.{_≡_};
@@ -22,12 +23,13 @@ ghost use Rattle.filling.specs.Fill.{figureHeld, filledText, filledAnswe
 // A figure and a list that passed row by row.
 fn fill_read(
     figure: Sheet,
-    heads: Sheet,
+    heads: [Context; Sheet::CONTEXT_ROOM],
+    head_count: usize,
     ports: [u16; Sheet::NUMBERS],
     list: &[u8],
     out: &mut [u8],
 ) -> Done
-    requires { ⌜ ((text : List ℕ) × (figure ≡ packedNormal (figureHeld text))) × Headed heads ports (now list) × Passes (now list) ⌝ }
+    requires { ⌜ ((text : List ℕ) × (figure ≡ packedNormal (figureHeld text))) × Headed heads «head_count» ports (now list) × Passes (now list) ⌝ }
     requires { ⌜ slipLength ≤ length (now out) ⌝ }
     ensures { λ r. ⌜ ((text : List ℕ) → figure ≡ packedNormal (figureHeld text) → r ≡ filledAnswer text (now (list .entry))) ⌝ }
     ensures { λ r. ⌜ ((text : List ℕ) → figure ≡ packedNormal (figureHeld text) → now (out .exit) ≡ slipAfter r (filledText text (now (list .entry))) (now (out .entry))) ⌝ }
@@ -39,8 +41,7 @@ fn fill_read(
     }
     let mut exact = [0u16; Sheet::NUMBERS];
     let normal = normal_filled(figure, list, &mut exact);
-    let rows = heads.contexts;
-    let other = first_differing(rows, heads.context_count, list, &exact);
+    let other = first_differing(heads, head_count, list, &exact);
     if other != 0 {
         return Done::EdgeDiffers(2, other);
     }
@@ -70,9 +71,10 @@ pub fn fill(figure: &[u8], list: &[u8], out: &mut [u8]) -> Done
             match list_answer {
                 Answer::Passed => {
                     let normal = figure_reading.normal;
-                    let heads = list_reading.normal;
+                    let heads = list_reading.normal.contexts;
+                    let head_count = list_reading.normal.context_count;
                     let ports = list_reading.ports;
-                    fill_read(normal, heads, ports, list, out)
+                    fill_read(normal, heads, head_count, ports, list, out)
                 }
                 Answer::Refused(why, row) => Done::Refused(2, why, row),
             }

@@ -27,13 +27,18 @@ pub(crate) fn own_labels(labels: &mut [u16; PLACES])
     }
 }
 
-// Makes the labels of two places one. Only the first n places can have them.
+// Makes the labels of two places one, a place of the figure and one of a filling. Only the first n places can have
+// them, and a filling's place that still has its own is alone with it.
 fn merged(labels: &mut [u16; PLACES], n: usize, a: usize, b: usize)
-    requires { ⌜ (a < n) × (b < n) × (n ≤ places) × FreshFrom n (now labels) ⌝ }
+    requires { ⌜ (a < partRoom) × (b < n) × (n ≤ places) × FreshFrom n (now labels) × (partRoom ≤ b) ⌝ }
     ensures { λ _. ⌜ now (labels .exit) ≡ joinedAt (now (labels .entry)) (a, b) ⌝ }
 {
     let from = labels[b];
     let to = labels[a];
+    if from as usize == b {
+        labels[b] = to;
+        return;
+    }
     let mut k = 0;
     while k < n {
         let mut label = labels[k];
@@ -53,7 +58,7 @@ pub(crate) fn with_ports(
     count: usize,
     marked: [u16; Sheet::MARK_ROOM],
 )
-    requires { ⌜ (p ≤ figureContexts) × (count ≤ mostLinks) × FreshFrom ((p + 1) * partRoom) (now labels) ⌝ }
+    requires { ⌜ (p ≤ figureContexts) × (count ≤ mostLinks) × FreshFrom ((p + 1) * partRoom) (now labels) × (1 ≤ p) ⌝ }
     requires { ⌜ ((k : ℕ) → (getD links k 0 < partRoom) × (getD marked k 0 < partRoom)) ⌝ }
     ensures { λ _. ⌜ now (labels .exit) ≡ joinedAll (now (labels .entry)) (portPairs p (take count links) (take count marked)) ⌝ }
     ensures { λ _. ⌜ FreshFrom ((p + 1) * partRoom) (now (labels .exit)) ⌝ }

@@ -1,4 +1,5 @@
 // One filling of a list, and the refusals over whole texts.
+use reading::read::Reading;
 use reading::read::read_list;
 use rows::Context;
 use rows::Sheet;
@@ -14,13 +15,12 @@ ghost use Rattle.placing.specs.Smallest.{sameList, numbersTo};
 ghost use Rattle.filling.specs.Fill.{firstDiffering};
 ghost use Rattle.filling.specs.Parts.{partRead, partMarks, exactTo, Exacts, firstUnported, Counted};
 
-// The normal form of the filling of this number, with its head.
-pub(crate) fn part_of(list: &[u8], number: u16) -> Sheet
+// The filling of this number, read by itself: its normal form, with its head.
+pub(crate) fn part_of(list: &[u8], number: u16) -> Reading
     requires { ⌜ Passes (now list) ⌝ }
-    ensures { λ r. ⌜ r ≡ partRead (now (list .entry)) number ⌝ }
+    ensures { λ r. ⌜ r .normal ≡ partRead (now (list .entry)) number ⌝ }
 {
-    let reading = read_list(part_for(list, number));
-    reading.normal
+    read_list(part_for(list, number))
 }
 
 // Whether the first `count` marks, which ascend, are exactly 1 to n.
@@ -66,7 +66,7 @@ fn is_exact(list: &[u8], exact: &[u16; Sheet::NUMBERS], number: u16, n: u16) -> 
         return true;
     }
     let part = part_of(list, number);
-    marks_exact(&part.marks, part.mark_count, n)
+    marks_exact(&part.normal.marks, part.normal.mark_count, n)
 }
 
 // 8 over whole texts: the row of the first of a figure's contexts without a filling of its number and count, by

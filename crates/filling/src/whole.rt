@@ -84,17 +84,17 @@ pub(crate) fn whole_of(
         let context = contexts[i];
         let links = context.links;
         let part = part_of(list, context.number);
-        let marked = part.marked;
+        let marked = part.normal.marked;
         with_ports(&mut *labels, i + 1, links, context.count as usize, marked);
         note_exact(
             &mut *exact,
-            &part.marks,
-            part.mark_count,
+            &part.normal.marks,
+            part.normal.mark_count,
             context.number,
             context.count,
         );
-        let atoms = part.atoms;
-        whole = whole.with_part(i + 1, atoms, part.atom_count);
+        let atoms = part.normal.atoms;
+        whole = whole.with_part(i + 1, atoms, part.normal.atom_count);
         i += 1;
     }
     whole

@@ -27,7 +27,7 @@ fn wide(b: u8) -> usize
 
 // The place of x among the first n links, none of which stands twice, or n where it is not there.
 // Where its hint is 0, it is new; else the place that the hint says is tried first.
-fn place_of(links: &[u16], n: usize, x: u16, hints: &[u8; HINTS]) -> usize
+pub fn place_of(links: &[u16], n: usize, x: u16, hints: &[u8; HINTS]) -> usize
     requires { ⌜ (n ≤ length (now links)) × Hinted (now hints) (now links) n ⌝ }
     ensures { λ r. ⌜ (r ≤ n) × (Distinct (take n (now (links .entry))) → r ≡ indexOf x (take n (now (links .entry)))) ⌝ }
 {

@@ -1,6 +1,7 @@
 // Numbers for links or classes of links, in the order in which they first appear: a table that has for each
 // label its number, or 0, and the count of the numbers given.
 use crate::labels::label_of;
+use linking::place::HINTS;
 use rows::Sheet;
 ghost use mathlib.Core.Path.{_≡_};
 ghost use mathlib.Core.List.{List};
@@ -36,15 +37,16 @@ pub(crate) fn number_links<'a>(
     n: usize,
     ports: [u16; Sheet::MOST_LINKS],
     port_count: usize,
+    hints: &'a [u8; HINTS],
 ) -> [u16; Sheet::MOST_LINKS]
-    requires { ⌜ Labels (now links) (now classes) n × («port_count» ≤ mostLinks) × (now count + «port_count» ≤ 1000) ⌝ }
+    requires { ⌜ Labels (now hints) (now links) (now classes) n × («port_count» ≤ mostLinks) × (now count + «port_count» ≤ 1000) ⌝ }
     ensures { λ _. ⌜ numbering (now (numbers .exit)) (now (count .exit)) ≡ withClasses (numbering (now (numbers .entry)) (now (count .entry))) (linkLabels (labelIn (now (links .entry)) (now (classes .entry)) n) «port_count» ports) ⌝ }
     ensures { λ r. ⌜ ((later : List ℕ) → r ≡ linksBy (withClasses (numbering (now (numbers .exit)) (now (count .exit))) later .numbers) (labelIn (now (links .entry)) (now (classes .entry)) n) «port_count» ports) ⌝ }
 {
     let mut numbered = [0u16; Sheet::MOST_LINKS];
     let mut k = 0;
     while k < port_count {
-        let label = label_of(links, classes, n, ports[k]);
+        let label = label_of(links, classes, n, ports[k], hints);
         numbered[k] = number_class(numbers, count, label);
         k += 1;
     }

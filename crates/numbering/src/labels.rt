@@ -1,14 +1,22 @@
 // The label of a class, looked up by a link or a mark.
+use linking::place::HINTS;
+use linking::place::place_of;
 use linking::take::index_of;
 ghost use mathlib.Core.Path.{_≡_};
 ghost use Rattle.numbering.specs.Numbering.{Labels, MarkLabels, labelIn, markLabelIn};
 
 // The label of a link's class.
-pub(crate) fn label_of(links: &[u16], classes: &[u16], n: usize, x: u16) -> usize
-    requires { ⌜ Labels (now links) (now classes) n ⌝ }
+pub(crate) fn label_of(
+    links: &[u16],
+    classes: &[u16],
+    n: usize,
+    x: u16,
+    hints: &[u8; HINTS],
+) -> usize
+    requires { ⌜ Labels (now hints) (now links) (now classes) n ⌝ }
     ensures { λ r. ⌜ r ≡ labelIn (now (links .entry)) (now (classes .entry)) n x ⌝ }
 {
-    let i = index_of(links, n, x);
+    let i = place_of(links, n, x, hints);
     classes[i] as usize
 }
 

@@ -3,6 +3,7 @@ use crate::classes::ROOM;
 use crate::classes::number_class;
 use crate::classes::number_links;
 use crate::labels::mark_label;
+use linking::place::HINTS;
 use rows::Atom;
 use rows::Context;
 use rows::Sheet;
@@ -22,8 +23,9 @@ pub fn numbered_atoms<'a>(
     n: usize,
     mut atoms: [Atom; Sheet::ATOM_ROOM],
     atom_count: usize,
+    hints: &'a [u8; HINTS],
 ) -> [Atom; Sheet::ATOM_ROOM]
-    requires { ⌜ Labels (now links) (now classes) n × («atom_count» ≤ sheetAtoms) × (now count + mostLinks * «atom_count» ≤ 1000) ⌝ }
+    requires { ⌜ Labels (now hints) (now links) (now classes) n × («atom_count» ≤ sheetAtoms) × (now count + mostLinks * «atom_count» ≤ 1000) ⌝ }
     requires { ⌜ ((i : ℕ) → getD atoms i (record { name = 0; count = 0; links = [] }) .count ≤ mostLinks) ⌝ }
     ensures { λ _. ⌜ numbering (now (numbers .exit)) (now (count .exit)) ≡ withClasses (numbering (now (numbers .entry)) (now (count .entry))) (atomLabels (labelIn (now (links .entry)) (now (classes .entry)) n) (take «atom_count» atoms)) ⌝ }
     ensures { λ _. ⌜ now (count .exit) ≤ now (count .entry) + mostLinks * «atom_count» ⌝ }
@@ -41,6 +43,7 @@ pub fn numbered_atoms<'a>(
             n,
             ports,
             atom.count as usize,
+            hints,
         );
         atoms[i] = Atom {
             name: atom.name,
@@ -60,8 +63,9 @@ pub fn numbered_contexts<'a>(
     n: usize,
     mut contexts: [Context; Sheet::CONTEXT_ROOM],
     context_count: usize,
+    hints: &'a [u8; HINTS],
 ) -> [Context; Sheet::CONTEXT_ROOM]
-    requires { ⌜ Labels (now links) (now classes) n × («context_count» ≤ figureContexts) × (now count + mostLinks * «context_count» ≤ 1000) ⌝ }
+    requires { ⌜ Labels (now hints) (now links) (now classes) n × («context_count» ≤ figureContexts) × (now count + mostLinks * «context_count» ≤ 1000) ⌝ }
     requires { ⌜ ((i : ℕ) → getD contexts i (record { number = 0; count = 0; links = []; row = 0 }) .count ≤ mostLinks) ⌝ }
     ensures { λ _. ⌜ numbering (now (numbers .exit)) (now (count .exit)) ≡ withClasses (numbering (now (numbers .entry)) (now (count .entry))) (contextLabels (labelIn (now (links .entry)) (now (classes .entry)) n) (take «context_count» contexts)) ⌝ }
     ensures { λ _. ⌜ now (count .exit) ≤ now (count .entry) + mostLinks * «context_count» ⌝ }
@@ -79,6 +83,7 @@ pub fn numbered_contexts<'a>(
             n,
             ports,
             context.count as usize,
+            hints,
         );
         contexts[i] = Context {
             number: context.number,

@@ -1,9 +1,11 @@
 -- What a reader hands back of what a text holds, by the steps of making a normal form.
 use Prim.Native.Nat.{ℕ, _+_}
 use mathlib.Core.Path.{_≡_}
+use mathlib.Core.Bool.{Bool}
 use mathlib.Core.List.{List, [], _++_, map}
+use lib.Dec.{ltb}
 use lib.ListN.{length, take, drop}
-use Rattle.rows.specs.Pick.{pick}
+use Rattle.rows.specs.Pick.{pick, and}
 use Rattle.rows.specs.Format.{mostLinks}
 use Rattle.rows.specs.Limits.{sheetMarks, fillingLinks}
 use Rattle.rows.specs.Packed.{padded, portTable, packed, TextArrays}
@@ -28,28 +30,37 @@ Widths s = (length (s .links) ≡ fillingLinks + mostLinks) × (length (s .class
 abbrev pub sortedMarks : TextArrays → List ℕ
 sortedMarks s = padded (sheetMarks + 1) 0 (sortedInto [] (take (s .«mark_count») (s .marks)))
 
--- the classes of the atoms, of the first k contexts and of the marks, numbered in this order
-abbrev pub numberingOf : ℕ → TextArrays → Numbering
-numberingOf k s =
+-- the classes of the first i atoms, of the first k contexts and of the marks, numbered in this order
+abbrev pub numberingOf : ℕ → ℕ → TextArrays → Numbering
+numberingOf i k s =
     withClasses
-    (withClasses (withClasses noNumbers (atomLabels (labelAt s) (take (s .«atom_count») (s .atoms)))) (contextLabels (labelAt s) (take k (s .contexts))))
+    (withClasses (withClasses noNumbers (atomLabels (labelAt s) (take i (s .atoms)))) (contextLabels (labelAt s) (take k (s .contexts))))
     (map (markLabelAt s) (take (s .«mark_count») (sortedMarks s)))
 
--- atoms, the first k contexts and marks by these numbers; the other contexts as they stand
-abbrev pub normalMade : ℕ → TextArrays → Normal
-normalMade k s =
+-- the first i atoms, the first k contexts and the marks by these numbers; other atoms and contexts as they stand
+abbrev pub normalMade : ℕ → ℕ → TextArrays → Normal
+normalMade i k s =
     record {
-      atoms = map (atomNumbered (numberingOf k s .numbers) (labelAt s)) (take (s .«atom_count») (s .atoms)) ++ drop (s .«atom_count») (s .atoms);
+      atoms = map (atomNumbered (numberingOf i k s .numbers) (labelAt s)) (take i (s .atoms)) ++ drop i (s .atoms);
       «atom_count» = s .«atom_count»;
-      contexts = map (contextNumbered (numberingOf k s .numbers) (labelAt s)) (take k (s .contexts)) ++ drop k (s .contexts);
+      contexts = map (contextNumbered (numberingOf i k s .numbers) (labelAt s)) (take k (s .contexts)) ++ drop k (s .contexts);
       «context_count» = s .«context_count»;
       marks = sortedMarks s;
-      marked = marksBy (numberingOf k s .numbers) (markLabelAt s) (take (s .«mark_count») (sortedMarks s));
+      marked = marksBy (numberingOf i k s .numbers) (markLabelAt s) (take (s .«mark_count») (sortedMarks s));
       «mark_count» = s .«mark_count»;
-      «class_count» = numberingOf k s .count;
+      «class_count» = numberingOf i k s .count;
     }
 
--- what a reader hands back: the answer, the normal form of what is held, and the table of ports; the heads of a list have no links
+-- a list with several fillings
+abbrev pub isMany : Kind → ℕ → Bool
+isMany kind contexts = and (isList kind) (ltb 1 contexts)
+
+-- what a reader hands back: the answer, the normal form of what is held, and the table of ports; the heads of a list have no links, and
+-- where it has several fillings their atoms stand as they are
 abbrev pub readingOf : Kind → Outcome → Reading
 readingOf kind o =
-    record { answer = o .answer; normal = normalMade (pick (isList kind) 0 (length (o .held .contexts))) (packed (o .held)); ports = portTable (o .held .contexts) }
+    record {
+      answer = o .answer;
+      normal = normalMade (pick (isMany kind (length (o .held .contexts))) 0 (length (o .held .atoms))) (pick (isList kind) 0 (length (o .held .contexts))) (packed (o .held));
+      ports = portTable (o .held .contexts);
+    }

@@ -26,7 +26,7 @@ ghost use Rattle.rows.specs.Held.{nothing};
 ghost use Rattle.rows.specs.Packed.{portTable, packed};
 ghost use Rattle.sheet.specs.Kinds.{isList};
 ghost use Rattle.sheet.specs.Reading.{outcomeOf, noPorts};
-ghost use Rattle.reading.specs.Made.{normalMade, readingOf};
+ghost use Rattle.reading.specs.Made.{isMany, normalMade, readingOf};
 ghost use Rattle.reading.specs.Readings.{sheetRead};
 
 // A reader's answer; the normal form of what the text holds; and for each context number its port count and 1, 0
@@ -39,13 +39,26 @@ pub struct Reading {
 }
 
 fn turned_down(answer: Answer) -> Reading
-    ensures { λ r. ⌜ r ≡ record { answer = answer; normal = normalMade 0 (packed nothing); ports = portTable [] } ⌝ }
+    ensures { λ r. ⌜ r ≡ record { answer = answer; normal = normalMade 0 0 (packed nothing); ports = portTable [] } ⌝ }
 {
     Reading {
         answer,
         normal: Sheet::empty(),
         ports: [0; Sheet::NUMBERS],
     }
+}
+
+// How many of a atoms are numbered: none of a list with several fillings, since its links are those of the last.
+fn shown_atoms(kind: Kind, c: usize, a: usize) -> usize
+    ensures { λ r. ⌜ r ≡ pick (isMany kind c) 0 a ⌝ }
+{
+    if !is_list(kind) {
+        return a;
+    }
+    if 1 < c {
+        return 0;
+    }
+    a
 }
 
 // How many of c contexts have links: a head has none.
@@ -98,10 +111,12 @@ pub fn read_text(kind: Kind, pattern: [u16; Sheet::NUMBERS], text: &[u8]) -> Rea
             return turned_down(answer);
         }
     }
+    let some = shown_atoms(kind, c, a);
     let shown = shown_contexts(kind, c);
     let normal = normal_from(
         atoms,
         a,
+        some,
         contexts,
         c,
         shown,
@@ -111,6 +126,7 @@ pub fn read_text(kind: Kind, pattern: [u16; Sheet::NUMBERS], text: &[u8]) -> Rea
         &marks,
         &on,
         m,
+        &hints,
     );
     Reading {
         answer: Answer::Passed,

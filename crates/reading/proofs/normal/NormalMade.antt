@@ -113,7 +113,7 @@ module _ (h : Held) (A : Agrees h) where
   pub marks-taken : take (length (h .wiring .marks)) (sortedMarks (packed h)) ≡ marksOf (graphOf h)
   marks-taken = rw marks-made (rw marks-count (take-padded (sheetMarks + 1) 0 (marksOf (graphOf h))))
 
-  numbering-made : numberingOf (length (h .contexts)) (packed h) ≡ withClasses noNumbers (map (labelIn (h .wiring)) (shown (graphOf h)))
+  numbering-made : numberingOf (length (h .atoms)) (length (h .contexts)) (packed h) ≡ withClasses noNumbers (map (labelIn (h .wiring)) (shown (graphOf h)))
   numbering-made =
       rw marks-taken (rw (take-padded (sheetAtoms + 1) noAtom (h .atoms)) (rw (take-padded (figureContexts + 1) noContext (h .contexts))
       (rw (← all-labels h) (sym
@@ -127,19 +127,19 @@ normal-≡ n k ea ec em ep ei ej t = record { atoms = ea t; «atom_count» = n; 
 
 -- The steps of `normal_from`, each after the one before: the classes of the atoms are numbered, then those of the contexts, then
 -- those of the marks, and what is made of the atoms and contexts holds whatever is numbered later.
-pub normal-steps : (k : ℕ) (s : TextArrays) (a b n : Numbering) (atoms : List Atom) (contexts : List Context) (marks marked : List ℕ)
-    → a ≡ withClasses noNumbers (atomLabels (labelAt s) (take (s .«atom_count») (s .atoms)))
-    → ((later : List ℕ) → atoms ≡ mapped (atomNumbered (withClasses a later .numbers) (labelAt s)) (s .«atom_count») (s .atoms))
+pub normal-steps : (i k : ℕ) (s : TextArrays) (a b n : Numbering) (atoms : List Atom) (contexts : List Context) (marks marked : List ℕ)
+    → a ≡ withClasses noNumbers (atomLabels (labelAt s) (take i (s .atoms)))
+    → ((later : List ℕ) → atoms ≡ mapped (atomNumbered (withClasses a later .numbers) (labelAt s)) i (s .atoms))
     → b ≡ withClasses a (contextLabels (labelAt s) (take k (s .contexts)))
     → ((later : List ℕ) → contexts ≡ mapped (contextNumbered (withClasses b later .numbers) (labelAt s)) k (s .contexts))
     → marks ≡ sortedMarks s
     → n ≡ withClasses b (map (markLabelAt s) (take (s .«mark_count») marks))
     → marked ≡ marksBy (n .numbers) (markLabelAt s) (take (s .«mark_count») marks)
     → _≡_ {A = Normal} (record { atoms = atoms; «atom_count» = s .«atom_count»; contexts = contexts; «context_count» = s .«context_count»; marks = marks; marked = marked; «mark_count» = s .«mark_count»; «class_count» = n .count })
-    (normalMade k s)
-normal-steps k s a b n atoms contexts marks marked ea fa eb fb em en ep =
+    (normalMade i k s)
+normal-steps i k s a b n atoms contexts marks marked ea fa eb fb em en ep =
     normal-≡ (s .«atom_count») (s .«context_count»)
-    (fa (C ++ M) ∙ ap (λ u. mapped (atomNumbered (u .numbers) (labelAt s)) (s .«atom_count») (s .atoms)) (with-classes-append a C M ∙ ap (λ u. withClasses u M) (sym eb) ∙ all))
+    (fa (C ++ M) ∙ ap (λ u. mapped (atomNumbered (u .numbers) (labelAt s)) i (s .atoms)) (with-classes-append a C M ∙ ap (λ u. withClasses u M) (sym eb) ∙ all))
     (fb M ∙ ap (λ u. mapped (contextNumbered (u .numbers) (labelAt s)) k (s .contexts)) all)
     em (ep ∙ rw (em, end)) refl (rw end)
   where
@@ -149,10 +149,10 @@ normal-steps k s a b n atoms contexts marks marked ea fa eb fb em en ep =
     M : List ℕ
     M = map (markLabelAt s) (take (s .«mark_count») (sortedMarks s))
 
-    all : withClasses b M ≡ numberingOf k s
+    all : withClasses b M ≡ numberingOf i k s
     all = rw (eb, ea)
 
-    end : n ≡ numberingOf k s
+    end : n ≡ numberingOf i k s
     end = en ∙ rw em all
 
 -- Each node that is shown gets the number of its class.
@@ -179,44 +179,44 @@ module _ (h : Held) (A : Agrees h) (N : Numberable (packed h)) where
   low : (c : ℕ) → c ∈ map (labelIn (h .wiring)) (shown (graphOf h)) → c < linkRoom
   low = all-map (labelIn (h .wiring)) (shown (graphOf h)) (λ c. c < linkRoom) (λ x i. label-low x)
 
-  number-made : (x : Node ℕ) → x ∈ shown (graphOf h) → getD (numberingOf (length (h .contexts)) (packed h) .numbers) (labelIn (h .wiring) x) 0 ≡ numberIn h x
+  number-made : (x : Node ℕ) → x ∈ shown (graphOf h) → getD (numberingOf (length (h .atoms)) (length (h .contexts)) (packed h) .numbers) (labelIn (h .wiring) x) 0 ≡ numberIn h x
   unfolding numberBy classesBy
   number-made x i =
       rw (numbering-made h A) (classes-number (map (labelIn (h .wiring)) (shown (graphOf h))) low (labelIn (h .wiring) x) (Memᴰ·map (labelIn (h .wiring)) i)
       ∙ number-agree (graphOf h) (labelIn (h .wiring)) (classOf (graphOf h .fusions)) labels-agree x i)
 
-  count-made : numberingOf (length (h .contexts)) (packed h) .count ≡ length (classesBy (classOf (graphOf h .fusions)) (graphOf h))
+  count-made : numberingOf (length (h .atoms)) (length (h .contexts)) (packed h) .count ≡ length (classesBy (classOf (graphOf h .fusions)) (graphOf h))
   unfolding classesBy
   count-made =
       rw (numbering-made h A) (classes-count (map (labelIn (h .wiring)) (shown (graphOf h))) low
       ∙ length-agree (shown (graphOf h)) (labelIn (h .wiring)) (classOf (graphOf h .fusions)) labels-agree)
 
   links-made : (l : List ℕ) → ((x : ℕ) → x ∈ l → inner x ∈ portNodes (graphOf h .atoms))
-      → padded mostLinks 0 (map (λ x. getD (numberingOf (length (h .contexts)) (packed h) .numbers) (labelAt (packed h) x) 0) l) ≡ padded mostLinks 0 (map (λ x. numberIn h (inner x)) l)
+      → padded mostLinks 0 (map (λ x. getD (numberingOf (length (h .atoms)) (length (h .contexts)) (packed h) .numbers) (labelAt (packed h) x) 0) l) ≡ padded mostLinks 0 (map (λ x. numberIn h (inner x)) l)
   links-made l p =
       ap (padded mostLinks 0)
-      (map-agree (λ x. getD (numberingOf (length (h .contexts)) (packed h) .numbers) (labelAt (packed h) x) 0) (λ x. numberIn h (inner x)) l
-      (λ x i. ap (λ c. getD (numberingOf (length (h .contexts)) (packed h) .numbers) c 0) (label-at h x) ∙ number-made (inner x) (port-shown (graphOf h) (p x i))))
+      (map-agree (λ x. getD (numberingOf (length (h .atoms)) (length (h .contexts)) (packed h) .numbers) (labelAt (packed h) x) 0) (λ x. numberIn h (inner x)) l
+      (λ x i. ap (λ c. getD (numberingOf (length (h .atoms)) (length (h .contexts)) (packed h) .numbers) c 0) (label-at h x) ∙ number-made (inner x) (port-shown (graphOf h) (p x i))))
 
-  atoms-made : mapped (atomNumbered (numberingOf (length (h .contexts)) (packed h) .numbers) (labelAt (packed h))) (length (h .atoms)) (packed h .atoms) ≡ packedNormal h .atoms
+  atoms-made : mapped (atomNumbered (numberingOf (length (h .atoms)) (length (h .contexts)) (packed h) .numbers) (labelAt (packed h))) (length (h .atoms)) (packed h .atoms) ≡ packedNormal h .atoms
   atoms-made =
-      mapped-padded (sheetAtoms + 1) noAtom (h .atoms) (atomNumbered (numberingOf (length (h .contexts)) (packed h) .numbers) (labelAt (packed h))) (length (h .atoms)) refl
-      ∙ ap (padded (sheetAtoms + 1) noAtom) (map-agree (atomNumbered (numberingOf (length (h .contexts)) (packed h) .numbers) (labelAt (packed h))) (normalAtom h) (h .atoms)
+      mapped-padded (sheetAtoms + 1) noAtom (h .atoms) (atomNumbered (numberingOf (length (h .atoms)) (length (h .contexts)) (packed h) .numbers) (labelAt (packed h))) (length (h .atoms)) refl
+      ∙ ap (padded (sheetAtoms + 1) noAtom) (map-agree (atomNumbered (numberingOf (length (h .atoms)) (length (h .contexts)) (packed h) .numbers) (labelAt (packed h))) (normalAtom h) (h .atoms)
       (λ a i. ap (λ (l : List ℕ). record { name = a .name; count = a .count; links = l }) (links-made (take (a .count) (a .links))
       (λ x j. ports-in (atomCell a) (inner x) (Memᴰ·append-left (map contextCell (h .contexts)) (Memᴰ·map atomCell i)) (Memᴰ·map inner j)))))
 
-  contexts-made : mapped (contextNumbered (numberingOf (length (h .contexts)) (packed h) .numbers) (labelAt (packed h))) (length (h .contexts)) (packed h .contexts) ≡ packedNormal h .contexts
+  contexts-made : mapped (contextNumbered (numberingOf (length (h .atoms)) (length (h .contexts)) (packed h) .numbers) (labelAt (packed h))) (length (h .contexts)) (packed h .contexts) ≡ packedNormal h .contexts
   contexts-made =
-      mapped-padded (figureContexts + 1) noContext (h .contexts) (contextNumbered (numberingOf (length (h .contexts)) (packed h) .numbers) (labelAt (packed h))) (length (h .contexts)) refl
-      ∙ ap (padded (figureContexts + 1) noContext) (map-agree (contextNumbered (numberingOf (length (h .contexts)) (packed h) .numbers) (labelAt (packed h))) (normalContext h) (h .contexts)
+      mapped-padded (figureContexts + 1) noContext (h .contexts) (contextNumbered (numberingOf (length (h .atoms)) (length (h .contexts)) (packed h) .numbers) (labelAt (packed h))) (length (h .contexts)) refl
+      ∙ ap (padded (figureContexts + 1) noContext) (map-agree (contextNumbered (numberingOf (length (h .atoms)) (length (h .contexts)) (packed h) .numbers) (labelAt (packed h))) (normalContext h) (h .contexts)
       (λ c i. ap (λ (l : List ℕ). record { number = c .number; count = c .count; links = l; row = c .row }) (links-made (take (c .count) (c .links))
       (λ x j. ports-in (contextCell c) (inner x) (Memᴰ·append-right (map atomCell (h .atoms)) (Memᴰ·map contextCell i)) (Memᴰ·map inner j)))))
 
-  marked-made : marksBy (numberingOf (length (h .contexts)) (packed h) .numbers) (markLabelAt (packed h)) (take (length (h .wiring .marks)) (sortedMarks (packed h))) ≡ packedNormal h .marked
+  marked-made : marksBy (numberingOf (length (h .atoms)) (length (h .contexts)) (packed h) .numbers) (markLabelAt (packed h)) (take (length (h .wiring .marks)) (sortedMarks (packed h))) ≡ packedNormal h .marked
   marked-made =
-      ap (marksBy (numberingOf (length (h .contexts)) (packed h) .numbers) (markLabelAt (packed h))) (marks-taken h A)
-      ∙ ap (padded (sheetMarks + 1) 0) (map-agree (λ m. getD (numberingOf (length (h .contexts)) (packed h) .numbers) (markLabelAt (packed h) m) 0) (λ m. numberIn h (markNode m)) (marksOf (graphOf h))
-      (λ m i. ap (λ c. getD (numberingOf (length (h .contexts)) (packed h) .numbers) c 0) (mark-at h m) ∙ number-made (markNode m) (mark-shown (graphOf h) m i)))
+      ap (marksBy (numberingOf (length (h .atoms)) (length (h .contexts)) (packed h) .numbers) (markLabelAt (packed h))) (marks-taken h A)
+      ∙ ap (padded (sheetMarks + 1) 0) (map-agree (λ m. getD (numberingOf (length (h .atoms)) (length (h .contexts)) (packed h) .numbers) (markLabelAt (packed h) m) 0) (λ m. numberIn h (markNode m)) (marksOf (graphOf h))
+      (λ m i. ap (λ c. getD (numberingOf (length (h .atoms)) (length (h .contexts)) (packed h) .numbers) c 0) (mark-at h m) ∙ number-made (markNode m) (mark-shown (graphOf h) m i)))
 
-  pub normal-made : normalMade (length (h .contexts)) (packed h) ≡ packedNormal h
+  pub normal-made : normalMade (length (h .atoms)) (length (h .contexts)) (packed h) ≡ packedNormal h
   normal-made = normal-≡ (length (h .atoms)) (length (h .contexts)) atoms-made contexts-made (marks-made h A) marked-made (marks-count h A) count-made

@@ -11,18 +11,18 @@ use Rattle.rows.specs.Format.{mostLinks, fieldCount, rowWidth}
 use Rattle.rows.specs.Limits.{rowLimit, sheetMarks, fillingLinks}
 use Rattle.rows.specs.Held.{Wiring, Held, nothing, withRow}
 use Rattle.rows.specs.Packed.{portTable, packed, TextArrays}
-use Rattle.linking.specs.Steps.{Wired, Linked, Relinks, Marked, Tied, Room, linkedBy, markedBy}
+use Rattle.linking.specs.Steps.{Wired, Linked, Relinks, Marked, Tied, Room, linkedBy, markedBy, Distinct}
 use Rattle.rows.specs.Entry.{Ranged, isContext, atomBy, contextBy, portsBy}
 use Rattle.rows.specs.declared.Atom.{Atom}
 use Rattle.rows.specs.declared.Context.{Context}
-use Rattle.rows.proofs.Padding.{length-padded}
+use Rattle.rows.proofs.Padding.{length-padded, take-padded}
 use Rattle.rows.proofs.RowRange.{row-length}
 use Rattle.linking.proofs.TakeRow.{row-taken}
 use Rattle.sheet.specs.Filling.{isPassed}
 use Rattle.sheet.specs.Reading.{ragged, lastNumber, clashes, taken, firstOf, tests, readFrom, Outcome, outcomeOf}
 use Rattle.sheet.specs.Kinds.{isList}
 use Rattle.numbering.specs.Numbering.{Numberable}
-use Rattle.reading.specs.Made.{arrays, Widths, normalMade, readingOf}
+use Rattle.reading.specs.Made.{arrays, Widths, isMany, normalMade, readingOf}
 use Rattle.reading.proofs.normal.NormalReady.{numberable-read}
 use Rattle.sheet.specs.Steps.{answerOf, earlyTests, lateTests, Looked}
 use Rattle.sheet.specs.declared.answer.Answer.{Answer}
@@ -65,10 +65,10 @@ kept-start kind pattern text s e = record { held = nothing; arrays = e; before =
 
 -- the text is over, and this is its normal form
 pub kept-end : (kind : Kind) (pattern text : List ℕ) (k : ℕ) (s : TextArrays) → Kept kind pattern text k s → length text ≤ k * rowWidth
-    → (shown : ℕ) → shown ≡ pick (isList kind) 0 (s .«context_count») → (r : Normal) → r ≡ normalMade shown s
+    → (some : ℕ) → some ≡ pick (isMany kind (s .«context_count»)) 0 (s .«atom_count») → (shown : ℕ) → shown ≡ pick (isList kind) 0 (s .«context_count») → (r : Normal) → r ≡ normalMade some shown s
     → _≡_ {A = Reading} (record { answer = Passed; normal = r; ports = s .ports }) (readingOf kind (outcomeOf kind pattern text))
-kept-end kind pattern text k s i e shown f r q =
-    rw (q, f, i .arrays) (ap (readingOf kind) (sym (read-end kind pattern text (k * rowWidth) k (i .held) (i .read) e)))
+kept-end kind pattern text k s i e some d shown f r q =
+    rw (q, d, f, i .arrays) (ap (readingOf kind) (sym (read-end kind pattern text (k * rowWidth) k (i .held) (i .read) e)))
 
 -- what the arrays then hold can be numbered, whatever the table of ports
 pub kept-numberable : (kind : Kind) (pattern text : List ℕ) (k : ℕ) (s : TextArrays) → Kept kind pattern text k s → length text ≤ k * rowWidth → Numberable s
@@ -84,18 +84,25 @@ unported s n =
       labels = n .labels;
     }
 
+-- no link stands twice
+pub kept-distinct : (kind : Kind) (pattern text : List ℕ) (k : ℕ) (s : TextArrays) → Kept kind pattern text k s → Distinct (take (s .«link_count») (s .links))
+kept-distinct kind pattern text k s i =
+    rw (i .arrays, take-padded (fillingLinks + mostLinks) 0 (i .held .wiring .links)) (i .read .within .wired .distinct)
+
 pub some-shown : (b : Bool) (c : ℕ) → pick b 0 c ≤ c
 some-shown true c = omega arith
 some-shown false c = omega arith
 
 -- what is handed back of a text that is turned down
 pub refused-reading : (kind : Kind) (o : Outcome) (x : Answer) → o ≡ record { answer = x; held = nothing }
-    → _≡_ {A = Reading} (record { answer = x; normal = normalMade 0 (packed nothing); ports = portTable [] }) (readingOf kind o)
-refused-reading kind o x e = rw e (go (isList kind))
+    → _≡_ {A = Reading} (record { answer = x; normal = normalMade 0 0 (packed nothing); ports = portTable [] }) (readingOf kind o)
+refused-reading kind o x e = rw e (go (isMany kind 0) (isList kind))
   where
-    go : (b : Bool) → _≡_ {A = Reading} (record { answer = x; normal = normalMade 0 (packed nothing); ports = portTable [] }) (record { answer = x; normal = normalMade (pick b 0 0) (packed nothing); ports = portTable [] })
-    go true = refl
-    go false = refl
+    go : (a b : Bool) → _≡_ {A = Reading} (record { answer = x; normal = normalMade 0 0 (packed nothing); ports = portTable [] }) (record { answer = x; normal = normalMade (pick a 0 0) (pick b 0 0) (packed nothing); ports = portTable [] })
+    go true true = refl
+    go true false = refl
+    go false true = refl
+    go false false = refl
 
 module _ (kind : Kind) (pattern text : List ℕ) (k : ℕ) (s : TextArrays) (i : Kept kind pattern text k s) (more : k * rowWidth < length text)
     (next : Next) (look : Looked kind (s .«context_count») k (drop (k * rowWidth) text) next) where

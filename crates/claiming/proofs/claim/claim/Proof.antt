@@ -55,7 +55,7 @@ claim-read-requires c κs =
           },
         ),
       ),
-      subst (λ (x : Reading). Headed (x .normal) (x .ports) (a .list .now)) (sym (l .read-list .ensures)) (headed-read (a .list .now)),
+      subst (λ (x : Reading). Headed (x .normal .contexts) (x .normal .«context_count») (x .ports) (a .list .now)) (sym (l .read-list .ensures)) (headed-read (a .list .now)),
       ap isPassed (sym (ap (λ (x : Reading). x .answer) (l .read-list .ensures)) ∙ w .enum-told3 .given .1),
     )
 

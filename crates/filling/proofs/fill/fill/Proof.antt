@@ -37,7 +37,7 @@ fill-read-requires c κs = let t = c .before .before .before .before in
     let i = r .before .before .before in
     let e = i .before in
     let a = e .before .before .before .before .args in
-    (((a .figure .now, figure-normal i), subst (λ (x : Reading). Headed (x .normal) (x .ports) (a .list .now)) (sym (r .read-list .ensures)) (headed-read (a .list .now)), ap isPassed (sym (ap (λ (x : Reading). x .answer) (r .read-list .ensures)) ∙ t .enum-told2 .given .1)), e .if1 .left)
+    (((a .figure .now, figure-normal i), subst (λ (x : Reading). Headed (x .normal .contexts) (x .normal .«context_count») (x .ports) (a .list .now)) (sym (r .read-list .ensures)) (headed-read (a .list .now)), ap isPassed (sym (ap (λ (x : Reading). x .answer) (r .read-list .ensures)) ∙ t .enum-told2 .given .1)), e .if1 .left)
 
 enum-known-list-answer : tie.Need-enum-known-list-answer
 enum-known-list-answer c = search needs

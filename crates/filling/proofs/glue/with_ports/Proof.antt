@@ -65,7 +65,7 @@ add-merged-2 c = let l = c .before .before in
 merged-requires : tie.Need-merged-requires Inv-loop μ-loop
 merged-requires c κs = let l = c .before .before in
     let h = l .before .pre in
-    (omega (arith, h .1 (l .loop .k) .0), omega (arith, h .1 (l .loop .k) .1), omega (arith, h .0 .0), l .loop .inv .3)
+    (omega (arith, h .1 (l .loop .k) .0), omega (arith, h .1 (l .loop .k) .1), omega (arith, h .0 .0), l .loop .inv .3, omega (arith, h .0 .3))
 
 add-k : tie.Need-add-k Inv-loop μ-loop
 add-k c = search needs
@@ -81,7 +81,7 @@ loop-again c = let l = c .before .before .before in
       l .loop .inv .1,
       l .loop .inv .2,
       subst (FreshFrom ((a .p + 1) * partRoom)) (sym (c .merged .ensures))
-          (fresh-joined (l .loop .labels) ((a .p + 1) * partRoom) (getD (a .t3) (l .loop .k) 0) (placeOf (a .p) (getD (a .t5) (l .loop .k) 0)) (omega (arith, h .1 (l .loop .k) .0)) (omega (arith, h .1 (l .loop .k) .1)) (l .loop .inv .3) (omega (arith, h .0 .0))),
+          (fresh-joined (l .loop .labels) ((a .p + 1) * partRoom) (getD (a .t3) (l .loop .k) 0) (placeOf (a .p) (getD (a .t5) (l .loop .k) 0)) (omega (arith, h .1 (l .loop .k) .0)) (omega (arith, h .1 (l .loop .k) .1)) (l .loop .inv .3) (omega (arith, h .0 .3)) (omega (arith, h .0 .0))),
       ap (λ m. joinedAll m (portPairs (a .p) (drop (l .loop .k + 1) (take (a .count) (a .t3))) (drop (l .loop .k + 1) (take (a .count) (a .t5))))) (c .merged .ensures)
           ∙ sym (ports-next (a .p) (a .count) (l .loop .k) (a .t3) (a .t5) (l .loop .labels) (omega (arith, l .loop .inv .1, h .0 .1)) (omega (arith, l .loop .inv .2, h .0 .1)) (c .before .before .loop-test .taken)) ∙ l .loop .inv .4,
     )

@@ -18,10 +18,9 @@ read-list-requires : tie.Need-read-list-requires
 read-list-requires c κs = search needs
 
 returns : tie.Need-returns
-returns c = let r = c .before in
-    let f = r .before in
+returns c = let f = c .before in
     let a = f .before .before .args in
-    ap (λ (x : Reading). x .normal) (r .read-list .ensures ∙ ap (λ (t : List ℕ). readingOf Fillings (outcomeOf Fillings noPorts t)) (f .part-for .ensures)) ∙ part-made (a .list .now) (a .number)
+    ap (λ (x : Reading). x .normal) (c .read-list .ensures ∙ ap (λ (t : List ℕ). readingOf Fillings (outcomeOf Fillings noPorts t)) (f .part-for .ensures)) ∙ part-made (a .list .now) (a .number)
 
 pub part-of-spec : {M : Type 1} → statement M
 part-of-spec = tie.close (tie.spec part-for-requires read-list-requires returns)

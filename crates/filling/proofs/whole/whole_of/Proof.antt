@@ -52,7 +52,7 @@ with-ports-requires c κs = let p = c .before .before .before in
     let l = p .before .before .before .before in
     let s = l .before .before in
     let x = getD (s .args .t2) (l .loop .i) pastContexts in (
-      (omega (arith, s .pre .0 .counted .few, p .before .before .before .loop-test .taken), s .pre .0 .counted .count (l .loop .i), fresh-more (l .loop .labels) ((l .loop .i + 1) * partRoom) ((l .loop .i + 1 + 1) * partRoom) (omega arith) (omega (arith, s .pre .0 .counted .few, p .before .before .before .loop-test .taken)) (l .loop .inv .2)),
+      (omega (arith, s .pre .0 .counted .few, p .before .before .before .loop-test .taken), s .pre .0 .counted .count (l .loop .i), fresh-more (l .loop .labels) ((l .loop .i + 1) * partRoom) ((l .loop .i + 1 + 1) * partRoom) (omega arith) (omega (arith, s .pre .0 .counted .few, p .before .before .before .loop-test .taken)) (l .loop .inv .2), omega arith),
       λ k. (s .pre .0 .links (l .loop .i) k, subst (λ (n : Normal). getD (n .marked) k 0 < partRoom) (sym (p .part-of .ensures)) (part-low (s .args .list .now) (x .number) .marked k)),
     )
 

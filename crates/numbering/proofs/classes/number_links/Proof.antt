@@ -15,12 +15,12 @@ use Rattle.numbering.proofs.classes.number_links.Statement.{statement}
 use Rattle.numbering.proofs.classes.number_links.Tie as tie
 
 abbrev Inv-loop : tie.InvT-loop
-Inv-loop numbers₀ count₀ links classes n port-count ports numbered₀ k₀ numbers count numbered k = (k ≤ port-count) × (length ports ≡ mostLinks) × (length numbered ≡ mostLinks) × (count ≤ count₀ + k)
+Inv-loop numbers₀ count₀ links classes n port-count hints ports numbered₀ k₀ numbers count numbered k = (k ≤ port-count) × (length ports ≡ mostLinks) × (length numbered ≡ mostLinks) × (count ≤ count₀ + k)
     × (withClasses (numbering numbers count) (map (labelIn links classes n) (drop k (take port-count ports))) ≡ withClasses (numbering numbers₀ count₀) (linkLabels (labelIn links classes n) port-count ports))
     × ((later : List ℕ) → numbered ≡ linksBy (withClasses (withClasses (numbering numbers₀ count₀) (linkLabels (labelIn links classes n) port-count ports)) later .numbers) (labelIn links classes n) k ports)
 
 abbrev μ-loop : tie.MeasureT-loop
-μ-loop numbers₀ count₀ links classes n port-count ports numbered₀ k₀ numbers count numbered k = port-count - k
+μ-loop numbers₀ count₀ links classes n port-count hints ports numbered₀ k₀ numbers count numbered k = port-count - k
 
 loop-holds : tie.Need-loop-holds Inv-loop μ-loop
 unfolding padded

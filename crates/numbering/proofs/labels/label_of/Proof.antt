@@ -1,26 +1,24 @@
 -- The class at the link's place.
-use native.Mathlib.Omega.{arith}
-use Rattle.rows.proofs.Lists.{index-below}
 use borrow.Author.Needs.{needs}
 use Rattle.numbering.proofs.labels.label_of.Statement.{statement}
 use Rattle.numbering.proofs.labels.label_of.Tie as tie
 
-index-of-requires : tie.Need-index-of-requires
-index-of-requires c κs = search needs
+place-of-requires : tie.Need-place-of-requires
+place-of-requires c κs = search needs
 
 mul-result : tie.Need-mul-result
-mul-result c = let a = c .before .before .before .args in omega (arith, c .index-of .ensures, index-below (a .x) (a .n) (a .links .now))
+mul-result c = search (needs, c .place-of .ensures .0)
 
 shared-slice-read-result : tie.Need-shared-slice-read-result
-shared-slice-read-result c = let a = c .before .before .before .before .args in omega (arith, c .before .index-of .ensures, index-below (a .x) (a .n) (a .links .now))
+shared-slice-read-result c = search (needs, c .before .place-of .ensures .0)
 
 cast-result : tie.Need-cast-result
-cast-result c = let s = c .before .before .before .before in search (needs, s .pre .2 (c .before .index-of .result))
+cast-result c = let s = c .before .before .before .before in search (needs, s .pre .2 (c .before .place-of .result))
 
 returns : tie.Need-returns
-returns c = rw (c .before .index-of .ensures)
+returns c = let s = c .before .before .before .before in rw (c .before .place-of .ensures .1 (s .pre .4))
 
 pub label-of-spec : {M : Type 1} → statement M
 label-of-spec =
     tie.close
-    (tie.spec index-of-requires mul-result shared-slice-read-result cast-result returns)
+    (tie.spec place-of-requires mul-result shared-slice-read-result cast-result returns)

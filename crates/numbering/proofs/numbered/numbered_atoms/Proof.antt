@@ -23,12 +23,12 @@ abbrev linked : Atom → List ℕ → Atom
 linked a w = record { name = a .name; count = a .count; links = w }
 
 abbrev Inv-loop : tie.InvT-loop
-Inv-loop numbers₀ count₀ links classes n atom-count atoms₀ i₀ numbers count atoms i = (i ≤ atom-count) × (length atoms₀ ≡ sheetAtoms + 1) × (count ≤ count₀ + mostLinks * i)
+Inv-loop numbers₀ count₀ links classes n atom-count hints atoms₀ i₀ numbers count atoms i = (i ≤ atom-count) × (length atoms₀ ≡ sheetAtoms + 1) × (count ≤ count₀ + mostLinks * i)
     × (withClasses (numbering numbers count) (atomLabels (labelIn links classes n) (drop i (take atom-count atoms₀))) ≡ withClasses (numbering numbers₀ count₀) (atomLabels (labelIn links classes n) (take atom-count atoms₀)))
     × ((later : List ℕ) → atoms ≡ mapped (atomNumbered (withClasses (withClasses (numbering numbers₀ count₀) (atomLabels (labelIn links classes n) (take atom-count atoms₀))) later .numbers) (labelIn links classes n)) i atoms₀)
 
 abbrev μ-loop : tie.MeasureT-loop
-μ-loop numbers₀ count₀ links classes n atom-count atoms₀ i₀ numbers count atoms i = atom-count - i
+μ-loop numbers₀ count₀ links classes n atom-count hints atoms₀ i₀ numbers count atoms i = atom-count - i
 
 loop-holds : tie.Need-loop-holds Inv-loop μ-loop
 loop-holds c = (search needs, search (needs, unmapped), search needs, refl, λ later. refl)

@@ -23,12 +23,12 @@ abbrev linked : Context → List ℕ → Context
 linked a w = record { number = a .number; count = a .count; links = w; row = a .row }
 
 abbrev Inv-loop : tie.InvT-loop
-Inv-loop numbers₀ count₀ links classes n context-count contexts₀ i₀ numbers count contexts i = (i ≤ context-count) × (length contexts₀ ≡ figureContexts + 1) × (count ≤ count₀ + mostLinks * i)
+Inv-loop numbers₀ count₀ links classes n context-count hints contexts₀ i₀ numbers count contexts i = (i ≤ context-count) × (length contexts₀ ≡ figureContexts + 1) × (count ≤ count₀ + mostLinks * i)
     × (withClasses (numbering numbers count) (contextLabels (labelIn links classes n) (drop i (take context-count contexts₀))) ≡ withClasses (numbering numbers₀ count₀) (contextLabels (labelIn links classes n) (take context-count contexts₀)))
     × ((later : List ℕ) → contexts ≡ mapped (contextNumbered (withClasses (withClasses (numbering numbers₀ count₀) (contextLabels (labelIn links classes n) (take context-count contexts₀))) later .numbers) (labelIn links classes n)) i contexts₀)
 
 abbrev μ-loop : tie.MeasureT-loop
-μ-loop numbers₀ count₀ links classes n context-count contexts₀ i₀ numbers count contexts i = context-count - i
+μ-loop numbers₀ count₀ links classes n context-count hints contexts₀ i₀ numbers count contexts i = context-count - i
 
 loop-holds : tie.Need-loop-holds Inv-loop μ-loop
 loop-holds c = (search needs, search (needs, unmapped), search needs, refl, λ later. refl)

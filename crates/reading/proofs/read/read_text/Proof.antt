@@ -18,8 +18,8 @@ use Rattle.linking.proofs.Hints.{hinted-none}
 use Rattle.sheet.specs.Filling.{isPassed}
 use Rattle.sheet.proofs.read.Taken.{rowAt}
 use Rattle.sheet.specs.Kinds.{isList}
-use Rattle.reading.specs.Made.{Widths}
-use Rattle.reading.proofs.read.Turn.{Kept, kept-room, kept-widths, kept-start, kept-end, kept-numberable, unported, some-shown, refused-reading, turned-early, row-ranged, row-made, turned-late, kept-next}
+use Rattle.reading.specs.Made.{Widths, isMany}
+use Rattle.reading.proofs.read.Turn.{Kept, kept-room, kept-widths, kept-start, kept-end, kept-numberable, kept-distinct, unported, some-shown, refused-reading, turned-early, row-ranged, row-made, turned-late, kept-next}
 use Rattle.reading.proofs.read.read_text.Statement.{statement}
 use Rattle.reading.proofs.read.read_text.Tie as tie
 
@@ -299,34 +299,45 @@ loop-again c =
       linked (marks-in (f .before) .before) .add-row-links .ensures .2,
     )
 
+shown-atoms-requires : tie.Need-shown-atoms-requires Inv-loop μ-loop
+shown-atoms-requires c κs = search needs
+
 shown-contexts-requires : tie.Need-shown-contexts-requires Inv-loop μ-loop
 shown-contexts-requires c κs = search needs
 
 slice-aggregate-normal-from : tie.Need-slice-aggregate-normal-from Inv-loop μ-loop
-slice-aggregate-normal-from c = sym (widths (c .before .before .before) .0)
+slice-aggregate-normal-from c = sym (widths (c .before .before .before .before) .0)
 
 slice-aggregate-normal-from-2 : tie.Need-slice-aggregate-normal-from-2 Inv-loop μ-loop
-slice-aggregate-normal-from-2 c = sym (widths (c .before .before .before .before) .1)
+slice-aggregate-normal-from-2 c = sym (widths (c .before .before .before .before .before) .1)
 
 slice-aggregate-normal-from-3 : tie.Need-slice-aggregate-normal-from-3 Inv-loop μ-loop
-slice-aggregate-normal-from-3 c = sym (widths (c .before .before .before .before .before) .2)
+slice-aggregate-normal-from-3 c = sym (widths (c .before .before .before .before .before .before) .2)
 
 slice-aggregate-normal-from-4 : tie.Need-slice-aggregate-normal-from-4 Inv-loop μ-loop
-slice-aggregate-normal-from-4 c = sym (widths (c .before .before .before .before .before .before) .3)
+slice-aggregate-normal-from-4 c = sym (widths (c .before .before .before .before .before .before .before) .3)
 
 normal-from-requires : tie.Need-normal-from-requires Inv-loop μ-loop
 normal-from-requires c κs =
-    let x = c .before .before .before .before in
-    let l = x .before .before in
-    let a = l .before .before .before .before .args in
-    (unported (state l) (kept-numberable (a .kind) (a .pattern) (a .text .now) (l .loop .k) (state l) (l .loop .inv .0) (x .before .loop-test .left)), widths l, rw (x .shown-contexts .ensures) (some-shown (isList (a .kind)) (l .loop .c)))
+    let x = c .before .before .before .before .before in
+    let y = x .before in
+    let l = y .before .before in
+    let a = l .before .before .before .before .args in (
+      unported (state l) (kept-numberable (a .kind) (a .pattern) (a .text .now) (l .loop .k) (state l) (l .loop .inv .0) (y .before .loop-test .left)),
+      widths l,
+      rw (y .shown-atoms .ensures) (some-shown (isMany (a .kind) (l .loop .c)) (l .loop .a)),
+      rw (x .shown-contexts .ensures) (some-shown (isList (a .kind)) (l .loop .c)),
+      l .loop .inv .1,
+      kept-distinct (a .kind) (a .pattern) (a .text .now) (l .loop .k) (state l) (l .loop .inv .0),
+    )
 
 returns-3 : tie.Need-returns-3 Inv-loop μ-loop
 returns-3 c =
-    let x = c .before .before .before .before .before in
-    let l = x .before .before in
+    let x = c .before .before .before .before .before .before in
+    let y = x .before in
+    let l = y .before .before in
     let a = l .before .before .before .before .args in
-    kept-end (a .kind) (a .pattern) (a .text .now) (l .loop .k) (state l) (l .loop .inv .0) (x .before .loop-test .left) (x .shown-contexts .result) (x .shown-contexts .ensures) (c .normal-from .result) (c .normal-from .ensures)
+    kept-end (a .kind) (a .pattern) (a .text .now) (l .loop .k) (state l) (l .loop .inv .0) (y .before .loop-test .left) (y .shown-atoms .result) (y .shown-atoms .ensures) (x .shown-contexts .result) (x .shown-contexts .ensures) (c .normal-from .result) (c .normal-from .ensures)
 
 pub read-text-spec : {M : Type 1} → statement M
 read-text-spec =
@@ -375,6 +386,7 @@ read-text-spec =
     returns-2
     loop-less
     loop-again
+    shown-atoms-requires
     shown-contexts-requires
     slice-aggregate-normal-from
     slice-aggregate-normal-from-2
