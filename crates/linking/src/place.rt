@@ -25,12 +25,14 @@ fn wide(b: u8) -> usize
     b as usize
 }
 
-// The place of x among the first n links, none of which stands twice, or n where it is not there.
-// Where its hint is 0, it is new; else the place that the hint says is tried first.
+// The place of x among the first n links, none of which stands twice, or n where it is not there or there are not so
+// many. Where its hint is 0, it is new; else the place that the hint says is tried first.
 pub fn place_of(links: &[u16], n: usize, x: u16, hints: &[u8; HINTS]) -> usize
-    requires { ⌜ (n ≤ length (now links)) × Hinted (now hints) (now links) n ⌝ }
-    ensures { λ r. ⌜ (r ≤ n) × (Distinct (take n (now (links .entry))) → r ≡ indexOf x (take n (now (links .entry)))) ⌝ }
+    ensures { λ r. ⌜ (r ≤ n) × (n ≤ length (now (links .entry)) → Hinted (now (hints .entry)) (now (links .entry)) n → Distinct (take n (now (links .entry))) → r ≡ indexOf x (take n (now (links .entry)))) ⌝ }
 {
+    if links.len() < n {
+        return n;
+    }
     let hint = wide(hints[hint_at(x)]);
     if hint == 0 {
         return n;

@@ -29,7 +29,7 @@ returns c = let s = c .before .before .before .before .before .before .before in
     let a = s .args in
     let p = c .before .before .place-of in
     let h = c .before .hint-at in
-    (omega arith, λ w wired k. link-old w wired (a .links .now) (a .classes .now) (a .n) k (a .x) (p .result) (p .ensures .1) (c .if1 .taken), hinted-old (a .hints .now) (a .links .now) (a .n) (s .pre .3) (a .x) (h .result) (p .result) (h .ensures .1) (h .ensures .0) (p .result) (c .if1 .taken))
+    (omega arith, λ w wired k. link-old w wired (a .links .now) (a .classes .now) (a .n) k (a .x) (p .result) (p .ensures .1 (omega (arith, s .pre .0, s .pre .1)) (s .pre .3)) (c .if1 .taken), hinted-old (a .hints .now) (a .links .now) (a .n) (s .pre .3) (a .x) (h .result) (p .result) (h .ensures .1) (h .ensures .0) (p .result) (c .if1 .taken))
 
 mul-links : tie.Need-mul-links
 mul-links c = search needs
@@ -57,7 +57,7 @@ returns-2 c = let s = c .before .before .before .before .before .before .before 
     let a = s .args in
     let p = c .before .before .place-of in
     let h = c .before .hint-at in
-    (omega arith, λ w wired k. link-added w wired (a .links .now) (a .classes .now) (a .n) k (a .x) (p .result) (p .ensures .1) (c .if1 .left) (p .ensures .0) (s .pre .0), hinted-new (a .hints .now) (a .links .now) (a .n) (s .pre .3) (a .x) (h .result) (p .result) (h .ensures .1) (h .ensures .0) (omega (arith, s .pre .0, s .pre .1)))
+    (omega arith, λ w wired k. link-added w wired (a .links .now) (a .classes .now) (a .n) k (a .x) (p .result) (p .ensures .1 (omega (arith, s .pre .0, s .pre .1)) (s .pre .3)) (c .if1 .left) (p .ensures .0) (s .pre .0), hinted-new (a .hints .now) (a .links .now) (a .n) (s .pre .3) (a .x) (h .result) (p .result) (h .ensures .1) (h .ensures .0) (omega (arith, s .pre .0, s .pre .1)))
 
 pub place-link-spec : {M : Type 1} → statement M
 place-link-spec =

@@ -16,7 +16,7 @@ cast-result : tie.Need-cast-result
 cast-result c = let s = c .before .before .before .before in search (needs, s .pre .2 (c .before .place-of .result))
 
 returns : tie.Need-returns
-returns c = let s = c .before .before .before .before in rw (c .before .place-of .ensures .1 (s .pre .4))
+returns c = let s = c .before .before .before .before in rw (c .before .place-of .ensures .1 (s .pre .0) (s .pre .3) (s .pre .4))
 
 pub label-of-spec : {M : Type 1} → statement M
 label-of-spec =
