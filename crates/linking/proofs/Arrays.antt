@@ -1,4 +1,4 @@
--- What the steps of taking in links and marks make of the arrays of a `Sheet`.
+-- What the steps of taking in links and marks make of the arrays of a text.
 use Prim.Native.Nat.{ℕ, _+_, _-_, _<_, _≤_}
 use mathlib.Core.Path.{_≡_, refl, _∙_, sym}
 use mathlib.Core.List.{List, [], _∷_, _++_}

@@ -1,4 +1,4 @@
--- What the steps of taking in the links and marks of a row ask of the arrays of a `Sheet`, and what they make of them.
+-- What the steps of taking in the links and marks of a row ask of the arrays of a text, and what they make of them.
 use Prim.Native.Nat.{ℕ, _+_, _%_, _<_, _≤_}
 use mathlib.Core.Path.{_≡_}
 use mathlib.Core.List.{List, [], _++_, map}

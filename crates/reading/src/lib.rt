@@ -1,4 +1,5 @@
 // Sheets, figures and lists of fillings as they are read: in normal form.
+mod counts;
 pub mod normal;
 pub mod part;
 pub mod read;

@@ -1,4 +1,6 @@
 // The readers of texts: one walk over rows, for every kind of text.
+use crate::counts::before;
+use crate::counts::counted;
 use crate::normal::normal_from;
 use linking::place::HINTS;
 use linking::take::add_row_links;
@@ -11,9 +13,6 @@ use rows::entry::context_of;
 use rows::entry::is_context;
 use rows::entry::row_ports;
 use sheet::answer::Answer;
-use sheet::counts::before;
-use sheet::counts::counted;
-use sheet::judge::is_passed;
 use sheet::judge::late_answer;
 use sheet::judge::next_row;
 use sheet::judge::row_clash;
@@ -25,6 +24,7 @@ ghost use Rattle.rows.specs.Pick.{pick};
 ghost use Rattle.rows.specs.Held.{nothing};
 ghost use Rattle.rows.specs.Packed.{portTable, packed};
 ghost use Rattle.sheet.specs.Kinds.{isList};
+ghost use Rattle.sheet.specs.Filling.{isPassed};
 ghost use Rattle.sheet.specs.Reading.{outcomeOf, noPorts};
 ghost use Rattle.reading.specs.Made.{isMany, normalMade, readingOf};
 ghost use Rattle.reading.specs.Readings.{sheetRead};
@@ -36,6 +36,15 @@ pub struct Reading {
     pub answer: Answer,
     pub normal: Sheet,
     pub ports: [u16; Sheet::NUMBERS],
+}
+
+fn is_passed(answer: Answer) -> bool
+    ensures { λ r. ⌜ r ≡ isPassed answer ⌝ }
+{
+    match answer {
+        Answer::Passed => true,
+        Answer::Refused(_, _) => false,
+    }
 }
 
 fn turned_down(answer: Answer) -> Reading

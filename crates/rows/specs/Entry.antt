@@ -1,4 +1,4 @@
--- What a row puts into the arrays of atoms, contexts and ports of a `Sheet`.
+-- What a row puts into the arrays of atoms, contexts and ports of a text.
 use Prim.Native.Nat.{ℕ, _+_, _<_, _≤_}
 use mathlib.Core.Path.{_≡_}
 use mathlib.Core.List.{List}

@@ -1,4 +1,4 @@
-// The atom, the context and the ports of a row, as the arrays of a sheet have them.
+// The atom, the context and the ports of a row, as the arrays of a text have them.
 use crate::Atom;
 use crate::Context;
 use crate::Sheet;

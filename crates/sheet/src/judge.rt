@@ -20,7 +20,6 @@ ghost use Rattle.rows.specs.Row.{rowOf};
 ghost use Rattle.rows.specs.Packed.{portTable};
 ghost use Rattle.rows.specs.Entry.{Ranged};
 ghost use Rattle.rows.specs.declared.Context.{Context};
-ghost use Rattle.sheet.specs.Filling.{isPassed};
 ghost use Rattle.sheet.specs.Reading.{ragged, lastNumber, clashes, firstOf};
 ghost use Rattle.sheet.specs.Steps.{answerOf, earlyTests, lateTests, Looked};
 
@@ -28,15 +27,6 @@ ghost use Rattle.sheet.specs.Steps.{answerOf, earlyTests, lateTests, Loo
 pub struct Next {
     pub answer: Answer,
     pub row: Row,
-}
-
-pub fn is_passed(answer: Answer) -> bool
-    ensures { λ r. ⌜ r ≡ isPassed answer ⌝ }
-{
-    match answer {
-        Answer::Passed => true,
-        Answer::Refused(_, _) => false,
-    }
 }
 
 // Whether the row at `at` is incomplete, or its last byte is no newline.

@@ -1,6 +1,5 @@
 // Sheets, figures and lists of fillings: which rows each may have, and the parts of a list.
 pub mod answer;
-pub mod counts;
 pub mod judge;
 pub mod kind;
 pub mod part;

@@ -4,7 +4,7 @@ ghost use Prim.Native.Nat.{_-_};
 ghost use Rattle.rows.specs.Pick.{pick};
 
 // The place of the last of n contexts; where there is none, that of an empty one.
-pub fn before(n: usize) -> usize
+pub(crate) fn before(n: usize) -> usize
     ensures { λ r. ⌜ r ≡ n - 1 ⌝ }
 {
     if n == 0 {
@@ -14,7 +14,7 @@ pub fn before(n: usize) -> usize
 }
 
 // 1 for one more, else 0.
-pub fn counted(more: bool) -> usize
+pub(crate) fn counted(more: bool) -> usize
     ensures { λ r. ⌜ r ≡ pick more 1 0 ⌝ }
 {
     if more {
