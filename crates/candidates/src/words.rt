@@ -1,21 +1,13 @@
 // Sets of numbers below 64, as words: t is in the set where digit t, counted from 0, is 1.
 ghost use mathlib.Core.Path.{_≡_};
 ghost use Prim.Native.Nat.{ℕ, _<_};
-ghost use lib.Dec.{eqb};
-ghost use Rattle.candidates.specs.Words.{digit, In};
+ghost use Rattle.candidates.specs.Words.{In};
 
 // How many numbers a word may have.
 pub const DIGITS: usize = 64;
 
 // All numbers below 64.
 pub const ALL: u64 = 0xffff_ffff_ffff_ffff;
-
-pub fn has(s: u64, t: usize) -> bool
-    requires { ⌜ t < 64 ⌝ }
-    ensures { λ r. ⌜ r ≡ eqb (digit s t) 1 ⌝ }
-{
-    (s >> t) & 1 == 1
-}
 
 // The set of t alone.
 pub fn one(t: usize) -> u64

@@ -7,7 +7,7 @@ use mathlib.Core.Option.{none, some}
 use native.Mathlib.Omega.{arith}
 use borrow.Author.Tests.{lt-ltb, le-ltb}
 use lib.Dec.{ltb}
-use lib.ListN.{take}
+use lib.ListN.{take, replicate}
 use Rattle.rows.specs.Pick.{pick}
 use Rattle.rows.specs.Limits.{sheetAtoms, sheetLinks}
 use Rattle.rows.specs.declared.Context.{Context}
@@ -25,6 +25,9 @@ use Rattle.network.specs.Ready.{Ready}
 use Rattle.network.proofs.NetRead.{net-read, fit-read, normal-read}
 use Rattle.matching.specs.Search.{placedIn}
 use Rattle.matching.specs.declared.search.Found.{Found}
+use Rattle.matching.proofs.Leftover.{leftover}
+use Rattle.matching.proofs.SearchTurns.{nothing-begun}
+use Rattle.matching.proofs.SearchWhole.{no-atoms, placed-smallest}
 use Rattle.filling.specs.Read.{listHeld}
 use Rattle.filling.specs.Fill.{figureHeld, firstLacking, firstDiffering, filledBy, tooLarge}
 use Rattle.filling.specs.Parts.{Counted, Low, firstUnported, Headed}
@@ -46,6 +49,13 @@ found-claim sheet filled r b e h = ap (λ (c : Bool). pick c Holds Differs) (sym
     go : (ok : Bool) (p : Placing) → pick ok Holds Differs ≡ placedClaim (pick ok (some p) none)
     go true p = refl
     go false p = refl
+
+-- A figure without contexts and with fewer atoms than the sheet has no placing.
+pub fewer-atoms : (sheet figure : form.Sheet) → Ready sheet figure → figure .«context_count» ≡ 0 → figure .«atom_count» < sheet .«atom_count» → smallest (netIn sheet) (netIn figure) ≡ none
+fewer-atoms sheet figure ready alone few =
+    let chosen : List ℕ = replicate sheetAtoms 0 in
+    let r : Found = record { ok = false; «atoms_to» = chosen; «links_to» = replicate sheetLinks 0; given = chosen; work = 1 } in
+    sym (placed-smallest sheet figure ready r refl refl (nothing-begun sheet figure ready chosen 0 (omega arith) (no-atoms sheet chosen refl) (leftover sheet figure ready alone few) r refl))
 
 -- The answer to texts that passed row by row, case by case.
 module _ (s f list : List ℕ) where

@@ -22,11 +22,16 @@ ghost use Rattle.filling.specs.Parts.{Headed};
 ghost use Rattle.claiming.specs.Claim.{placedClaim, claimedAnswer, claimAnswer};
 ghost use Rattle.claiming.specs.Inputs.{ClaimInputs};
 
-// Whether the filled figure can be placed in the sheet.
+// Whether the filled figure can be placed in the sheet. With fewer atoms and no contexts it cannot.
 fn claim_filled(sheet: Sheet, filled: Sheet) -> Claimed
     requires { ⌜ Ready sheet filled ⌝ }
     ensures { λ r. ⌜ r ≡ placedClaim (smallest (netIn sheet) (netIn filled)) ⌝ }
 {
+    if filled.context_count == 0 {
+        if filled.atom_count < sheet.atom_count {
+            return Claimed::Differs;
+        }
+    }
     if identical(sheet, filled) {
         return Claimed::Holds;
     }

@@ -3,7 +3,6 @@ use crate::growth::grown;
 use crate::nets::Nets;
 use crate::part::part;
 use candidates::LAID;
-use rows::Context;
 use rows::Sheet;
 use stepping::CHAINS;
 use stepping::PORTS;
@@ -18,9 +17,11 @@ ghost use mathlib.Core.List.{List};
 ghost use Prim.Native.Nat.{ℕ, _+_, _<_, _≤_};
 ghost use lib.ListN.{length, getD};
 ghost use Rattle.rows.specs.Limits.{sheetAtoms, sheetLinks, figureContexts};
+ghost use Rattle.rows.specs.declared.Context.{Context};
 ghost use Rattle.rows.specs.declared.Sheet.{Sheet as NormalForm};
 ghost use Rattle.candidates.specs.Laid.{Rowed};
 ghost use Rattle.stepping.specs.Chains.{nodeOf, Falls};
+ghost use Rattle.stepping.specs.Contexts.{numberOf};
 ghost use Rattle.faults.specs.Gives.{given, Gave, OneMore, Gives};
 ghost use Rattle.faults.specs.Grows.{growth};
 ghost use Rattle.faults.specs.Finds.{Over, FindsAll};
@@ -126,23 +127,22 @@ fn faulty(links: [u8; Sheet::LINKS], given: [u16; Sheet::ATOMS]) -> Fault
     }
 }
 
-// Component by component: the least of the contexts `choices`, of which there are `rows`, or the links of one
-// that has none.
+// Component by component: the least of the contexts with these numbers, of which there are `rows`, or the
+// links of one that has none.
 fn served(
     laid: &[u16; LAID],
     atoms: usize,
     links: usize,
-    choices: [Context; Sheet::CONTEXT_ROOM],
+    numbers: &[u16; Sheet::CONTEXT_ROOM],
     rows: usize,
     chains: &[u16; CHAINS],
     used: &[u8; Sheet::LINKS],
     ports: &[u8; PORTS],
     taken: [u8; Sheet::ATOMS],
 ) -> Fault
-    requires { ⌜ Rowed (now laid) atoms × (links ≤ sheetLinks) × (rows ≤ figureContexts) × (length choices ≡ figureContexts + 1) × Falls (nodeOf atoms 0) (now chains) ⌝ }
-    ensures { λ r. ⌜ Gives (now (laid .entry)) atoms links choices rows (now (chains .entry)) (now (used .entry)) (now (ports .entry)) taken r ⌝ }
+    requires { ⌜ Rowed (now laid) atoms × (links ≤ sheetLinks) × (rows ≤ figureContexts) × Falls (nodeOf atoms 0) (now chains) ⌝ }
+    ensures { λ r. ⌜ ((choices : List Context) → ((c : ℕ) → c < rows → getD (now (numbers .entry)) c 0 ≡ numberOf choices c) → Gives (now (laid .entry)) atoms links choices rows (now (chains .entry)) (now (used .entry)) (now (ports .entry)) taken r) ⌝ }
 {
-    let numbers = numbers(choices, rows);
     let mut contexts = [0u16; Sheet::ATOMS];
     let mut done = [0u8; Sheet::ATOMS];
     let mut j = 0;
@@ -155,7 +155,7 @@ fn served(
                     laid,
                     atoms,
                     links,
-                    &numbers,
+                    numbers,
                     rows,
                     chains,
                     used,
@@ -202,7 +202,8 @@ pub fn find(
     }
     let used = used_links(nets.count, to, none);
     let mut ports = [0u8; PORTS];
-    port_table(&mut ports, contexts, nets.rows, to, none);
+    let numbers = numbers(contexts, nets.rows);
+    port_table(&mut ports, &numbers, contexts, nets.rows, to, none);
     let atoms = nets.atoms;
     let links = nets.links;
     let rows = nets.rows;
@@ -210,7 +211,7 @@ pub fn find(
         laid,
         atoms,
         links,
-        contexts,
+        &numbers,
         rows,
         chains,
         &used,

@@ -11,7 +11,8 @@ use Rattle.rows.specs.Pick.{pick, or}
 use Rattle.rows.specs.Format.{rowWidth}
 use Rattle.rows.specs.Limits.{sheetAtoms, sheetLinks, figureContexts}
 use Rattle.rows.specs.Held.{Held}
-use Rattle.rows.specs.Packed.{padded, noContext, portTable, packed}
+use Rattle.rows.specs.Packed.{padded, noContext, portTable}
+use Rattle.rows.specs.TextArrays.{packed}
 use Rattle.rows.specs.declared.Context.{Context}
 use Rattle.rows.proofs.Padding.{take-padded}
 use Rattle.rows.proofs.Ports.{table-at}

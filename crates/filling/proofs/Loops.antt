@@ -258,7 +258,7 @@ marks-next marks n k a h b e =
 pub marks-end : (marks : List ℕ) (n k : ℕ) → n ≤ k → sameList (drop k (take n marks)) (numbersFrom (k + 1) (n - k)) ≡ true
 marks-end marks n k h = let q : n - k ≡ 0 = omega arith in ap₂ (λ l m. sameList l (numbersFrom (k + 1) m)) (part-end marks n k h) q
 
-pub list-sizes : (l m : List ℕ) → (length l ≡ length m → ⊥) → sameList l m ≡ false
+list-sizes : (l m : List ℕ) → (length l ≡ length m → ⊥) → sameList l m ≡ false
 list-sizes [] [] h = absurd (h refl)
 list-sizes [] (y ∷ m) h = refl
 list-sizes (x ∷ l) [] h = refl

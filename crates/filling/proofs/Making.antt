@@ -16,7 +16,7 @@ use Rattle.normalising.specs.NormalRows.{pastAtoms}
 use Rattle.rows.specs.declared.Sheet.{Sheet as Normal}
 use Rattle.filling.specs.Parts.{partNormal, partRoom, places, Low}
 use Rattle.filling.specs.Glued.{placeOf, Own, Glues}
-use Rattle.filling.specs.Whole.{placedAtom, Linked, partAtoms, contextAtoms, placedAtoms, labelledAtom, roomFor, wholeAtoms, ContextsRanged, Puts}
+use Rattle.filling.specs.Whole.{placedAtom, Linked, partAtoms, contextAtoms, placedAtoms, labelledAtom, roomFor, wholeAtoms, ownWhole, ContextsRanged, Puts}
 use Rattle.filling.specs.Classes.{withLabels, Sees, linksIn, numberIn, numberedAtom, numberedAt, markLabels, shownAtoms, shownLabels, Made}
 use Rattle.filling.specs.declared.whole.Whole.{Whole}
 use Rattle.filling.proofs.Parts.{list-any, taken-map, part-low, low-counted}
@@ -71,9 +71,6 @@ placed-linked list figure low =
 -- What a normal form has of contexts, and its own atoms.
 pub low-ported : (n : Normal) → Low n → ContextsRanged (n .contexts) (n .«context_count»)
 low-ported n l = record { counted = low-counted n l; links = l .contextLinks }
-
-abbrev pub ownWhole : Normal → Whole
-ownWhole n = record { atoms = n .atoms; count = n .«atom_count» }
 
 -- The figure and its fillings put together, with labels, and numbered.
 module _ (list : List ℕ) (figure : Normal) (own labels : List ℕ) (whole : Whole) (P : Puts list (ownWhole figure) (take (figure .«context_count») (figure .contexts)) own labels whole) where

@@ -12,7 +12,8 @@ use Rattle.hyperlmntal.specs.Hypergraph.{Node, inner, portNodes}
 use Rattle.rows.specs.Format.{mostLinks}
 use Rattle.rows.specs.Limits.{sheetAtoms, figureContexts, sheetMarks}
 use Rattle.rows.specs.Held.{Held}
-use Rattle.rows.specs.Packed.{padded, noAtom, noContext, packed}
+use Rattle.rows.specs.Packed.{padded, noAtom, noContext}
+use Rattle.rows.specs.TextArrays.{packed}
 use Rattle.rows.proofs.Padding.{length-padded}
 use Rattle.reading.specs.Graph.{atomCell, contextCell, graphOf}
 use Rattle.reading.specs.Agrees.{Agrees}

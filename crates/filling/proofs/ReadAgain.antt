@@ -27,7 +27,7 @@ use Rattle.reading.proofs.normal.TextGraph.{graph-name}
 use Rattle.normalising.proofs.normal_text.NormalWritten.{few-marks}
 use Rattle.texts.proofs.NormalFits.{every-member, upTo, upTo-length, upTo-in, upTo-of}
 use Rattle.texts.proofs.BuiltRows.{Vertex, symbolCell, Fitting, every-in}
-use Rattle.texts.proofs.ReadBack.{builtGraph, Known, Readable, read-back, graph-back}
+use Rattle.texts.proofs.ReadBack.{builtGraph, EdgeAmong, Readable, read-back, graph-back}
 use Rattle.placing.specs.Filled.{spotNode, filledNormal}
 use Rattle.placing.specs.Holding.{holdingTerm}
 use Rattle.placing.proofs.FilledText.{filled-text}
@@ -155,8 +155,8 @@ module _ (figure list : List ℕ) (right : Right figure list) where
           symbol-rows = fitting (atoms-like figure list right ownLabels own-labels) (λ x i. Memᴰ·append-left (map mark marks) i);
           blank-rows = tt;
           figure = tt;
-          edge-rows = every-in (Known (upTo (length D)) marks) (map edge marks)
-              (all-map edge marks (Known (upTo (length D)) marks) (λ m i. (number-in (mark m) (Memᴰ·append-right (portNodes (filledSpots figure list .atoms)) (Memᴰ·map mark i)), i)));
+          edge-rows = every-in (EdgeAmong (upTo (length D)) marks) (map edge marks)
+              (all-map edge marks (EdgeAmong (upTo (length D)) marks) (λ m i. (number-in (mark m) (Memᴰ·append-right (portNodes (filledSpots figure list .atoms)) (Memᴰ·map mark i)), i)));
           few-symbols = omega arith;
           few-blanks = omega arith;
           few-rows = omega arith;

@@ -9,7 +9,7 @@ use Rattle.rows.specs.Pick.{pick}
 use Rattle.rows.specs.Format.{mostLinks}
 use Rattle.rows.specs.Limits.{sheetAtoms, figureContexts, sheetMarks, fillingLinks}
 use Rattle.rows.specs.Held.{Held}
-use Rattle.rows.specs.Packed.{packed}
+use Rattle.rows.specs.TextArrays.{packed}
 use Rattle.rows.specs.declared.Context.{Context}
 use Rattle.reading.specs.NormalSheet.{packedNormal}
 use Rattle.normalising.specs.NormalRows.{pastAtoms, pastContexts}

@@ -56,6 +56,10 @@ roomFor l = take (sheetAtoms + 1) l
 abbrev pub wholeAtoms : Whole → List Atom
 wholeAtoms w = take (w .count) (w .atoms)
 
+-- the atoms of a figure
+abbrev pub ownWhole : Normal → Whole
+ownWhole n = record { atoms = n .atoms; count = n .«atom_count» }
+
 -- w with more atoms behind its own
 pub record Grown (w r : Whole) (more : List Atom) : Type 0 where
   pub atoms : wholeAtoms r ≡ roomFor (wholeAtoms w ++ more)

@@ -13,10 +13,10 @@ ghost use Rattle.filling.specs.Glued.{Own, FreshFrom, joinedAt, joinedAl
 // Room for the classes of one part, which are counted from 1.
 pub(crate) const PART: usize = Sheet::LINK_ROOM;
 
-pub(crate) const PLACES: usize = (Sheet::FIGURE_CONTEXTS + 1) * PART;
+pub const PLACES: usize = (Sheet::FIGURE_CONTEXTS + 1) * PART;
 
 // Gives each place a label of its own.
-pub(crate) fn own_labels(labels: &mut [u16; PLACES])
+pub fn own_labels(labels: &mut [u16; PLACES])
     requires { ⌜ length (now labels) ≡ places ⌝ }
     ensures { λ _. ⌜ Own (now (labels .exit)) ⌝ }
 {
@@ -51,16 +51,16 @@ fn merged(labels: &mut [u16; PLACES], n: usize, a: usize, b: usize)
 }
 
 // Mark i of the filling that is part p is link i of its context. The parts after p are not joined yet.
-pub(crate) fn with_ports(
+pub fn with_ports(
     labels: &mut [u16; PLACES],
     p: usize,
     links: [u16; Sheet::MOST_LINKS],
     count: usize,
-    marked: [u16; Sheet::MARK_ROOM],
+    marked: &[u16],
 )
-    requires { ⌜ (p ≤ figureContexts) × (count ≤ mostLinks) × FreshFrom ((p + 1) * partRoom) (now labels) × (1 ≤ p) ⌝ }
-    requires { ⌜ ((k : ℕ) → (getD links k 0 < partRoom) × (getD marked k 0 < partRoom)) ⌝ }
-    ensures { λ _. ⌜ now (labels .exit) ≡ joinedAll (now (labels .entry)) (portPairs p (take count links) (take count marked)) ⌝ }
+    requires { ⌜ (p ≤ figureContexts) × (count ≤ mostLinks) × FreshFrom ((p + 1) * partRoom) (now labels) × (1 ≤ p) × (count ≤ length (now marked)) ⌝ }
+    requires { ⌜ ((k : ℕ) → (getD links k 0 < partRoom) × (getD (now marked) k 0 < partRoom)) ⌝ }
+    ensures { λ _. ⌜ now (labels .exit) ≡ joinedAll (now (labels .entry)) (portPairs p (take count links) (take count (now (marked .entry)))) ⌝ }
     ensures { λ _. ⌜ FreshFrom ((p + 1) * partRoom) (now (labels .exit)) ⌝ }
 {
     let mut k = 0;

@@ -2,6 +2,6 @@
 mod classes;
 pub mod fill;
 pub mod filled;
-mod glue;
+pub mod glue;
 pub mod part;
-mod whole;
+pub mod whole;

@@ -19,13 +19,13 @@ ghost use Rattle.filling.specs.Glued.{placeOf, Own};
 ghost use Rattle.filling.specs.Whole.{placedAtom, ContextsRanged, Grown, Puts};
 
 // As many atoms as a sheet has room for: one more than its limit says that there are too many.
-pub(crate) struct Whole {
+pub struct Whole {
     pub atoms: [Atom; Sheet::ATOM_ROOM],
     pub count: usize,
 }
 
 // The places of the links of an atom of part p.
-fn placed(p: usize, links: [u16; Sheet::MOST_LINKS]) -> [u16; Sheet::MOST_LINKS]
+pub fn placed(p: usize, links: [u16; Sheet::MOST_LINKS]) -> [u16; Sheet::MOST_LINKS]
     requires { ⌜ (p ≤ figureContexts) × ((k : ℕ) → getD links k 0 < partRoom) ⌝ }
     ensures { λ r. ⌜ r ≡ map (placeOf p) links ⌝ }
 {
@@ -84,8 +84,13 @@ pub(crate) fn whole_of(
         let context = contexts[i];
         let links = context.links;
         let part = part_of(list, context.number);
-        let marked = part.normal.marked;
-        with_ports(&mut *labels, i + 1, links, context.count as usize, marked);
+        with_ports(
+            &mut *labels,
+            i + 1,
+            links,
+            context.count as usize,
+            &part.normal.marked,
+        );
         note_exact(
             &mut *exact,
             &part.normal.marks,

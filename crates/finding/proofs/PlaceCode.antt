@@ -38,10 +38,11 @@ use Rattle.finding.specs.Place.{sheetHeld, patternHeld, fillingsIn, plac
 use Rattle.finding.specs.Inputs.{PlaceInputs}
 
 module _ (sheet pattern : form.Sheet) (s p : List ℕ) (I : PlaceInputs sheet pattern s p) where
-  sheet-is : netIn sheet ≡ sheetNet s
+  -- The nets that were read.
+  pub sheet-is : netIn sheet ≡ sheetNet s
   sheet-is = ap netIn (I .of-sheet) ∙ net-read Plain noPorts s
 
-  pattern-is : netIn pattern ≡ patternNet p
+  pub pattern-is : netIn pattern ≡ patternNet p
   pattern-is = ap netIn (I .of-pattern) ∙ net-read Pattern noPorts p
 
   -- A search can begin.

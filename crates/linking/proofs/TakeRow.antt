@@ -11,7 +11,8 @@ use Rattle.rows.specs.Pick.{pick}
 use Rattle.rows.specs.Format.{fieldCount}
 use Rattle.rows.specs.Limits.{sheetAtoms, figureContexts}
 use Rattle.rows.specs.Held.{Held, Wiring, withLinks, merged, withFusion, noWiring, atomOf, contextOf, withAtom, withContext, withFusionRow, withEdgeRow, withHead, withRow}
-use Rattle.rows.specs.Packed.{noAtom, noContext, packed, TextArrays}
+use Rattle.rows.specs.Packed.{noAtom, noContext}
+use Rattle.rows.specs.TextArrays.{packed, TextArrays}
 use Rattle.linking.specs.Steps.{Wired, Linked, Relinks, Marked, Tied, Room, firstLink, linkCount, linkedBy, markedBy}
 use Rattle.rows.specs.Entry.{Ranged, isContext, atomBy, contextBy, portsBy}
 use Rattle.rows.specs.declared.row.Row.{Row}

@@ -8,7 +8,8 @@ use Rattle.rows.specs.Pick.{pick}
 use Rattle.rows.specs.Format.{mostLinks}
 use Rattle.rows.specs.Limits.{sheetAtoms, figureContexts, sheetMarks, fillingLinks}
 use Rattle.rows.specs.Held.{Wiring, indexOf, withLink, withLinks, withFusion, withMark, noWiring}
-use Rattle.rows.specs.Packed.{padded, TextArrays}
+use Rattle.rows.specs.Packed.{padded}
+use Rattle.rows.specs.TextArrays.{TextArrays}
 use Rattle.rows.specs.declared.row.Row.{Row}
 
 -- no number of a list stands in it twice: each is found at its own place

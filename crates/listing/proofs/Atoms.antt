@@ -16,7 +16,7 @@ use Rattle.rows.proofs.Padding.{take-padded, getD-padding}
 use Rattle.numbering.specs.Numbering.{linkRoom}
 use Rattle.rows.specs.declared.Atom.{Atom}
 use Rattle.rows.specs.declared.Sheet as form
-use Rattle.placing.specs.Net.{NetCell, cellLinks}
+use Rattle.placing.specs.Net.{NetCell, Range, cellLinks}
 use Rattle.network.specs.NetIn.{atomAt, Fit}
 use Rattle.network.proofs.NetIn.{used-range}
 use Rattle.listing.specs.Writing.{cellIf, givenAt, givenBelow, symbolsBytes}
@@ -78,33 +78,37 @@ module _ (sheet : form.Sheet) (fit : Fit sheet) (given : List ℕ) (k : ℕ) whe
         given-few i (omega arith),
       )
 
-  cell-low : (i : ℕ) → i < sheet .«atom_count» → (t : Bool) → (x : ℕ) → x ∈ cellLinks (cellIf t (atomAt sheet i)) → x < linkRoom
-  cell-low i h true x m =
-      let u = fit .atoms i h in
-      let r = used-range (sheet .«class_count») (atomAt sheet i .count) (atomAt sheet i .links) u x (subst (λ l. x ∈ l) (append-nil (take (atomAt sheet i .count) (atomAt sheet i .links))) m) in
-      omega (arith, r .1, fit .class-count)
-  cell-low i h false x m = absurd (List·Memᴰ·not-nil m)
+  -- Every link is one of the sheet's.
+  cell-range : (i : ℕ) → i < sheet .«atom_count» → (t : Bool) → (x : ℕ) → x ∈ cellLinks (cellIf t (atomAt sheet i)) → Range (sheet .«class_count») x
+  cell-range i h true x m =
+      used-range (sheet .«class_count») (atomAt sheet i .count) (atomAt sheet i .links) (fit .atoms i h) x (subst (λ l. x ∈ l) (append-nil (take (atomAt sheet i .count) (atomAt sheet i .links))) m)
+  cell-range i h false x m = absurd (List·Memᴰ·not-nil m)
+
+  pub below-range : (i : ℕ) → i ≤ sheet .«atom_count» → (x : ℕ) → x ∈ cellLinks (givenBelow sheet given k i) → Range (sheet .«class_count») x
+  unfolding givenBelow
+  below-range zero h x m = absurd (List·Memᴰ·not-nil m)
+  below-range (suc i) h x m =
+      at (List·Memᴰ·append-cases (cellLinks (givenBelow sheet given k i)) (subst (λ l. x ∈ l) (cell-links-append (givenBelow sheet given k i) (givenAt sheet given k i)) m)) (below-range i (omega arith) x)
+    where
+      at : (x ∈ cellLinks (givenBelow sheet given k i)) ⊎ (x ∈ cellLinks (givenAt sheet given k i)) → (x ∈ cellLinks (givenBelow sheet given k i) → Range (sheet .«class_count») x) → Range (sheet .«class_count») x
+      at (inl p) f = f p
+      at (inr p) f = cell-range i (omega arith) (eqb (getD given i 0) k) x p
 
   pub below-low : (i : ℕ) → i ≤ sheet .«atom_count» → (x : ℕ) → x ∈ cellLinks (givenBelow sheet given k i) → x < linkRoom
-  unfolding givenBelow
-  below-low zero h x m = absurd (List·Memᴰ·not-nil m)
-  below-low (suc i) h x m = at (List·Memᴰ·append-cases (cellLinks (givenBelow sheet given k i)) (subst (λ l. x ∈ l) (cell-links-append (givenBelow sheet given k i) (givenAt sheet given k i)) m)) (below-low i (omega arith) x)
-    where
-      at : (x ∈ cellLinks (givenBelow sheet given k i)) ⊎ (x ∈ cellLinks (givenAt sheet given k i)) → (x ∈ cellLinks (givenBelow sheet given k i) → x < linkRoom) → x < linkRoom
-      at (inl p) f = f p
-      at (inr p) f = cell-low i (omega arith) (eqb (getD given i 0) k) x p
+  below-low i h x m = let r = below-range i h x m in omega (arith, r .1, fit .class-count)
+
+-- Numbers that are not above a bound.
+pub mapped-low : (b : ℕ) (f : ℕ → ℕ) (l : List ℕ) → ((x : ℕ) → f x ≤ b) → (k : ℕ) → getD (map f l) k 0 ≤ b
+mapped-low b f [] h k = omega arith
+mapped-low b f (x ∷ l) h zero = h x
+mapped-low b f (x ∷ l) h (suc k) = mapped-low b f l h k
 
 -- The numbers of an S row.
-mapped-low : (f : ℕ → ℕ) (l : List ℕ) → ((x : ℕ) → f x ≤ 9999) → (k : ℕ) → getD (map f l) k 0 ≤ 9999
-mapped-low f [] h k = omega arith
-mapped-low f (x ∷ l) h zero = h x
-mapped-low f (x ∷ l) h (suc k) = mapped-low f l h k
-
 module _ (f : ℕ → ℕ) (a b : ℕ) (l nums : List ℕ) (e : nums ≡ padded fieldCount 0 (a ∷ b ∷ map f (take b l))) where
   first-low : a ≤ 9999 → b ≤ 9999 → ((x : ℕ) → f x ≤ 9999) → (k : ℕ) → getD (a ∷ b ∷ map f (take b l)) k 0 ≤ 9999
   first-low p q h zero = p
   first-low p q h (suc zero) = q
-  first-low p q h (suc (suc k)) = mapped-low f (take b l) h k
+  first-low p q h (suc (suc k)) = mapped-low 9999 f (take b l) h k
 
   pub row-low : a ≤ 9999 → b ≤ 9999 → ((x : ℕ) → f x ≤ 9999) → (k : ℕ) → getD nums k 0 ≤ 9999
   row-low p q h k = rw (e, getD-padding fieldCount 0 (a ∷ b ∷ map f (take b l)) k) (first-low p q h k)

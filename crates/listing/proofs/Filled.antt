@@ -84,7 +84,7 @@ module _ (sheet : form.Sheet) (fit : Fit sheet) (linksTo given : List ℕ) (c : 
       table : n ≡ withClasses noNumbers (appearing cells ports)
       table = numbered ∙ ap (withClasses (withClasses noNumbers (cellLinks cells))) ports-taken ∙ sym (with-classes-append noNumbers (cellLinks cells) ports)
 
-      agrees : (x : ℕ) → x ∈ appearing cells ports → numberIn (n .numbers) x ≡ numberAmong (appearing cells ports) x
+      pub agrees : (x : ℕ) → x ∈ appearing cells ports → numberIn (n .numbers) x ≡ numberAmong (appearing cells ports) x
       agrees x m = rw table (classes-number (appearing cells ports) all-low x m)
 
       pub filling-rows : rowBytes 72 (c .number ∷ c .count ∷ []) ++ (symbolsBytes (numberIn (n .numbers)) cells ++ portsBytes (numberIn (n .numbers)) 1 (take (c .count) p)) ≡ fillingBytes sheet linksTo given (contextIn c)

@@ -16,7 +16,7 @@ use Rattle.reading.specs.Graph.{edgeOf}
 use Rattle.reading.specs.Normal.{inserted, markNode, marksAmong, marksOf, shown, distinct, classesBy, numberBy, markedBy, normalFormBy, normalForm}
 use Rattle.reading.proofs.normal.NormalBy.{Labels, normal-by}
 use Rattle.placing.specs.Net.{NetCell, atomVertex, cellLinks, edgeNumbers, netOf}
-use Rattle.placing.specs.Fillings.{Row, symbolOf, markOf, netRows, normalRows}
+use Rattle.placing.specs.Fillings.{Row, rowsGraph, symbolOf, markOf, netRows, normalRows}
 use Rattle.placing.specs.ListText.{rowText, rowsText}
 use Rattle.placing.proofs.NormalNets.{atom-nodes}
 use Rattle.placing.proofs.NormalFillings.{rows-of-net}
@@ -175,27 +175,45 @@ module _ (cells : List NetCell) (ports : List ℕ) where
   abbrev form : Flat ℕ
   form = normalFormBy label graph
 
-  symbols : rowsText (map symbolOf (netOf form .atoms)) ≡ symbolsBytes number cells
+  form-same : normalForm (rowsGraph (rowsOf cells ports)) ≡ form
+  unfolding graph
+  form-same = ap normalForm (rows-of-net cells (marksFrom 1 ports)) ∙ normal-by graph label labels
+
+  form-atoms : netOf form .atoms ≡ map (λ c. (c .0, map number (c .1))) cells
   unfolding graph normalFormBy label
-  symbols =
-      ap (λ l. rowsText (map symbolOf l))
-      (among-numbered (numberBy label graph) cells
+  form-atoms =
+      among-numbered (numberBy label graph) cells
       ∙ map-agree (λ (c : NetCell). (c .0, map (numberBy label graph) (map inner (c .1)))) (λ c. (c .0, map number (c .1))) cells
-      (λ c i. ap (λ (k : List ℕ). (c .0, k)) (map-map (numberBy label graph) inner (c .1) ∙ map-agree (λ x. numberBy label graph (inner x)) number (c .1) (λ x m. number-label (inner x)))))
-      ∙ symbols-text number cells
+      (λ c i. ap (λ (k : List ℕ). (c .0, k)) (map-map (numberBy label graph) inner (c .1) ∙ map-agree (λ x. numberBy label graph (inner x)) number (c .1) (λ x m. number-label (inner x))))
+
+  form-marks : netOf form .marks ≡ map (λ m. (numberBy label graph (markNode m), m)) (numbersFrom 1 ports)
+  unfolding graph normalFormBy
+  form-marks = map-map edgeNumbers (markedBy label graph) (marksOf graph) ∙ ap (map (λ m. (numberBy label graph (markNode m), m))) marks-all
+
+  -- The atoms of the normal rows, and where their marks stand.
+  pub filling-atoms : netOf (normalForm (rowsGraph (rowsOf cells ports))) .atoms ≡ map (λ c. (c .0, map number (c .1))) cells
+  filling-atoms = ap (λ G. netOf G .atoms) form-same ∙ form-atoms
+
+  pub filling-marked : map (λ e. e .0) (netOf (normalForm (rowsGraph (rowsOf cells ports))) .marks) ≡ map number ports
+  unfolding label
+  filling-marked =
+      ap (λ G. map (λ e. e .0) (netOf G .marks)) form-same ∙ ap (map (λ (e : ℕ × ℕ). e .0)) form-marks
+      ∙ map-map (λ (e : ℕ × ℕ). e .0) (λ m. (numberBy label graph (markNode m), m)) (numbersFrom 1 ports)
+      ∙ map-agree (λ m. numberBy label graph (markNode m)) (λ m. number (getD ports (m - 1) 0)) (numbersFrom 1 ports) (λ m i. number-label (markNode m))
+      ∙ sym (map-map number (λ m. getD ports (m - 1) 0) (numbersFrom 1 ports)) ∙ ap (map number) (found (λ m. getD ports (m - 1) 0) 1 ports port-at)
+
+  symbols : rowsText (map symbolOf (netOf form .atoms)) ≡ symbolsBytes number cells
+  symbols = ap (λ l. rowsText (map symbolOf l)) form-atoms ∙ symbols-text number cells
 
   marks : rowsText (map markOf (netOf form .marks)) ≡ portsBytes number 1 ports
-  unfolding graph normalFormBy label
+  unfolding label
   marks =
-      ap (λ l. rowsText (map markOf l))
-      (map-map edgeNumbers (markedBy label graph) (marksOf graph) ∙ ap (map (λ m. (numberBy label graph (markNode m), m))) marks-all)
+      ap (λ l. rowsText (map markOf l)) form-marks
       ∙ ports-text number (λ m. numberBy label graph (markNode m)) 1 ports (λ k h. number-label (markNode (1 + k)) ∙ ap number (port-at k h))
 
   -- The text of the normal rows.
   pub rows-text : rowsText (normalRows (rowsOf cells ports)) ≡ symbolsBytes number cells ++ portsBytes number 1 ports
-  unfolding graph
   rows-text =
-      ap (λ G. rowsText (netRows (netOf (normalForm G)))) (rows-of-net cells (marksFrom 1 ports))
-      ∙ ap (λ G. rowsText (netRows (netOf G))) (normal-by graph label labels)
+      ap (λ G. rowsText (netRows (netOf G))) form-same
       ∙ rows-text-append (map symbolOf (netOf form .atoms)) (map markOf (netOf form .marks))
       ∙ ap₂ _++_ symbols marks

@@ -73,7 +73,8 @@ module _ (sheet figure : form.Sheet) (fit : Fit sheet) (atoms links given : List
   abbrev InRange : NetCell → Type 0
   InRange c = (x : ℕ) → x ∈ c .1 → Range (figure .«class_count») x
 
-  filling-rows : (c : NetCell) → InRange c → fillingFor S p c .rows ≡ rowsOf (givenCells sheet given (c .0)) (portLinks sheet links (c .1))
+  -- The rows of one filling.
+  pub filling-rows : (c : NetCell) → InRange c → fillingFor S p c .rows ≡ rowsOf (givenCells sheet given (c .0)) (portLinks sheet links (c .1))
   filling-rows c r =
       ap₂ _++_
       (sym (map-map symbolOf (cellAt (S .atoms)) (placesOf 1 (c .0) (p .given))) ∙ ap (map symbolOf) (given-below sheet fit given room (c .0) (sheet .«atom_count») (omega arith)))

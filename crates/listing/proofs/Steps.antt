@@ -1,7 +1,7 @@
 -- One turn of each loop.
 use Prim.Native.Nat.{ℕ, _+_, _*_, _<_, _≤_}
 use mathlib.Core.Path.{_≡_, ap, sym, _∙_}
-use mathlib.Core.List.{List, [], _∷_, _++_, map, map-append}
+use mathlib.Core.List.{List, [], _∷_, _++_, map, map-append, append-assoc}
 use native.Mathlib.Numerals.{add-one}
 use native.Mathlib.Omega.{arith}
 use borrow.Author.Tests.{lt-ltb, le-ltb}
@@ -55,7 +55,7 @@ module _ (n m : Numbering) (x : ℕ) (e : m ≡ withClass n x) (later : List ℕ
 
 -- One sheet atom more.
 module _ (sheet : form.Sheet) (given : List ℕ) (k i : ℕ) where
-  below-next : givenBelow sheet given k (i + 1) ≡ givenBelow sheet given k i ++ givenAt sheet given k i
+  pub below-next : givenBelow sheet given k (i + 1) ≡ givenBelow sheet given k i ++ givenAt sheet given k i
   unfolding givenBelow
   below-next = rw (add-one i)
 
@@ -94,13 +94,14 @@ ports-put f l new at ports k h room e =
     = ap (portsBytes f 1) (take-next ports k 0 h) ∙ ports-snoc f 1 (take k ports) (getD ports k 0) ∙ rw q in
     e ∙ over-more l at (portsBytes f 1 (take k ports)) (k * rowWidth) n (omega arith) (portBytes f (k + 1) (getD ports k 0)) rowWidth ∙ rw (z, m)
 
--- One number more in a row.
-pub numbers-next : (n : ℕ) (f : ℕ → ℕ) (a b : ℕ) (l r : List ℕ) (k : ℕ) → r ≡ padded n 0 (a ∷ b ∷ map f (take k l)) → k < length l → k + 2 < n
-    → set r (k + 2) (f (getD l k 0)) ≡ padded n 0 (a ∷ b ∷ map f (take (k + 1) l))
-numbers-next n f a b l r k e h room =
+-- One number more in a row, after some others.
+pub numbers-next : (n : ℕ) (f : ℕ → ℕ) (pre l r : List ℕ) (k at : ℕ) → at ≡ length pre + k → r ≡ padded n 0 (pre ++ map f (take k l)) → k < length l → at < n
+    → set r at (f (getD l k 0)) ≡ padded n 0 (pre ++ map f (take (k + 1) l))
+numbers-next n f pre l r k at p e h room =
     let w : length (map f (take k l)) ≡ k = length-map (take k l) f ∙ length-take-le k l (omega arith) in
-    let m : map f (take (k + 1) l) ≡ map f (take k l) ++ (f (getD l k 0) ∷ []) = ap (map f) (take-next l k 0 h) ∙ map-append f (take k l) (getD l k 0 ∷ []) in
-    rw (e, m) (set-padded n 0 (a ∷ b ∷ map f (take k l)) (f (getD l k 0)) (k + 2) (omega arith) (omega arith))
+    let m : pre ++ map f (take (k + 1) l) ≡ (pre ++ map f (take k l)) ++ (f (getD l k 0) ∷ [])
+    = ap (λ t. pre ++ t) (ap (map f) (take-next l k 0 h) ∙ map-append f (take k l) (getD l k 0 ∷ [])) ∙ sym (append-assoc pre (map f (take k l)) (f (getD l k 0) ∷ [])) in
+    rw (e, m) (set-padded n 0 (pre ++ map f (take k l)) (f (getD l k 0)) at (omega (arith, p, w, length-append pre (map f (take k l)))) (omega (arith, p, w, room, length-append pre (map f (take k l)))))
 
 -- One context more.
 module _ (number : ℕ) (l : List NetCell) (j rank : ℕ) (h : j < length l) (e : rank ≡ below number (take j l)) where

@@ -93,12 +93,9 @@ unfoldable pub listBytes : form.Sheet → List ℕ → List ℕ → List NetCell
 listBytes sheet linksTo given [] = []
 listBytes sheet linksTo given (c ∷ l) = fillingBytes sheet linksTo given c ++ listBytes sheet linksTo given l
 
--- the first n contexts of an array, and what code reads at an index from 0
+-- the first n contexts of an array
 abbrev pub cellsIn : ℕ → List Context → List NetCell
 cellsIn n l = map contextIn (take n l)
-
-abbrev pub contextFrom : List Context → ℕ → Context
-contextFrom l i = getD l i (record { number = 0; count = 0; links = []; row = 0 })
 
 -- how many contexts have a smaller number
 unfoldable pub below : ℕ → List NetCell → ℕ

@@ -1,6 +1,7 @@
 // The list of the fillings of a placing, written as text.
+pub mod numbers;
 mod order;
-mod ports;
+pub mod ports;
 mod put_rows;
 
 use crate::order::context_ranked;

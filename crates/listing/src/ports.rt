@@ -23,7 +23,7 @@ fn stands_on(sheet_links: usize, links_to: &[u16], x: u16) -> u16
 }
 
 // The links where the first `count` ports stand.
-pub(crate) fn ports_of(
+pub fn ports_of(
     sheet_links: usize,
     links_to: &[u16],
     links: [u16; Sheet::MOST_LINKS],

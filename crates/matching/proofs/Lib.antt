@@ -2,5 +2,6 @@ pub mod SearchLaws
 pub mod SearchTurns
 pub mod SearchWhole
 mod Forcing
-mod Leftover
+mod NextDigit
+pub mod Leftover
 mod SameNets

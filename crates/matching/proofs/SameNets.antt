@@ -1,7 +1,8 @@
 -- Nets that are equal row by row.
-use Prim.Native.Nat.{ℕ, _+_, _-_, _<_}
+use Prim.Native.Nat.{ℕ, _+_, _-_, _<_, _≤_}
 use mathlib.Core.Path.{_≡_, refl, ap, ap₂, sym, _∙_, subst}
 use mathlib.Core.List.{List, [], map}
+use mathlib.Core.Bool.{true, false}
 use mathlib.Core.Option.{Option, none, some}
 use native.Mathlib.Omega.{arith}
 use lib.ListN.{length, take, getD}
@@ -10,17 +11,25 @@ use Rattle.hyperlmntal.specs.Congruence.{_≅_, ≅-refl}
 use Rattle.rows.specs.declared.Sheet as form
 use Rattle.placing.specs.Net.{Net, NormalSheet, netTerm}
 use Rattle.placing.specs.Placing.{Placing, cellAt}
-use Rattle.placing.specs.Smallest.{smallest}
+use Rattle.placing.specs.Smallest.{smallest, sameList}
+use Rattle.placing.proofs.Tests.{says-list, turned-down}
 use Rattle.placing.proofs.Sheets.{sheets-placing}
 use Rattle.placing.proofs.SmallestLaws.{smallest-none}
 use Rattle.network.specs.NetIn.{netIn, atomIn, contextIn, atomAt, paired}
 use Rattle.network.specs.Ready.{Ready}
 use Rattle.network.proofs.NetIn.{atoms-length, atom-index}
 
--- two lists whose first n numbers are the same
-same-take : (a b : List ℕ) (n m : ℕ) → n ≡ m → n < length a → m < length b → ((k : ℕ) → k < n → getD a k 0 ≡ getD b k 0) → take n a ≡ take m b
-same-take a b n m e h l f = ext-getD 0 (take n a) (take m b) (length-take-le n a (omega arith) ∙ e ∙ sym (length-take-le m b (omega arith)))
-    (λ i q. let k : i < n = let z = length-take-le n a (omega arith) in omega (arith, z, q) in getD-take n a i 0 k ∙ f i k ∙ sym (getD-take m b i 0 (omega (arith, e, k))))
+-- The first numbers of two lists are the same: as many, and the same number at each place.
+module _ (a b : List ℕ) (m n : ℕ) (h : m ≤ length a) (l : n ≤ length b) where
+  pub all-same : m ≡ n → ((k : ℕ) → k < m → getD a k 0 ≡ getD b k 0) → sameList (take m a) (take n b) ≡ true
+  all-same e f = says-list (take m a) (take n b) .complete (ext-getD 0 (take m a) (take n b) (length-take-le m a h ∙ e ∙ sym (length-take-le n b l))
+      (λ i q. let k : i < m = omega (arith, q, length-take-le m a h) in getD-take m a i 0 k ∙ f i k ∙ sym (getD-take n b i 0 (omega (arith, e, k)))))
+
+  pub counts-differ : (m ≡ n → ⊥) → false ≡ sameList (take m a) (take n b)
+  counts-differ d = sym (turned-down (says-list (take m a) (take n b)) (λ e. d (sym (length-take-le m a h) ∙ ap length e ∙ length-take-le n b l)))
+
+  pub number-differs : m ≡ n → (k : ℕ) → k < m → (getD a k 0 ≡ getD b k 0 → ⊥) → false ≡ sameList (take m a) (take n b)
+  number-differs e k q d = sym (turned-down (says-list (take m a) (take n b)) (λ s. d (sym (getD-take m a k 0 q) ∙ ap (λ (t : List ℕ). getD t k 0) s ∙ getD-take n b k 0 (omega (arith, e, q)))))
 
 no-contexts : (n : form.Sheet) → n .«context_count» ≡ 0 → netIn n .contexts ≡ []
 no-contexts n e = ap (λ (c : ℕ). map contextIn (take c (n .contexts))) e
@@ -33,8 +42,8 @@ placed-itself S F e s f = go (smallest S F) refl
     go none q = let g = sheets-placing S F s f .1 (subst (λ (N : Net). netTerm N ≅ netTerm S) e ≅-refl) in absurd (smallest-none S F .0 q (g .0) (g .1))
     go (some p) q = (p, q)
 
-module _ (a b : form.Sheet) (ready : Ready a b) (c : a .«context_count» ≡ 0) (d : b .«context_count» ≡ 0) (n : a .«atom_count» ≡ b .«atom_count») (m : a .«mark_count» ≡ b .«mark_count») (l : a .«class_count» ≡ b .«class_count»)
-    (marks : (k : ℕ) → k < a .«mark_count» → getD (a .marks) k 0 ≡ getD (b .marks) k 0) (marked : (k : ℕ) → k < a .«mark_count» → getD (a .marked) k 0 ≡ getD (b .marked) k 0)
+module _ (a b : form.Sheet) (ready : Ready a b) (c : a .«context_count» ≡ 0) (d : b .«context_count» ≡ 0) (n : a .«atom_count» ≡ b .«atom_count») (l : a .«class_count» ≡ b .«class_count»)
+    (marks : sameList (take (a .«mark_count») (a .marks)) (take (b .«mark_count») (b .marks)) ≡ true) (marked : sameList (take (a .«mark_count») (a .marked)) (take (b .«mark_count») (b .marked)) ≡ true)
     (atoms : (i : ℕ) → i < a .«atom_count» → atomIn (atomAt a i) ≡ atomIn (atomAt b i)) where
   same-atoms : netIn a .atoms ≡ netIn b .atoms
   same-atoms = ext-getD (0, []) (netIn a .atoms) (netIn b .atoms) (atoms-length a (ready .sheet-fit) ∙ n ∙ sym (atoms-length b (ready .figure-fit)))
@@ -45,9 +54,10 @@ module _ (a b : form.Sheet) (ready : Ready a b) (c : a .«context_count» ≡ 0)
       at x i = ap (λ (k : ℕ). getD (netIn x .atoms) k (0, [])) (let q : i + 1 - 1 ≡ i = omega arith in q)
 
   same-marks : netIn a .marks ≡ netIn b .marks
-  same-marks = ap₂ paired
-      (same-take (a .marked) (b .marked) (a .«mark_count») (b .«mark_count») m (omega (arith, ready .sheet-fit .mark-count, ready .sheet-fit .marked-room)) (omega (arith, ready .figure-fit .mark-count, ready .figure-fit .marked-room)) marked)
-      (same-take (a .marks) (b .marks) (a .«mark_count») (b .«mark_count») m (omega (arith, ready .sheet-fit .mark-count, ready .sheet-fit .mark-room)) (omega (arith, ready .figure-fit .mark-count, ready .figure-fit .mark-room)) marks)
+  same-marks = ap₂ paired (same-taken (a .marked) (b .marked) marked) (same-taken (a .marks) (b .marks) marks)
+    where
+      same-taken : (x y : List ℕ) → sameList (take (a .«mark_count») x) (take (b .«mark_count») y) ≡ true → take (a .«mark_count») x ≡ take (b .«mark_count») y
+      same-taken x y = says-list (take (a .«mark_count») x) (take (b .«mark_count») y) .sound
 
   same-net : netIn a ≡ netIn b
   same-net = rw (same-atoms, no-contexts a c, no-contexts b d, same-marks, l) refl

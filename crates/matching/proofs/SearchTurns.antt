@@ -5,7 +5,7 @@ use mathlib.Core.Logic.{_≢_, _⊎_, inl, inr}
 use mathlib.Core.List.{List, [], _∷_, _++_, append-assoc}
 use mathlib.Core.Bool.{Bool, true, false}
 use mathlib.Core.Option.{Option, none, some}
-use native.Mathlib.Decide.{ℕ-discrete}
+use native.Mathlib.Decide.{ℕ-discrete, decLt}
 use native.Mathlib.Numerals.{add-one}
 use native.Mathlib.Omega.{arith}
 use lib.ListN.{length, getD, take, set, replicate, length-set}
@@ -20,7 +20,7 @@ use Rattle.network.specs.NetIn.{netIn, Fit}
 use Rattle.network.specs.Begun.{Begun, testAfter, leastAfter}
 use Rattle.network.proofs.NetIn.{atoms-length}
 use Rattle.network.specs.Ready.{Ready, AtomsIn}
-use Rattle.matching.specs.Search.{mayIn, KeepsIn, Kept, behind, searchFrom, foundList, foundIn, Skipped, Only, Onward}
+use Rattle.matching.specs.Search.{mayIn, KeepsIn, Kept, behind, searchFrom, foundList, foundIn, Only, Onward}
 use Rattle.candidates.specs.Sets.{Keeps}
 use Rattle.candidates.specs.Words.{digit}
 use Rattle.candidates.specs.Tables.{mayAtom, mayLink, NoAtom}
@@ -32,9 +32,20 @@ use Rattle.matching.specs.declared.search.Found.{Found}
 use Rattle.matching.proofs.SearchLaws.{nothing-found, none-found, some-found, none-begun, begun-none, restBounds, tried-start, tried-next, tried-end, tried-found}
 use Rattle.rows.proofs.Padding.{getD-filled}
 
+-- a candidate that is known to fail, or is not in the sets
+abbrev pub Skipped : List ℕ → List ℕ → ℕ → ℕ → Type 0
+Skipped atoms failed k t = (getD failed t 0 ≡ 1) ⊎ (mayIn atoms k t ≡ false)
+
+-- one that is known to fail, and those behind it up to r, which are not in the sets
+pub skip-failed : (atoms failed : List ℕ) (k t r : ℕ) → getD failed t 0 ≡ 1 → ((u : ℕ) → t + 1 ≤ u → u < r → mayIn atoms k u ≡ false) → (u : ℕ) → t ≤ u → u < r → Skipped atoms failed k u
+skip-failed atoms failed k t r e f u h l = go (ℕ-discrete u t)
+  where
+    go : Dec (u ≡ t) → Skipped atoms failed k u
+    go (yes q) = inl (ap (λ (i : ℕ). getD failed i 0) q ∙ e)
+    go (no q) = inr (f u (omega (arith, h, q)) l)
+
 -- What the loop keeps: sheet atoms 1 to t were tried in vain, and those with a 1 fail.
 pub record Tries (sheet figure : form.Sheet) (pre failed : List ℕ) (work t : ℕ) : Type 0 where
-  pub within : t ≤ sheet .«atom_count»
   pub tried : Tried (testAfter (netIn sheet) (netIn figure) pre) (suc t) (restBounds (netIn sheet) (netIn figure) pre)
   pub failures : (u : ℕ) → getD failed u 0 ≡ 1 → ¬ Begun (netIn sheet) (netIn figure) (pre ++ (suc u ∷ []))
   pub worked : 1 ≤ work
@@ -71,7 +82,6 @@ module _ (sheet figure : form.Sheet) (ready : Ready sheet figure) (chosen : List
 
     pub tries-start : (failed : List ℕ) → failed ≡ replicate sheetAtoms 0 → Tries sheet figure pre failed 1 0
     tries-start failed e = record {
-      within = omega arith;
       tried = tried-start S F pre small;
       failures = λ u h b. absurd (let z : _≡_ {A = ℕ} 0 1 = sym (ap (λ (l : List ℕ). getD l u 0) e ∙ getD-filled {A = ℕ} 0 sheetAtoms u) ∙ h in omega arith);
       worked = omega arith;
@@ -79,8 +89,16 @@ module _ (sheet figure : form.Sheet) (ready : Ready sheet figure) (chosen : List
 
     pub tries-end : (failed : List ℕ) (work t : ℕ) → Tries sheet figure pre failed work t → sheet .«atom_count» ≤ t → (r : Found) → r .ok ≡ false → foundIn sheet figure r ≡ searchFrom S F pre
     tries-end failed work t u h r k =
-        let e : t ≡ length (S .atoms) = omega (arith, u .within, sheet-atoms) in
-        nothing-found sheet figure r k ∙ sym (tried-end S F pre small (subst (λ (i : ℕ). Tried (testAfter S F pre) (suc i) (restBounds S F pre)) e (u .tried)))
+        nothing-found sheet figure r k ∙ sym (tried-end S F pre small (λ x m q w. u .tried x m (omega (arith, q, h, sheet-atoms)) w))
+
+    -- those up to e were tried in vain too
+    up-to : (t e : ℕ) → t ≤ e → Tried (testAfter S F pre) (suc t) (restBounds S F pre) → ((u : ℕ) → t ≤ u → u < e → ¬ Begun S F (pre ++ (suc u ∷ []))) → Tried (testAfter S F pre) (suc e) (restBounds S F pre)
+    up-to t zero h w vain = λ x m q. w x m (omega (arith, q))
+    up-to t (suc e) h w vain = go (decLt t (suc e)) (λ q. up-to t e (omega (arith, q)) w (λ u a b. vain u a (omega (arith, b))))
+      where
+        go : Dec (t < suc e) → (t < suc e → Tried (testAfter S F pre) (suc e) (restBounds S F pre)) → Tried (testAfter S F pre) (suc (suc e)) (restBounds S F pre)
+        go (yes q) f = tried-next S F pre small (suc e) (f q) (vain e (omega (arith, q)) (omega arith))
+        go (no q) f = λ x m l. w x m (omega (arith, q, h, l))
 
     -- the sets keep a sheet atom with which something begins
     kept : (a l : List ℕ) → KeepsIn sheet figure pre a l → (t : ℕ) → Begun S F (pre ++ (suc t ∷ [])) → mayIn a k t ≡ true
@@ -115,14 +133,10 @@ module _ (sheet figure : form.Sheet) (ready : Ready sheet figure) (chosen : List
       elsewhere : (u : ℕ) → u < sheet .«atom_count» → suc u ≢ t → ¬ Begun S F (pre ++ (suc u ∷ []))
       elsewhere u h other b = other (only .1 placed u h (kept a l keeps u b))
 
-      up-to : (e : ℕ) → e ≤ sheet .«atom_count» → ((u : ℕ) → u < e → ¬ Begun S F (pre ++ (suc u ∷ []))) → Tried (testAfter S F pre) (suc e) (restBounds S F pre)
-      up-to zero h vain = tried-start S F pre small
-      up-to (suc e) h vain = tried-next S F pre small (suc e) (up-to e (omega arith) (λ u q. vain u (omega arith))) (vain e (omega arith))
-
       same-after : (o : Option (List ℕ)) → leastAfter S F (pre ++ (t ∷ [])) ≡ o → searchFrom S F (pre ++ (t ∷ [])) ≡ searchFrom S F pre
       same-after (some l) e =
-          tried-found S F pre small t (omega (arith, only .0, sheet-atoms)) (subst (λ (i : ℕ). Tried (testAfter S F pre) i (restBounds S F pre)) (let q : suc (t - 1) ≡ t = omega (arith, placed) in q) (up-to (t - 1) (omega (arith, only .0)) (λ u h. elsewhere u (omega (arith, only .0)) (λ q. absurd (omega (arith, q)))))) l e
-      same-after none e = ap (behind (pre ++ (t ∷ []))) e ∙ sym (tried-end S F pre small (subst (λ (i : ℕ). Tried (testAfter S F pre) (suc i) (restBounds S F pre)) (sym sheet-atoms) (up-to (sheet .«atom_count») (omega arith) (λ u h. nowhere u h (ℕ-discrete (suc u) t)))))
+          tried-found S F pre small t (omega (arith, only .0, sheet-atoms)) (subst (λ (i : ℕ). Tried (testAfter S F pre) i (restBounds S F pre)) (let q : suc (t - 1) ≡ t = omega (arith, placed) in q) (up-to 0 (t - 1) (omega arith) (tried-start S F pre small) (λ u z h. elsewhere u (omega (arith, only .0)) (λ q. absurd (omega (arith, q)))))) l e
+      same-after none e = ap (behind (pre ++ (t ∷ []))) e ∙ sym (tried-end S F pre small (subst (λ (i : ℕ). Tried (testAfter S F pre) (suc i) (restBounds S F pre)) (sym sheet-atoms) (up-to 0 (sheet .«atom_count») (omega arith) (tried-start S F pre small) (λ u z h. nowhere u h (ℕ-discrete (suc u) t)))))
         where
           nowhere : (u : ℕ) → u < sheet .«atom_count» → Dec (suc u ≡ t) → ¬ Begun S F (pre ++ (suc u ∷ []))
           nowhere u h (yes q) = subst (λ (i : ℕ). ¬ Begun S F (pre ++ (i ∷ []))) (sym q) (none-begun S F (pre ++ (t ∷ [])) e)
@@ -135,16 +149,18 @@ module _ (sheet figure : form.Sheet) (ready : Ready sheet figure) (chosen : List
         same = ap (searchFrom S F) (next-taken t) ∙ same-after (leastAfter S F (pre ++ (t ∷ []))) refl;
       }
 
+    -- Candidates from t on that are skipped.
+    pub tries-skip : (failed : List ℕ) (work t : ℕ) → Tries sheet figure pre failed work t → (a l : List ℕ) → KeepsIn sheet figure pre a l → (r : ℕ) → t ≤ r → ((v : ℕ) → t ≤ v → v < r → Skipped a failed k v)
+        → Tries sheet figure pre failed work r
+    tries-skip failed work t u a l keeps r h s = record { tried = up-to t r h (u .tried) (λ v p q. go v (s v p q)); failures = u .failures; worked = u .worked }
+      where
+        go : (v : ℕ) → Skipped a failed k v → ¬ Begun S F (pre ++ (suc v ∷ []))
+        go v (inl e) = u .failures v e
+        go v (inr e) = λ b. both-ways (kept a l keeps v b) e
+
     module _ (failed : List ℕ) (work t : ℕ) (u : Tries sheet figure pre failed work t) (h : t < sheet .«atom_count») where
       more : ¬ Begun S F (pre ++ (suc t ∷ [])) → Tried (testAfter S F pre) (suc (t + 1)) (restBounds S F pre)
       more n = subst (λ (i : ℕ). Tried (testAfter S F pre) (suc i) (restBounds S F pre)) (sym (add-one t)) (tried-next S F pre small (suc t) (u .tried) n)
-
-      pub tries-skip : (a l : List ℕ) → KeepsIn sheet figure pre a l → Skipped a failed k t → Tries sheet figure pre failed work (t + 1)
-      tries-skip a l keeps s = record { within = omega arith; tried = more (go s); failures = u .failures; worked = u .worked }
-        where
-          go : Skipped a failed k t → ¬ Begun S F (pre ++ (suc t ∷ []))
-          go (inl e) = u .failures t e
-          go (inr e) = λ b. both-ways (kept a l keeps t b) e
 
       pub next-begin : take (k + 1) (set chosen k (t + 1)) ≡ pre ++ (suc t ∷ [])
       next-begin = next-taken (t + 1) ∙ ap (λ (i : ℕ). pre ++ (i ∷ [])) (add-one t)
@@ -162,7 +178,7 @@ module _ (sheet figure : form.Sheet) (ready : Ready sheet figure) (chosen : List
             found-next ∙ tried-found S F pre small (suc t) (omega (arith, sheet-atoms)) (u .tried) (l .0) (l .1)
 
         pub tries-miss : r .ok ≡ false → (marked : List ℕ) → Excuses sheet pre t failed marked → (spent : ℕ) → 1 ≤ spent → Tries sheet figure pre marked spent (t + 1)
-        tries-miss q marked excuses spent w = record { within = omega arith; tried = more n; failures = λ v c. go v (excuses v c); worked = w }
+        tries-miss q marked excuses spent w = record { tried = more n; failures = λ v c. go v (excuses v c); worked = w }
           where
             n : ¬ Begun S F (pre ++ (suc t ∷ []))
             n = none-begun S F (pre ++ (suc t ∷ [])) (none-found (foundList sheet figure r) (r .ok) (pre ++ (suc t ∷ [])) (leastAfter S F (pre ++ (suc t ∷ []))) found-next q)

@@ -1,9 +1,9 @@
 -- The recursive search: what it gives.
 use Prim.Native.Nat.{ℕ, suc, _<_, _≤_}
 use mathlib.Core.Path.{_≡_}
-use mathlib.Core.Logic.{_≢_, _⊎_}
+use mathlib.Core.Logic.{_≢_}
 use mathlib.Core.List.{List, _++_}
-use mathlib.Core.Bool.{Bool, true, false}
+use mathlib.Core.Bool.{Bool, true}
 use mathlib.Core.Option.{Option, none, some}
 use lib.Dec.{eqb}
 use lib.ListN.{take, getD}
@@ -43,10 +43,6 @@ placedIn sheet figure r =
 -- figure atom k may go to sheet atom t, both counted from 0, by the table of the sets
 unfoldable pub mayIn : List ℕ → ℕ → ℕ → Bool
 mayIn atoms k t = eqb (digit (getD atoms k 0) t) 1
-
--- a candidate that is known to fail, or is not in the sets
-abbrev pub Skipped : List ℕ → List ℕ → ℕ → ℕ → Type 0
-Skipped atoms failed k t = (getD failed t 0 ≡ 1) ⊎ (mayIn atoms k t ≡ false)
 
 -- Sheet atom r, counted from 1, is the only one of the first n that figure atom k may go to, or r is 0.
 abbrev pub Only : List ℕ → ℕ → ℕ → ℕ → Type 0

@@ -1,20 +1,37 @@
 // Figure atoms that have one place to go: they are placed without a try.
+use candidates::words::DIGITS;
 use candidates::words::first;
-use candidates::words::has;
 use candidates::words::minus;
 use candidates::words::one;
 use rows::Sheet;
 ghost use mathlib.Core.Path.{_≡_};
-ghost use Prim.Native.Nat.{_<_, _≤_};
+ghost use mathlib.Core.Bool.{false};
+ghost use Prim.Native.Nat.{ℕ, _<_, _≤_};
 ghost use Rattle.rows.specs.Limits.{sheetAtoms};
+ghost use Rattle.candidates.specs.Words.{In};
 ghost use Rattle.matching.specs.Search.{mayIn, Only, Forward};
 
-// Whether figure atom k may go to sheet atom t, both counted from 0.
-pub(crate) fn may(atoms: &[u64; Sheet::ATOMS], k: usize, t: usize) -> bool
-    requires { ⌜ (k < sheetAtoms) × (t < sheetAtoms) ⌝ }
-    ensures { λ r. ⌜ r ≡ mayIn (now (atoms .entry)) k t ⌝ }
+// The first number from t on that is in the set; 64 where there is none.
+fn first_from(s: u64, t: usize) -> usize
+    requires { ⌜ t ≤ 64 ⌝ }
+    ensures { λ r. ⌜ (t ≤ r) × (r ≤ 64) × ((u : ℕ) → t ≤ u → u < r → ¬ In s u) ⌝ }
 {
-    has(atoms[k], t)
+    if t >= DIGITS {
+        return DIGITS;
+    }
+    let rest = s >> t;
+    if rest == 0 {
+        return DIGITS;
+    }
+    t + u64::trailing_zeros(rest) as usize
+}
+
+// The first sheet atom from t on that figure atom k may go to; as many as a sheet may have where there is none.
+pub(crate) fn next_from(atoms: &[u64; Sheet::ATOMS], k: usize, t: usize) -> usize
+    requires { ⌜ (k < sheetAtoms) × (t ≤ sheetAtoms) ⌝ }
+    ensures { λ r. ⌜ (t ≤ r) × (r ≤ sheetAtoms) × ((u : ℕ) → t ≤ u → u < r → mayIn (now (atoms .entry)) k u ≡ false) ⌝ }
+{
+    first_from(atoms[k], t)
 }
 
 // The one sheet atom of the first n, counted from 1, that figure atom k may go to; 0 where there is no such atom.

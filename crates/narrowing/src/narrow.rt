@@ -250,13 +250,13 @@ pub fn narrow_after<'a>(
     went: u64,
     atoms: &mut [u64; Sheet::ATOMS],
     links: &mut [u64; LINK_SETS],
+    lost: &mut [u64; Sheet::ATOMS],
+    gone: &mut [u64; LINK_SETS],
 ) -> bool
     requires { ⌜ Rowed (now laid) n × UsersIn (now laid) n (now users) × Rowed (now parts) m × UsersIn (now parts) m (now owners) × (k < m) ⌝ }
     ensures narrowed { λ _. ⌜ NarrowedBy (now (laid .entry)) n (now (parts .entry)) m (now (atoms .entry)) (now (links .entry)) (now (atoms .exit)) (now (links .exit)) ⌝ }
     ensures empty { λ r. ⌜ (r ≡ true → (i : ℕ) × (i < m) × NoAtom (now (atoms .exit)) i) ⌝ }
 {
-    let mut lost = [0u64; Sheet::ATOMS];
-    let mut gone = [0u64; LINK_SETS];
     let mut pending = [0u64; 2];
     lost[k] = went;
     follow(
@@ -269,8 +269,8 @@ pub fn narrow_after<'a>(
         one(k),
         atoms,
         links,
-        &mut lost,
-        &mut gone,
+        lost,
+        gone,
         &mut pending,
     )
 }

@@ -7,14 +7,10 @@ use mathlib.Core.Logic.{_↔_}
 use lib.ListN.{length, getD}
 use Rattle.hyperlmntal.specs.Link.{local, free, _∈_}
 use Rattle.hyperlmntal.specs.Hypergraph.{Node, inner, name, Fusion, Connected, nodes}
-use Rattle.rows.specs.Held.{Wiring, Held, indexOf, Among}
-use Rattle.linking.specs.Steps.{Wired}
+use Rattle.rows.specs.Held.{Wiring, Held, Among}
+use Rattle.linking.specs.Steps.{Distinct, Wired}
 use Rattle.reading.specs.Graph.{graphOf}
 use Rattle.reading.specs.Labels.{labelIn}
-
--- a list with each number once: each is found at the place where it stands
-abbrev pub Once : List ℕ → Type 0
-Once l = (k : ℕ) → k < length l → indexOf (getD l k 0) l ≡ k
 
 -- the nodes that a wiring has
 abbrev pub Known : Wiring → Node ℕ → Type 0
@@ -27,8 +23,7 @@ Known w (name (local n)) = ⊥
 pub record Labels (w : Wiring) (E : List (Fusion ℕ)) : Type 0 where
   pub wired : Wired w
   pub below : (k : ℕ) → k < length (w .links) → getD (w .classes) k 0 < length (w .links)
-  pub links : Once (w .links)
-  pub marks : Once (w .marks)
+  pub marks : Distinct (w .marks)
   pub ends : (e : Fusion ℕ) → e ∈ E → Known w (e .0) × Known w (e .1)
   pub fused : (e : Fusion ℕ) → e ∈ E → labelIn w (e .0) ≡ labelIn w (e .1)
   pub joined : (x y : Node ℕ) → Known w x → Known w y → labelIn w x ≡ labelIn w y → Connected E x y

@@ -8,7 +8,8 @@ use lib.ListN.{length, take, drop}
 use Rattle.rows.specs.Pick.{pick, and}
 use Rattle.rows.specs.Format.{mostLinks}
 use Rattle.rows.specs.Limits.{sheetMarks, fillingLinks}
-use Rattle.rows.specs.Packed.{padded, portTable, packed, TextArrays}
+use Rattle.rows.specs.Packed.{padded, portTable}
+use Rattle.rows.specs.TextArrays.{packed, TextArrays}
 use Rattle.rows.specs.declared.Atom.{Atom}
 use Rattle.rows.specs.declared.Context.{Context}
 use Rattle.numbering.specs.Numbering.{Numbering, labelAt, markLabelAt, noNumbers, withClasses, atomLabels, contextLabels, atomNumbered, contextNumbered, marksBy, sortedInto}

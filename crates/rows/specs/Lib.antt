@@ -5,4 +5,5 @@ pub mod Short
 pub mod Limits
 pub mod Held
 pub mod Packed
+pub mod TextArrays
 pub mod Entry

@@ -1,9 +1,9 @@
 -- The laws of labels that ties join.
 use Prim.Native.Nat.{ℕ, suc, _+_, _-_, _≤_, _<_}
 use mathlib.Core.Path.{_≡_, refl, sym, _∙_, ap, subst}
-use mathlib.Core.Logic.{_⊎_, inl, inr}
+use mathlib.Core.Logic.{_⊎_, inl, inr, _≢_}
 use mathlib.Core.List.{List}
-use native.Mathlib.Decide.{ℕ-discrete}
+use native.Mathlib.Decide.{ℕ-discrete, decLt}
 use native.Mathlib.Omega.{arith}
 use lib.ListN.{length, getD, set, length-set}
 use Rattle.rows.specs.Held.{relabelled}
@@ -14,7 +14,7 @@ use Rattle.placing.specs.Placing.{numberAt}
 use Rattle.placing.proofs.Joined.{relabelled-hit, relabelled-miss}
 use Rattle.completing.specs.Reach.{Reach, stay, move}
 use Rattle.completing.proofs.Reaching.{reach-then}
-use Rattle.stepping.specs.Labels.{Tie, Sound, Grew, Tied}
+use Rattle.stepping.specs.Labels.{Tie, Sound, Relabelled, Bounded, Grew, Tied}
 use Rattle.stepping.proofs.Tables.{below-set, above-set, below-next}
 
 pub relabelled-same : (from to c : ℕ) → to ≡ from → relabelled from to c ≡ c
@@ -172,6 +172,29 @@ own-sound contexts rows to labels f x z h k e =
     let i : suc x ≡ suc z = omega arith in
     subst (Reach (Tie contexts rows to) (suc x)) i stay
 
+-- The first n links have labels that are at most n.
+module _ (n : ℕ) (few : n ≤ sheetLinks) (labels : List ℕ) where
+  pub own-bounded : ((x : ℕ) → x < sheetLinks → getD labels x 0 ≡ x + 1) → Bounded n labels
+  own-bounded f = record { own = λ x h k. f x k; low = λ x h. omega (arith, f x (omega arith)) }
+
+  module _ (b : Bounded n labels) where
+    pub port-low : (a : ℕ) → Range n a → numberAt labels a ≤ n
+    port-low a r = b .low (a - 1) (omega (arith, r .0, r .1))
+
+    -- no other link has a label of theirs
+    pub above-other : (from : ℕ) → from ≤ n → (x : ℕ) → n ≤ x → x < sheetLinks → getD labels x 0 ≢ from
+    above-other from l x h k e = let o = b .own x h k in omega arith
+
+    pub bounded-next : (from to : ℕ) → from ≤ n → to ≤ n → (next : List ℕ) → Relabelled labels next from to → Bounded n next
+    bounded-next from to i j next f = record {
+      own = λ x h k. f x k ∙ relabelled-miss from to (getD labels x 0) (above-other from i x h k) ∙ b .own x h k;
+      low = λ x h. low x h (ℕ-discrete (getD labels x 0) from);
+    }
+      where
+        low : (x : ℕ) → x < n → Dec (getD labels x 0 ≡ from) → getD next x 0 ≤ n
+        low x h (yes e) = omega (arith, f x (omega arith), relabelled-hit from to (getD labels x 0) e)
+        low x h (no e) = omega (arith, f x (omega arith), relabelled-miss from to (getD labels x 0) e, b .low x h)
+
 -- one link more, whose label may change
 module _ (from to : ℕ) (start l : List ℕ) (x : ℕ) (h : x < length l)
     (below : (i : ℕ) → i < x → getD l i 0 ≡ relabelled from to (getD start i 0)) (above : (i : ℕ) → x ≤ i → getD l i 0 ≡ getD start i 0) where
@@ -181,3 +204,13 @@ module _ (from to : ℕ) (start l : List ℕ) (x : ℕ) (h : x < length l)
       (simp length-set, below-set (λ i v. v ≡ relabelled from to (getD start i 0)) l x to h below (sym (relabelled-hit from to (getD start x 0) (sym (above x (omega arith)) ∙ w .0))), λ i k. above-set l x to i k ∙ above i (omega arith))
   relabel-step m (inr w) = subst (λ (n : List ℕ). (length n ≡ length l) × ((i : ℕ) → i < x + 1 → getD n i 0 ≡ relabelled from to (getD start i 0)) × ((i : ℕ) → x + 1 ≤ i → getD n i 0 ≡ getD start i 0)) (sym (w .1))
       (refl, below-next (λ i. getD l i 0 ≡ relabelled from to (getD start i 0)) x below (above x (omega arith) ∙ sym (relabelled-miss from to (getD start x 0) (λ e. w .0 (above x (omega arith) ∙ e)))), λ i k. above i (omega arith))
+
+-- the links from n on keep their labels
+pub relabel-end : (from to : ℕ) (start l : List ℕ) (n : ℕ)
+    → ((i : ℕ) → i < n → getD l i 0 ≡ relabelled from to (getD start i 0)) → ((i : ℕ) → n ≤ i → getD l i 0 ≡ getD start i 0)
+    → ((i : ℕ) → n ≤ i → i < sheetLinks → getD start i 0 ≢ from) → Relabelled start l from to
+relabel-end from to start l n below above other x h = go (decLt x n)
+  where
+    go : Dec (x < n) → getD l x 0 ≡ relabelled from to (getD start x 0)
+    go (yes w) = below x w
+    go (no w) = above x (omega arith) ∙ sym (relabelled-miss from to (getD start x 0) (other x (omega arith) h))

@@ -8,16 +8,18 @@ use lib.ListN.{take, getD}
 use lib.Seq.{getD-take}
 use Rattle.hyperlmntal.specs.Link.{_∈_}
 use Rattle.rows.specs.Limits.{sheetLinks}
+use Rattle.rows.specs.declared.Context.{Context}
 use Rattle.rows.specs.declared.Sheet as form
 use Rattle.placing.specs.Net.{NetCell, Net, Range}
 use Rattle.placing.specs.Placing.{Placing, cellAt, linkTo, PortAt}
 use Rattle.placing.proofs.Lists.{member-at, getD-of}
-use Rattle.network.specs.NetIn.{contextIn, netIn, atomAt, contextAt, Fit}
+use Rattle.network.specs.NetIn.{contextIn, netIn, atomAt, rowAt, contextAt, Fit}
 use Rattle.network.specs.NetIn as net
 use Rattle.network.specs.Ready.{stateIn}
 use Rattle.network.proofs.NetIn.{used-in, used-at, used-length, atom-index, context-index, contexts-length, context-of}
 use Rattle.completing.specs.Fault.{Used}
-use Rattle.stepping.specs.Flags.{Within, goesTo, atPort, portOfNumber}
+use Rattle.stepping.specs.Contexts.{numberOf}
+use Rattle.stepping.specs.Flags.{Within, goesTo, atPort, portOfNumber, portOfRow}
 use Rattle.stepping.proofs.Tables.{Marked}
 use Rattle.reading.proofs.normal.Merging.{getD-in}
 
@@ -35,6 +37,20 @@ marked-only P n l f p = ((λ q. go (f p .0 q)), (λ t. f p .1 (inr t)))
     go : ⊥ ⊎ ((k : ℕ) × (k < n) × P k p) → (k : ℕ) × (k < n) × P k p
     go (inl b) = absurd b
     go (inr t) = t
+
+-- the ports of all rows, told by contexts
+pub ports-read : (contexts : List Context) (numbers to : List ℕ) (none count : ℕ) → ((c : ℕ) → c < count → getD numbers c 0 ≡ numberOf contexts c) → (l : List ℕ)
+    → Marked (λ p. ⊥) (λ d. portOfRow numbers count (rowAt contexts d) to none) count l → (p : ℕ) → (getD l p 0 ≡ 1) ↔ ((c : ℕ) × (c < count) × portOfNumber contexts count to none c p)
+ports-read contexts numbers to none count same l f p = (onward, back)
+  where
+    flagged : (getD l p 0 ≡ 1) ↔ ((d : ℕ) × (d < count) × portOfRow numbers count (rowAt contexts d) to none p)
+    flagged = marked-only (λ d. portOfRow numbers count (rowAt contexts d) to none) count l f p
+
+    onward : getD l p 0 ≡ 1 → (c : ℕ) × (c < count) × portOfNumber contexts count to none c p
+    onward e = let t = flagged .0 e in let u = t .2 in (u .0, u .1, (t .0, t .1, (sym (u .2 .0) ∙ same (u .0) (u .1), u .2 .1)))
+
+    back : (c : ℕ) × (c < count) × portOfNumber contexts count to none c p → getD l p 0 ≡ 1
+    back t = let u = t .2 in flagged .1 (u .0, u .1, (t .0, t .1, (same (t .0) (t .1) ∙ sym (u .2 .0), u .2 .1)))
 
 module _ (sheet : form.Sheet) (f : Fit sheet) where
   up : (j : ℕ) → j + 1 ≡ suc j

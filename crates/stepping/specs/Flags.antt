@@ -34,3 +34,10 @@ portOf contexts to none c d p =
 
 abbrev pub portOfNumber : List Context → ℕ → List ℕ → ℕ → ℕ → ℕ → Type 0
 portOfNumber contexts rows to none c p = (d : ℕ) × (d < rows) × portOf contexts to none c d p
+
+-- context c has the number of this row, and one of the row's ports goes there
+abbrev pub portFrom : List ℕ → Context → List ℕ → ℕ → ℕ → ℕ → Type 0
+portFrom numbers row to none c p = (getD numbers c 0 ≡ row .number) × ((k : ℕ) × (k < row .count) × atPort to none (row .links) c k p)
+
+abbrev pub portOfRow : List ℕ → ℕ → Context → List ℕ → ℕ → ℕ → Type 0
+portOfRow numbers count row to none p = (c : ℕ) × (c < count) × portFrom numbers row to none c p

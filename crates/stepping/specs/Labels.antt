@@ -1,5 +1,5 @@
 -- Labels of figure links: two links have one label exactly when steps lead from one to the other.
-use Prim.Native.Nat.{ℕ, suc, _<_}
+use Prim.Native.Nat.{ℕ, suc, _+_, _≤_, _<_}
 use mathlib.Core.Path.{_≡_}
 use mathlib.Core.Logic.{_≢_}
 use mathlib.Core.List.{List}
@@ -30,6 +30,11 @@ Sound contexts rows to labels = (x z : ℕ) → x < sheetLinks → z < sheetLink
 -- one label for another
 abbrev pub Relabelled : List ℕ → List ℕ → ℕ → ℕ → Type 0
 Relabelled labels next from to = (x : ℕ) → x < sheetLinks → getD next x 0 ≡ relabelled from to (getD labels x 0)
+
+-- From place n on each link has its own label, and each before has one that is at most n.
+pub record Bounded (n : ℕ) (labels : List ℕ) : Type 0 where
+  pub own : (x : ℕ) → n ≤ x → x < sheetLinks → getD labels x 0 ≡ x + 1
+  pub low : (x : ℕ) → x < n → getD labels x 0 ≤ n
 
 -- From labels to next: what has one label keeps one label, and the new ones are tied if these ports are those of a context.
 pub record Grew (to ports : List ℕ) (count : ℕ) (labels next : List ℕ) : Type 0 where

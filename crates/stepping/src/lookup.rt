@@ -7,8 +7,9 @@ ghost use mathlib.Core.Logic.{_↔_, _⊎_};
 ghost use Prim.Native.Nat.{ℕ, _+_, _*_, _<_, _≤_};
 ghost use lib.ListN.{length, getD, replicate};
 ghost use Rattle.rows.specs.Limits.{sheetLinks, figureContexts};
-ghost use Rattle.network.specs.NetIn.{rowAt, Ports};
-ghost use Rattle.stepping.specs.Flags.{Within, Ported, atPort, portOf, portOfNumber, goesTo};
+ghost use Rattle.network.specs.NetIn.{Ports};
+ghost use Rattle.stepping.specs.Contexts.{numberOf};
+ghost use Rattle.stepping.specs.Flags.{Within, Ported, atPort, portOfRow, portOfNumber, goesTo};
 
 // For each sheet link 1 where a figure link goes.
 pub fn used_links(count: usize, to: &[u16; Sheet::LINKS], none: u16) -> [u8; Sheet::LINKS]
@@ -49,45 +50,45 @@ fn port_row(
     }
 }
 
-// The same for all rows with the number of context c.
+// The same for each context with the number of this row.
 fn port_rows(
     table: &mut [u8; PORTS],
-    c: usize,
-    contexts: [Context; Sheet::CONTEXT_ROOM],
+    numbers: &[u16; Sheet::CONTEXT_ROOM],
     count: usize,
+    row: Context,
     to: &[u16; Sheet::LINKS],
     none: u16,
 )
-    requires { ⌜ (c < count) × (count ≤ figureContexts) × (none ≤ sheetLinks + 1) × ((d : ℕ) → d < count → Ported (now to) none (rowAt contexts d .count) (rowAt contexts d .links)) × (length (now table) ≡ 9 * sheetLinks) ⌝ }
-    ensures { λ r. ⌜ (length (now (table .exit)) ≡ 9 * sheetLinks) × ((p : ℕ) → (getD (now (table .exit)) p 0 ≡ 1) ↔ ((getD (now (table .entry)) p 0 ≡ 1) ⊎ ((d : ℕ) × (d < count) × portOf contexts (now (to .entry)) none c d p))) ⌝ }
+    requires { ⌜ (count ≤ figureContexts) × (none ≤ sheetLinks + 1) × Ported (now to) none (row .count) (row .links) × (length (now table) ≡ 9 * sheetLinks) ⌝ }
+    ensures { λ r. ⌜ (length (now (table .exit)) ≡ 9 * sheetLinks) × ((p : ℕ) → (getD (now (table .exit)) p 0 ≡ 1) ↔ ((getD (now (table .entry)) p 0 ≡ 1) ⊎ portOfRow (now (numbers .entry)) count row (now (to .entry)) none p)) ⌝ }
 {
-    let first = contexts[c];
-    let mut d = 0;
-    while d < count {
-        let row = contexts[d];
-        if row.number == first.number {
-            let ports = row.links;
+    let ports = row.links;
+    let mut c = 0;
+    while c < count {
+        if numbers[c] == row.number {
             port_row(&mut *table, c, ports, row.count as usize, to, none);
         }
-        d += 1;
+        c += 1;
     }
 }
 
 // For the context of row c and link y, both from 0: 1 at c * LINKS + y where a row with its number has a
-// port that goes to y. The table is zeros before.
+// port that goes to y. The table is zeros before; `numbers` are those of the contexts.
 pub fn port_table(
     table: &mut [u8; PORTS],
+    numbers: &[u16; Sheet::CONTEXT_ROOM],
     contexts: [Context; Sheet::CONTEXT_ROOM],
     count: usize,
     to: &[u16; Sheet::LINKS],
     none: u16,
 )
-    requires { ⌜ (none ≤ sheetLinks + 1) × ((links : ℕ) × Ports contexts count links × Within none links (now to)) × (now table ≡ replicate 864 0) ⌝ }
+    requires { ⌜ (none ≤ sheetLinks + 1) × ((links : ℕ) × Ports contexts count links × Within none links (now to)) × (now table ≡ replicate 864 0) × ((c : ℕ) → c < count → getD (now numbers) c 0 ≡ numberOf contexts c) ⌝ }
     ensures { λ r. ⌜ ((p : ℕ) → (getD (now (table .exit)) p 0 ≡ 1) ↔ ((c : ℕ) × (c < count) × portOfNumber contexts count (now (to .entry)) none c p)) ⌝ }
 {
-    let mut c = 0;
-    while c < count {
-        port_rows(&mut *table, c, contexts, count, to, none);
-        c += 1;
+    let mut d = 0;
+    while d < count {
+        let row = contexts[d];
+        port_rows(&mut *table, numbers, count, row, to, none);
+        d += 1;
     }
 }

@@ -2,6 +2,7 @@
 use rows::Context;
 use rows::Sheet;
 ghost use mathlib.Core.Path.{_≡_};
+ghost use mathlib.Core.Logic.{_≢_};
 ghost use Prim.Native.Nat.{ℕ, _+_, _<_, _≤_};
 ghost use lib.ListN.{length, getD};
 ghost use Rattle.rows.specs.Format.{mostLinks};
@@ -9,7 +10,7 @@ ghost use Rattle.rows.specs.Limits.{sheetLinks, figureContexts};
 ghost use Rattle.placing.specs.Net.{Range};
 ghost use Rattle.network.specs.NetIn.{rowAt, Ports};
 ghost use Rattle.stepping.specs.Flags.{Within};
-ghost use Rattle.stepping.specs.Labels.{Relabelled, Grew, Tied, Labelled, Apart};
+ghost use Rattle.stepping.specs.Labels.{Relabelled, Bounded, Grew, Tied, Labelled, Apart};
 
 // Each link its own label.
 fn own_labels(labels: &mut [u16; Sheet::LINKS])
@@ -23,13 +24,13 @@ fn own_labels(labels: &mut [u16; Sheet::LINKS])
     }
 }
 
-// One label for another.
-fn relabel(labels: &mut [u16; Sheet::LINKS], from: u16, to: u16)
-    requires { ⌜ length (now labels) ≡ sheetLinks ⌝ }
+// One label, which only links among the first n have, for another.
+fn relabel(labels: &mut [u16; Sheet::LINKS], n: usize, from: u16, to: u16)
+    requires { ⌜ (n ≤ sheetLinks) × (length (now labels) ≡ sheetLinks) × ((x : ℕ) → n ≤ x → x < sheetLinks → getD (now labels) x 0 ≢ from) ⌝ }
     ensures { λ r. ⌜ (length (now (labels .exit)) ≡ sheetLinks) × Relabelled (now (labels .entry)) (now (labels .exit)) from to ⌝ }
 {
     let mut x = 0;
-    while x < Sheet::LINKS {
+    while x < n {
         if labels[x] == from {
             labels[x] = to;
         }
@@ -44,9 +45,10 @@ fn with_port(
     ports: [u16; Sheet::MOST_LINKS],
     count: usize,
     at: usize,
+    n: usize,
 )
-    requires { ⌜ (at < count) × (count ≤ mostLinks) × ((k : ℕ) → k < count → Range sheetLinks (getD ports k 0)) × (length (now labels) ≡ sheetLinks) ⌝ }
-    ensures { λ r. ⌜ (length (now (labels .exit)) ≡ sheetLinks) × Grew (now (to .entry)) ports count (now (labels .entry)) (now (labels .exit)) × Tied (now (to .entry)) ports at (now (labels .exit)) at ⌝ }
+    requires { ⌜ (at < count) × (count ≤ mostLinks) × ((k : ℕ) → k < count → Range n (getD ports k 0)) × (length (now labels) ≡ sheetLinks) × (n ≤ sheetLinks) × Bounded n (now labels) ⌝ }
+    ensures { λ r. ⌜ (length (now (labels .exit)) ≡ sheetLinks) × Grew (now (to .entry)) ports count (now (labels .entry)) (now (labels .exit)) × Tied (now (to .entry)) ports at (now (labels .exit)) at × Bounded n (now (labels .exit)) ⌝ }
 {
     let a = ports[at];
     let y = to[(a - 1) as usize];
@@ -57,7 +59,7 @@ fn with_port(
             let from = labels[(b - 1) as usize];
             let label = labels[(a - 1) as usize];
             if from != label {
-                relabel(&mut *labels, from, label);
+                relabel(&mut *labels, n, from, label);
             }
         }
         k += 1;
@@ -69,25 +71,27 @@ fn with_context(
     to: &[u16; Sheet::LINKS],
     ports: [u16; Sheet::MOST_LINKS],
     count: usize,
+    n: usize,
 )
-    requires { ⌜ (count ≤ mostLinks) × ((k : ℕ) → k < count → Range sheetLinks (getD ports k 0)) × (length (now labels) ≡ sheetLinks) ⌝ }
-    ensures { λ r. ⌜ (length (now (labels .exit)) ≡ sheetLinks) × Grew (now (to .entry)) ports count (now (labels .entry)) (now (labels .exit)) × ((k : ℕ) → k < count → Tied (now (to .entry)) ports count (now (labels .exit)) k) ⌝ }
+    requires { ⌜ (count ≤ mostLinks) × ((k : ℕ) → k < count → Range n (getD ports k 0)) × (length (now labels) ≡ sheetLinks) × (n ≤ sheetLinks) × Bounded n (now labels) ⌝ }
+    ensures { λ r. ⌜ (length (now (labels .exit)) ≡ sheetLinks) × Grew (now (to .entry)) ports count (now (labels .entry)) (now (labels .exit)) × ((k : ℕ) → k < count → Tied (now (to .entry)) ports count (now (labels .exit)) k) × Bounded n (now (labels .exit)) ⌝ }
 {
     let mut k = 0;
     while k < count {
-        with_port(&mut *labels, to, ports, count, k);
+        with_port(&mut *labels, to, ports, count, k, n);
         k += 1;
     }
 }
 
-// Labels of all links, by the ports of the contexts.
+// Labels of all links, by the ports of the contexts, which are among the first n links.
 pub(crate) fn step_labels(
     labels: &mut [u16; Sheet::LINKS],
     to: &[u16; Sheet::LINKS],
     contexts: [Context; Sheet::CONTEXT_ROOM],
     count: usize,
+    n: usize,
 )
-    requires { ⌜ (count ≤ figureContexts) × ((i : ℕ) → i < count → (rowAt contexts i .count ≤ mostLinks) × Within sheetLinks (rowAt contexts i .count) (rowAt contexts i .links)) × (length (now labels) ≡ sheetLinks) ⌝ }
+    requires { ⌜ (count ≤ figureContexts) × ((i : ℕ) → i < count → (rowAt contexts i .count ≤ mostLinks) × Within n (rowAt contexts i .count) (rowAt contexts i .links)) × (length (now labels) ≡ sheetLinks) × (n ≤ sheetLinks) ⌝ }
     ensures { λ r. ⌜ (length (now (labels .exit)) ≡ sheetLinks) × Labelled contexts count (now (to .entry)) (now (labels .exit)) ⌝ }
 {
     own_labels(&mut *labels);
@@ -95,7 +99,7 @@ pub(crate) fn step_labels(
     while c < count {
         let row = contexts[c];
         let ports = row.links;
-        with_context(&mut *labels, to, ports, row.count as usize);
+        with_context(&mut *labels, to, ports, row.count as usize, n);
         c += 1;
     }
 }
@@ -112,7 +116,7 @@ pub fn apart(
     ensures { λ r. ⌜ Apart contexts rows count (now (to .entry)) none r ⌝ }
 {
     let mut labels = [0u16; Sheet::LINKS];
-    step_labels(&mut labels, to, contexts, rows);
+    step_labels(&mut labels, to, contexts, rows, count);
     let mut owner = [0u16; Sheet::LINKS];
     let mut x = 0;
     while x < count {

@@ -87,7 +87,7 @@ pub fn torn(
         let mut all = [0u16; Sheet::LINKS];
         let mut labels = [0u16; Sheet::LINKS];
         gathered(&mut all, to, flags, y, count);
-        step_labels(&mut labels, &all, contexts, rows);
+        step_labels(&mut labels, &all, contexts, rows, count);
         return differ(&labels, to, y, count);
     }
     false

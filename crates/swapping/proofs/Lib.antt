@@ -1,6 +1,8 @@
--- Fillings that are written and read again.
+-- Fillings of a placing, as a list that would be read again.
 pub mod ReplacementBlanks
 pub mod ListWhole
+pub mod GivenPart
 -- The code.
-pub mod SameMarks
+pub mod GivenTurns
+pub mod GivenParts
 pub mod SwapCode

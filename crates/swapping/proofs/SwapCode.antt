@@ -1,19 +1,19 @@
 -- What the code of swap finds on its way is what swapping answers and writes.
 use Prim.Native.Nat.{ℕ, _+_, _*_, _<_, _≤_}
-use mathlib.Core.Path.{_≡_, refl, ap, ap₂, sym, _∙_, subst}
+use mathlib.Core.Path.{_≡_, refl, ap, ap₂, sym, _∙_, subst, subst₂}
 use mathlib.Core.Bool.{Bool, true, false}
-use mathlib.Core.List.{List, [], _++_}
+use mathlib.Core.List.{List, _++_}
 use native.Mathlib.Omega.{arith}
 use borrow.Author.Tests.{lt-ltb, le-ltb}
-use lib.ListN.{length, take, drop, length-append}
-use lib.Seq.{take-at, length-take-le}
+use lib.ListN.{length, take, drop}
+use Rattle.hyperlmntal.specs.Link.{_∈_}
 use Rattle.rows.specs.Pick.{pick}
 use Rattle.rows.specs.Format.{rowWidth}
 use Rattle.rows.specs.Limits.{sheetAtoms, sheetLinks, sheetMarks}
 use Rattle.rows.specs.Held.{Held}
 use Rattle.rows.specs.Packed.{portTable}
 use Rattle.rows.proofs.Padding.{length-padded, take-padded}
-use Rattle.sheet.specs.Filling.{isPassed}
+use Rattle.sheet.specs.Filling.{isPassed, Passes}
 use Rattle.reading.specs.Graph.{graphOf}
 use Rattle.reading.specs.NormalSheet.{normalMarks, packedNormal}
 use Rattle.normalising.specs.NormalText.{textOf, slipLength}
@@ -26,8 +26,9 @@ use Rattle.sheet.specs.declared.answer.Refusal.{Refusal}
 use Rattle.reading.specs.declared.read.Reading.{Reading}
 use Rattle.sheet.specs.declared.answer.Answer.{Answer}
 use Rattle.sheet.specs.declared.answer.Answer.the-variants.{Passed, Refused}
+use Rattle.placing.specs.Net.{NetCell, Net}
 use Rattle.placing.specs.Placing.{Good}
-use Rattle.placing.specs.Fillings.{Filling, Fits}
+use Rattle.placing.specs.Fillings.{Filling, Fits, normalFillingsOf}
 use Rattle.placing.specs.Filled.{filledGraph, filledNormal}
 use Rattle.placing.specs.ListText.{listText}
 use Rattle.placing.specs.Smallest.{smallest, sameList}
@@ -39,7 +40,6 @@ use Rattle.network.specs.NetIn.{netIn}
 use Rattle.network.proofs.NetRead.{fit-read}
 use Rattle.matching.specs.Search.{placedIn}
 use Rattle.matching.specs.declared.search.Found.{Found}
-use Rattle.listing.specs.Writing.{fillingsText}
 use Rattle.answers.specs.Done.{slipAfter}
 use Rattle.filling.specs.Read.{listHeld, fillingsRead}
 use Rattle.filling.specs.Fill.{figureHeld, firstLacking, firstDiffering, filledBy, filledText, tooLarge}
@@ -49,11 +49,24 @@ use Rattle.filling.specs.Filled.{FilledIs}
 use Rattle.filling.proofs.Back.{placed-back}
 use Rattle.filling.proofs.ReadAsFigure.{replacement-figure}
 use Rattle.finding.specs.Place.{patternHeld, sheetNet, patternNet, placedFillings}
-use Rattle.finding.proofs.PlaceCode.{none-found, chosen, foundPlacing, foundFillings, some-found, found-text}
+use Rattle.finding.proofs.PlaceCode.{sheet-is, pattern-is, inputs-ready, none-found, chosen, foundPlacing, foundFillings, some-found, found-text}
 use Rattle.swapping.specs.Swap.{replacementRead, replacementHeld, sameMarks, swappedAnswer, swappedText, swapAnswer, swapSlip}
-use Rattle.swapping.specs.Inputs.{FilledInputs, filledDone, SwapInputs, swapRead, swapText}
+use Rattle.swapping.specs.Inputs.{SwapInputs, swapRead, swapText}
+use Rattle.swapping.specs.Given.{GivenPart}
 use Rattle.swapping.proofs.ReplacementBlanks.{replacement-covered}
 use Rattle.swapping.proofs.ListWhole.{written-lacks, written-exact}
+use Rattle.swapping.proofs.GivenPart.{given-part}
+
+-- A list that passed, and no 8 and no 9 over whole texts.
+pub record FilledInputs (figure : form.Sheet) (list figureText : List ℕ) : Type 0 where
+  pub of-figure : figure ≡ packedNormal (figureHeld figureText)
+  pub passes : Passes list
+  pub none-lacking : firstLacking (listHeld list .contexts) (figureHeld figureText .contexts) ≡ 0
+  pub none-differing : firstDiffering list (listHeld list .contexts) ≡ 0
+
+-- What filling then answers.
+abbrev pub filledDone : List ℕ → List ℕ → Done
+filledDone figure list = pick (tooLarge (filledBy figure list)) done.TooLarge (done.Written (length (filledText figure list)))
 
 -- A filled figure, where it is written or too large.
 module _ (figure : form.Sheet) (list text : List ℕ) (I : FilledInputs figure list text) (r : form.Sheet)
@@ -80,11 +93,13 @@ module _ (figure : form.Sheet) (list text : List ℕ) (I : FilledInputs figure l
     pub done-slip : (n : ℕ) → n ≡ length (normalRows r) → (slip : List ℕ) → normalRows r ++ drop (length (normalRows r)) slip ≡ filledText text list ++ drop n slip
     done-slip n e slip = ap₂ (λ (t : List ℕ) (k : ℕ). t ++ drop k slip) (filled .rows few narrow) (sym e)
 
--- The replacement can be filled from this list, and is then what swapping answers and writes.
-pub record ListSwaps (replacement : form.Sheet) (list s p q : List ℕ) : Type 0 where
+-- The list of what was found, from which the replacement is filled.
+pub record PlacingSwaps (sheet pattern replacement : form.Sheet) (links given s p q : List ℕ) : Type 0 where
+  pub list : List ℕ
   pub fills : FilledInputs replacement list q
   pub answer : filledDone q list ≡ swapRead s p q
   pub text : filledText q list ≡ swapText s p q
+  pub parts : (c : NetCell) → c ∈ netIn pattern .contexts → GivenPart sheet links given list c
 
 module _ (sheet pattern replacement : form.Sheet) (s p q : List ℕ) (I : SwapInputs sheet pattern replacement s p q) where
   abbrev ports : List ℕ
@@ -141,59 +156,41 @@ module _ (sheet pattern replacement : form.Sheet) (s p q : List ℕ) (I : SwapIn
         read-back : fillingsRead (listText θ) ≡ θ
         read-back = placed-back s p (I .placed .passed .sheet-passes) (I .placed .passed .pattern-passes) (foundPlacing sheet pattern s p (I .placed) r E) good
 
-        -- The list that is written, and the part of the buffer that holds it.
-        module _ (m : ℕ) (e : (atoms : List ℕ) → m ≡ length (fillingsText sheet pattern atoms (r .«links_to») (r .given))) where
-          size : m ≡ length (listText θ)
-          size = e (take (pattern .«atom_count») (r .«atoms_to»)) ∙ ap length (found-text sheet pattern s p (I .placed) r E h)
+        figure : outcomeOf Figure noPorts q ≡ outcomeOf Replacement ports q
+        figure = replacement-figure ports q (I .replacement-passes)
 
-          module _ (before after : List ℕ)
-              (o : (atoms : List ℕ) → after ≡ fillingsText sheet pattern atoms (r .«links_to») (r .given) ++ drop (length (fillingsText sheet pattern atoms (r .«links_to») (r .given))) before) where
-            part : take m after ≡ listText θ
-            part =
-                ap (take m) (o (take (pattern .«atom_count») (r .«atoms_to»)) ∙ ap (λ t. t ++ drop (length t) before) (found-text sheet pattern s p (I .placed) r E h))
-                ∙ take-at (listText θ) (drop (length (listText θ)) before) m (sym size)
+        -- The replacement can be filled from the list.
+        list-fills : FilledInputs replacement (listText θ) q
+        list-fills =
+            record {
+              of-figure = I .of-replacement ∙ ap (λ (x : Outcome). packedNormal (x .held)) (sym figure);
+              passes = ap isPassed (list-passes θ list-fits);
+              none-lacking = ap (λ (x : Outcome). firstLacking (listHeld (listText θ) .contexts) (x .held .contexts)) figure
+                  ∙ written-lacks θ list-fits read-back (fits .one) (fits .exact) (R .contexts) (replacement-covered p θ fits q);
+              none-differing = written-exact θ list-fits read-back (fits .one) (fits .exact);
+            }
 
-            figure : outcomeOf Figure noPorts q ≡ outcomeOf Replacement ports q
-            figure = replacement-figure ports q (I .replacement-passes)
+        swap-done : filledDone q (listText θ) ≡ swapRead s p q
+        swap-done =
+            ap₂ (λ (x : Held) (η : List Filling). pick (tooLarge (filledGraph (graphOf x) η)) done.TooLarge (done.Written (length (textOf (filledNormal (graphOf x) η))))) (ap (λ (x : Outcome). x .held) figure) read-back
+            ∙ sym (ap (swappedAnswer (graphOf R)) (some-found sheet pattern s p (I .placed) r E h))
+            ∙ by-marks true same
 
-            -- The replacement can be filled from it.
-            part-fills : FilledInputs replacement (take m after) q
-            part-fills =
-                subst (λ t. FilledInputs replacement t q) (sym part)
-                (record {
-                  of-figure = I .of-replacement ∙ ap (λ (x : Outcome). packedNormal (x .held)) (sym figure);
-                  passes = ap isPassed (list-passes θ list-fits);
-                  none-lacking = ap (λ (x : Outcome). firstLacking (listHeld (listText θ) .contexts) (x .held .contexts)) figure
-                      ∙ written-lacks θ list-fits read-back (fits .one) (fits .exact) (R .contexts) (replacement-covered p θ fits q);
-                  none-differing = written-exact θ list-fits read-back (fits .one) (fits .exact);
-                })
+        swap-text : filledText q (listText θ) ≡ swapText s p q
+        swap-text =
+            ap₂ (λ (x : Held) (η : List Filling). textOf (filledNormal (graphOf x) η)) (ap (λ (x : Outcome). x .held) figure) read-back
+            ∙ sym (ap (swappedText (graphOf R)) (some-found sheet pattern s p (I .placed) r E h))
 
-            swap-done : filledDone q (take m after) ≡ swapRead s p q
-            swap-done =
-                ap (filledDone q) part
-                ∙ ap₂ (λ (x : Held) (η : List Filling). pick (tooLarge (filledGraph (graphOf x) η)) done.TooLarge (done.Written (length (textOf (filledNormal (graphOf x) η))))) (ap (λ (x : Outcome). x .held) figure) read-back
-                ∙ sym (ap (swappedAnswer (graphOf R)) (some-found sheet pattern s p (I .placed) r E h))
-                ∙ by-marks true same
+        -- The list holds what the placing gives to each blank.
+        parts-given : length (r .given) ≡ sheetAtoms → (c : NetCell) → c ∈ netIn pattern .contexts → GivenPart sheet (r .«links_to») (r .given) (listText θ) c
+        parts-given room c i =
+            let atoms = take (pattern .«atom_count») (r .«atoms_to») in
+            let there = subst₂ (λ (S F : Net). ListFits (normalFillingsOf S (foundPlacing sheet pattern s p (I .placed) r E) F)) (sym (sheet-is sheet pattern s p (I .placed))) (sym (pattern-is sheet pattern s p (I .placed))) list-fits in
+            subst (λ t. GivenPart sheet (r .«links_to») (r .given) t c) (found-text sheet pattern s p (I .placed) r E h)
+            (given-part sheet pattern (inputs-ready sheet pattern s p (I .placed)) atoms (r .«links_to») (r .given) room there c i)
 
-            swap-text : filledText q (take m after) ≡ swapText s p q
-            swap-text =
-                ap (filledText q) part
-                ∙ ap₂ (λ (x : Held) (η : List Filling). textOf (filledNormal (graphOf x) η)) (ap (λ (x : Outcome). x .held) figure) read-back
-                ∙ sym (ap (swappedText (graphOf R)) (some-found sheet pattern s p (I .placed) r E h))
-
-            pub swap-list : ListSwaps replacement (take m after) s p q
-            swap-list = record { fills = part-fills; answer = swap-done; text = swap-text }
-
--- The bytes that were written are there.
-pub part-room : (sheet pattern : form.Sheet) (links given before after : List ℕ) (m : ℕ)
-    → ((atoms : List ℕ) → m ≡ length (fillingsText sheet pattern atoms links given))
-    → ((atoms : List ℕ) → after ≡ fillingsText sheet pattern atoms links given ++ drop (length (fillingsText sheet pattern atoms links given)) before) → m ≤ length after
-part-room sheet pattern links given before after m e o =
-    let t = fillingsText sheet pattern [] links given in
-    omega (arith, e [], ap length (o []), length-append t (drop (length t) before))
-
-pub part-length : (after : List ℕ) (m : ℕ) → m ≤ length after → m ≡ length (take m after)
-part-length after m h = sym (length-take-le m after h)
+        pub swap-placing : length (r .given) ≡ sheetAtoms → PlacingSwaps sheet pattern replacement (r .«links_to») (r .given) s p q
+        swap-placing room = record { list = listText θ; fills = list-fills; answer = swap-done; text = swap-text; parts = parts-given room }
 
 -- The texts as they were read.
 pub record TextsRead (S P T : Reading) (sheet pattern replacement : List ℕ) : Type 0 where

@@ -2,30 +2,16 @@
 use Prim.Native.Nat.{ℕ}
 use mathlib.Core.Path.{_≡_}
 use mathlib.Core.List.{List}
-use lib.ListN.{length}
 use Rattle.rows.specs.Pick.{pick}
 use Rattle.reading.specs.Graph.{graphOf}
-use Rattle.sheet.specs.Filling.{Passes}
 use Rattle.reading.specs.NormalSheet.{packedNormal}
 use Rattle.rows.specs.declared.Sheet as form
 use Rattle.sheet.specs.declared.answer.Answer.the-variants.{Passed}
-use Rattle.filling.specs.Read.{listHeld}
-use Rattle.filling.specs.Fill.{figureHeld, firstLacking, firstDiffering, filledBy, filledText, tooLarge}
 use Rattle.answers.specs.declared.outcome.Done.{Done}
 use Rattle.answers.specs.declared.outcome.Done.the-variants as done
 use Rattle.finding.specs.Place.{patternHeld, placedFillings}
 use Rattle.finding.specs.Inputs.{PlaceInputs}
 use Rattle.swapping.specs.Swap.{replacementRead, replacementHeld, sameMarks, swappedAnswer, swappedText}
-
--- a list that passed, and no 8 and no 9 over whole texts
-pub record FilledInputs (figure : form.Sheet) (list figureText : List ℕ) : Type 0 where
-  pub of-figure : figure ≡ packedNormal (figureHeld figureText)
-  pub passes : Passes list
-  pub none-lacking : firstLacking (listHeld list .contexts) (figureHeld figureText .contexts) ≡ 0
-  pub none-differing : firstDiffering list (listHeld list .contexts) ≡ 0
-
-abbrev pub filledDone : List ℕ → List ℕ → Done
-filledDone figure list = pick (tooLarge (filledBy figure list)) done.TooLarge (done.Written (length (filledText figure list)))
 
 pub record SwapInputs (sheet pattern replacement : form.Sheet) (sheetText patternText replacementText : List ℕ) : Type 0 where
   pub placed : PlaceInputs sheet pattern sheetText patternText

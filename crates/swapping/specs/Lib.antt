@@ -1,2 +1,3 @@
 pub mod Swap
 pub mod Inputs
+pub mod Given

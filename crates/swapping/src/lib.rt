@@ -1,2 +1,3 @@
 // Putting a replacement where a pattern was found.
+mod given;
 pub mod swap;

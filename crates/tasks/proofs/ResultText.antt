@@ -30,7 +30,7 @@ use Rattle.reading.proofs.normal.NormalBounds.{normal-marks}
 use Rattle.reading.proofs.normal.Merging.{among-in}
 use Rattle.texts.proofs.NormalFits.{every-member, upTo, upTo-length, upTo-in, upTo-of}
 use Rattle.texts.proofs.BuiltRows.{Fitting, every-in}
-use Rattle.texts.proofs.ReadBack.{builtGraph, Known, Readable, read-back, graph-back}
+use Rattle.texts.proofs.ReadBack.{builtGraph, EdgeAmong, Readable, read-back, graph-back}
 use Rattle.placing.specs.Net.{NetCell, Net, edgeNumbers, netOf, atomVertex, contextVertex}
 use Rattle.placing.specs.Fillings.{symbolRow, Filling}
 use Rattle.placing.specs.Filled.{flatEntry, filledGraph, filledNormal}
@@ -135,7 +135,7 @@ module _ (kind : Kind) (h : Held) (w : WithinLimits kind h) (A : Agrees h) (θ :
           symbol-rows = every-in (Fitting (upTo (N .links)) 999) (N .atoms) fitting;
           blank-rows = tt;
           figure = tt;
-          edge-rows = every-in (Known (upTo (N .links)) (h .wiring .marks)) (N .marks) (λ e i.
+          edge-rows = every-in (EdgeAmong (upTo (N .links)) (h .wiring .marks)) (N .marks) (λ e i.
               let r = mark-link N (result-sheet G all-atoms .normal) (e .0) (e .1) i in (upTo-in (N .links) (e .0) (r .0) (r .1), mark-known (e .1) (edge-mark e i)));
           few-symbols = few;
           few-blanks = omega arith;

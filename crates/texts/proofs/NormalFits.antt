@@ -36,7 +36,7 @@ use Rattle.reading.proofs.normal.NormalBounds.{classCount, number-range, text-l
 use Rattle.normalising.proofs.normal_text.NormalWritten.{links-known, few-marks}
 use Rattle.texts.proofs.Texts.{downFrom}
 use Rattle.texts.proofs.BuiltRows.{Vertex, symbolCell, blankCell, every-in, Stock, Fitting}
-use Rattle.texts.proofs.ReadBack.{portsBy, portsIn, ports-by, Clear, portsAt, builtGraph, Known, Readable}
+use Rattle.texts.proofs.ReadBack.{portsBy, portsIn, ports-by, Clear, portsAt, builtGraph, EdgeAmong, Readable}
 
 -- The numbers from n down to 1.
 abbrev pub upTo : ℕ → List ℕ
@@ -209,7 +209,7 @@ module _ (kind : Kind) (pattern : List ℕ) (single : isList kind ≡ false) (h 
         symbol-rows = every-in _ _ (all-map (normalSymbol h) (h .atoms) _ symbol-fits);
         blank-rows = every-in _ _ (all-map (normalBlank h) (h .contexts) _ blank-fits);
         figure = every-in _ _ (all-map (normalBlank h) (h .contexts) (λ v. isFigure kind ≡ true) (λ c i. every-member (λ d. isFigure kind ≡ true) (h .contexts) c (s .figure) i));
-        edge-rows = every-in _ _ (all-map (normalEdge h) (normalMarks h) (Known (upTo (classCount (graphOf h))) (normalMarks h)) (λ m i. (number-in (markNode m) (mark-shown (graphOf h) m i), i)));
+        edge-rows = every-in _ _ (all-map (normalEdge h) (normalMarks h) (EdgeAmong (upTo (classCount (graphOf h))) (normalMarks h)) (λ m i. (number-in (markNode m) (mark-shown (graphOf h) m i), i)));
         few-symbols = simp length-map (w .atoms);
         few-blanks = simp length-map (w .contexts);
         few-rows = simp length-map (omega (arith, few-atoms, few-marks kind h w A, w .atoms, w .contexts));

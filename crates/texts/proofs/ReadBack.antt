@@ -59,9 +59,9 @@ heldContexts row (v ∷ l) = heldContext v (row + 1) ∷ heldContexts (row + 1) 
 abbrev pub builtGraph : List Vertex → List Vertex → List (ℕ × ℕ) → Flat ℕ
 builtGraph symbols blanks edges = record { atoms = map symbolCell symbols ++ map blankCell blanks; fusions = map edgeOf edges }
 
--- An edge of known joints and marks.
-abbrev pub Known : List ℕ → List ℕ → ℕ × ℕ → Type 0
-Known joints marks e = (e .0 ∈ joints) × (e .1 ∈ marks)
+-- The joint and the mark of an edge are among these.
+abbrev pub EdgeAmong : List ℕ → List ℕ → ℕ × ℕ → Type 0
+EdgeAmong joints marks e = (e .0 ∈ joints) × (e .1 ∈ marks)
 
 module _ (kind : Kind) (pattern joints marks : List ℕ) (stock : Stock kind joints marks) where
   led-symbols : (l : List Vertex) (g : Held) → Stocked kind joints marks g → Every (Fitting joints 999) l
@@ -91,7 +91,7 @@ module _ (kind : Kind) (pattern joints marks : List ℕ) (stock : Stock kind joi
       let t = led-blanks l h (w .stocked) (p .1) (figure .1) (rw (w .went .atoms) (simp append-nil atoms)) (rw (w .went .contexts) (simp length-append (omega arith))) (omega (arith, w .went .rows)) c in
       (t .0, led-then kind pattern joints marks g h (t .0) 1 (length l) (suc (length l)) _ _ _ _ _ _ _ _ _ _ (omega arith) w (t .1))
 
-  led-edges : (l : List (ℕ × ℕ)) (g : Held) → Stocked kind joints marks g → Every (Known joints marks) l
+  led-edges : (l : List (ℕ × ℕ)) (g : Held) → Stocked kind joints marks g → Every (EdgeAmong joints marks) l
       → length (g .atoms) ≤ atomLimit kind → length (g .contexts) ≤ figureContexts → g .rows + length l ≤ rowLimit
       → (h : Held) × Led kind pattern joints marks g h (length l) (joined (map edgeBytes (map edgeOf l))) [] [] [] l
   unfolding joined
@@ -111,7 +111,7 @@ pub record Readable (kind : Kind) (pattern : List ℕ) (symbols blanks : List Ve
   pub symbol-rows : Every (Fitting joints 999) symbols
   pub blank-rows : Every (Fitting joints 4) blanks
   pub figure : Every (λ v. isFigure kind ≡ true) blanks
-  pub edge-rows : Every (Known joints marks) edges
+  pub edge-rows : Every (EdgeAmong joints marks) edges
   pub few-symbols : length symbols ≤ atomLimit kind
   pub few-blanks : length blanks ≤ figureContexts
   pub few-rows : length symbols + length blanks + length edges ≤ rowLimit

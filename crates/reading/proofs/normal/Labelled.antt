@@ -15,10 +15,10 @@ use Rattle.hyperlmntal.proofs.Connection.{connected-mono}
 use Rattle.rows.specs.Held.{Wiring, indexOf, withLink, withLinks, relabelled, merged, withFusion, withMark, noWiring, Among}
 use Rattle.linking.specs.Steps.{Wired}
 use Rattle.rows.proofs.Lists.{indexOf-append, indexOf-added, getD-mapped}
-use Rattle.linking.proofs.Wired.{linkAdded, link-new, link-by, markAdded, mark-by, wired-none, wired-link, wired-merged, wired-mark}
+use Rattle.linking.proofs.Wired.{distinct-added, linkAdded, link-new, link-by, markAdded, mark-by, wired-none, wired-link, wired-merged, wired-mark}
 use Rattle.reading.specs.Labels.{labelIn}
 use Rattle.reading.specs.Agrees.{Known, Labels}
-use Rattle.reading.proofs.normal.Merging.{among-added, among-stays, among-there, once-added, relabelled-same, relabelled-one, relabelled-below, Adds}
+use Rattle.reading.proofs.normal.Merging.{among-added, among-stays, among-there, relabelled-same, relabelled-one, relabelled-below, Adds}
 
 -- Connected nodes have what the ends of each fusion have in common.
 pub connected-same : (E : List (Fusion ℕ)) (f : Node ℕ → ℕ) → ((e : Fusion ℕ) → e ∈ E → f (e .0) ≡ f (e .1)) → {x y : Node ℕ} → Connected E x y → f x ≡ f y
@@ -42,7 +42,6 @@ labels-none =
     record {
       wired = wired-none;
       below = λ k h. absurd (omega arith);
-      links = λ k h. absurd (omega arith);
       marks = λ k h. absurd (omega arith);
       ends = λ e m. absurd (List·Memᴰ·not-nil m);
       fused = λ e m. absurd (List·Memᴰ·not-nil m);
@@ -75,7 +74,6 @@ module _ (w : Wiring) (x : ℕ) (new : length (w .links) ≤ indexOf x (w .links
       record {
         wired = subst Wired (link-new w x new) (wired-link w x (L .wired));
         below = below;
-        links = once-added x (w .links) (L .links) new;
         marks = L .marks;
         ends = λ e m. (added-known (e .0) .1 (inl (L .ends e m .0)), added-known (e .1) .1 (inl (L .ends e m .1)));
         fused = λ e m. same (e .0) (L .ends e m .0) ∙ L .fused e m ∙ sym (same (e .1) (L .ends e m .1));
@@ -145,7 +143,6 @@ module _ (w : Wiring) (E D : List (Fusion ℕ)) (L : Labels w E) (u v : Node ℕ
       record {
         wired = wired-merged w i j (L .wired);
         below = λ k l. rw (getD-mapped f (w .classes) k 0 0 (omega (arith, L .wired .classed))) (relabelled-below _ _ _ _ (L .below i h) (L .below k l));
-        links = L .links;
         marks = L .marks;
         ends = which (λ e. Known (merged w i j) (e .0) × Known (merged w i j) (e .1)) (λ e m. (known (e .0) (L .ends e m .0), known (e .1) (L .ends e m .1)))
             (known u ku, known v kv) (known v kv, known u ku);
@@ -204,8 +201,7 @@ module _ (w : Wiring) (a m : ℕ) (new : length (w .marks) ≤ indexOf m (w .mar
       record {
         wired = subst Wired (mark-new w a m new) (wired-mark w a m there (L .wired));
         below = L .below;
-        links = L .links;
-        marks = once-added m (w .marks) (L .marks) new;
+        marks = distinct-added m (w .marks) new (L .marks);
         ends = λ e k. ⊎-elim
             (λ o. (known (e .0) (L .ends e o .0), known (e .1) (L .ends e o .1)))
             (λ o. subst (λ d. Known (markAdded w a m) (d .0) × Known (markAdded w a m) (d .1)) (sym (List·Memᴰ·eq-of-singleton o)) (there, marked-known (name (free m)) .1 (inr refl)))

@@ -1,20 +1,17 @@
--- Places in a list, lists with each number once, lists with more put in, and labels that are made one.
+-- Places in a list, lists with more put in, and labels that are made one.
 use Prim.Native.Nat.{ℕ, zero, suc, _<_, _≤_}
 use mathlib.Core.Path.{_≡_, refl, _∙_, sym}
 use mathlib.Core.List.{List, [], _∷_, _++_, List·Memᴰ·head, List·Memᴰ·tail, Memᴰ·cast}
 use mathlib.Core.Bool.{Bool, true, false}
 use mathlib.Core.Logic.{_⊎_, inl, inr, ⊎-elim, _↔_}
-use native.Mathlib.Nat.{eq-or-lt-of-le}
 use native.Mathlib.Omega.{arith}
 use lib.Dec.{eqb}
-use lib.ListN.{length, getD, length-append, List·getD-append}
-use lib.Seq.{getD-at}
+use lib.ListN.{length, getD, length-append}
 use borrow.Author.Tests.{eqb-true, eq-eqb}
 use Rattle.hyperlmntal.specs.Link.{_∈_}
 use Rattle.rows.specs.Pick.{pick}
 use Rattle.rows.specs.Held.{indexOf, relabelled, Among}
 use Rattle.rows.proofs.Lists.{indexOf-append, indexOf-added}
-use Rattle.reading.specs.Agrees.{Once}
 
 -- A number that is in a list is at its place.
 pub at-indexOf : (x : ℕ) (l : List ℕ) → Among x l → getD l (indexOf x l) 0 ≡ x
@@ -53,17 +50,6 @@ among-added y x (z ∷ l) h = go (eqb z y) (among-added y x l) h
 
 pub among-stays : (y x : ℕ) (l : List ℕ) → Among y l → Among y (l ++ (x ∷ []))
 among-stays y x l h = rw (indexOf-append y l (x ∷ []) h) (simp length-append (omega arith))
-
-pub once-added : (x : ℕ) (l : List ℕ) → Once l → length l ≤ indexOf x l → Once (l ++ (x ∷ []))
-once-added x l o new k h = ⊎-elim last before (eq-or-lt-of-le (omega (arith, length-append l (x ∷ []))))
-  where
-    last : k ≡ length l → indexOf (getD (l ++ (x ∷ [])) k 0) (l ++ (x ∷ [])) ≡ k
-    last e = rw (getD-at l x [] 0 k (sym e)) (indexOf-added x l new ∙ sym e)
-
-    before : k < length l → indexOf (getD (l ++ (x ∷ [])) k 0) (l ++ (x ∷ [])) ≡ k
-    before p =
-        let q : Among (getD l k 0) l = omega (arith, o k p) in
-        rw (List·getD-append l (x ∷ []) 0 k p) (indexOf-append (getD l k 0) l (x ∷ []) q ∙ o k p)
 
 -- Relabelled labels are equal exactly where they were, or were the two that are made one.
 abbrev pub Cross : ℕ → ℕ → ℕ → ℕ → Type 0

@@ -16,14 +16,16 @@ use Rattle.rows.specs.Pick.{pick}
 use Rattle.rows.specs.Format.{mostLinks}
 use Rattle.rows.specs.Limits.{sheetAtoms, figureContexts, sheetMarks, fillingLinks}
 use Rattle.rows.specs.Held.{Held, indexOf}
-use Rattle.rows.specs.Packed.{padded, noAtom, noContext, packed, TextArrays}
+use Rattle.linking.specs.Steps.{Distinct}
+use Rattle.rows.specs.Packed.{padded, noAtom, noContext}
+use Rattle.rows.specs.TextArrays.{packed, TextArrays}
 use Rattle.rows.specs.declared.Atom.{Atom}
 use Rattle.rows.specs.declared.Context.{Context}
 use Rattle.rows.proofs.Padding.{take-padded, getD-padding, mapped-padded}
 use Rattle.rows.proofs.Lists.{mapped}
 use Rattle.reading.specs.Graph.{atomCell, contextCell, graphOf}
 use Rattle.reading.specs.Labels.{labelIn}
-use Rattle.reading.specs.Agrees.{Agrees, Once as Placed}
+use Rattle.reading.specs.Agrees.{Agrees}
 use Rattle.reading.specs.Normal.{classOf, markNode, marksOf, shown, classesBy, numberBy}
 use Rattle.numbering.specs.Numbering.{Numbering, Numberable, labelAt, markLabelAt, linkRoom, noNumbers, withClasses, linkLabels, atomLabels, contextLabels, atomNumbered, contextNumbered, marksBy, sortedInto}
 use Rattle.reading.specs.Made.{sortedMarks, numberingOf, normalMade}
@@ -41,7 +43,7 @@ use Rattle.reading.proofs.normal.ClassNumbers.{classes-count, classes-n
 use Rattle.reading.proofs.normal.Sorting.{sorted-ascending}
 
 -- A list in which each number is found at its place has none twice.
-once-list : (l : List ℕ) → Placed l → Once l
+once-list : (l : List ℕ) → Distinct l → Once l
 unfolding indexOf
 once-list [] o = tt
 once-list (x ∷ l) o = (first, once-list l rest)
@@ -54,7 +56,7 @@ once-list (x ∷ l) o = (first, once-list l rest)
         let y : 0 ≡ suc (indexOf x l) = rw (eq-eqb x x refl) at z in
         omega arith
 
-    rest : Placed l
+    rest : Distinct l
     rest k h = go (eqb x (getD l k 0)) (o (suc k) (omega arith))
       where
         go : (t : Bool) → pick t 0 (suc (indexOf (getD l k 0) l)) ≡ suc k → indexOf (getD l k 0) l ≡ k

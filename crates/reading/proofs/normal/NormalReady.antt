@@ -9,7 +9,8 @@ use lib.ListN.{length, getD, replicate}
 use Rattle.rows.specs.Format.{mostLinks}
 use Rattle.rows.specs.Limits.{sheetAtoms, figureContexts, fillingLinks}
 use Rattle.rows.specs.Held.{Held}
-use Rattle.rows.specs.Packed.{padded, noAtom, noContext, portTable, packed}
+use Rattle.rows.specs.Packed.{padded, noAtom, noContext, portTable}
+use Rattle.rows.specs.TextArrays.{packed}
 use Rattle.sheet.specs.Kinds.{isList}
 use Rattle.reading.specs.Graph.{graphOf}
 use Rattle.reading.specs.Agrees.{Labels}

@@ -10,7 +10,8 @@ use Rattle.rows.specs.Pick.{pick}
 use Rattle.rows.specs.Format.{mostLinks, fieldCount, rowWidth}
 use Rattle.rows.specs.Limits.{rowLimit, sheetMarks, fillingLinks}
 use Rattle.rows.specs.Held.{Wiring, Held, nothing, withRow}
-use Rattle.rows.specs.Packed.{portTable, packed, TextArrays}
+use Rattle.rows.specs.Packed.{portTable}
+use Rattle.rows.specs.TextArrays.{packed, TextArrays}
 use Rattle.linking.specs.Steps.{Wired, Linked, Relinks, Marked, Tied, Room, linkedBy, markedBy, Distinct}
 use Rattle.rows.specs.Entry.{Ranged, isContext, atomBy, contextBy, portsBy}
 use Rattle.rows.specs.declared.Atom.{Atom}

@@ -6,7 +6,7 @@ use mathlib.Core.Bool.{Bool, true, false, true≢false}
 use lib.ListN.{length}
 use Rattle.rows.specs.Pick.{pick}
 use Rattle.rows.specs.Held.{Held, nothing, withRow}
-use Rattle.rows.specs.Packed.{packed, TextArrays}
+use Rattle.rows.specs.TextArrays.{packed, TextArrays}
 use Rattle.rows.specs.declared.row.Row.{Row}
 use Rattle.rows.proofs.Bools.{not-false}
 use Rattle.sheet.specs.Filling.{isPassed}

@@ -8,7 +8,8 @@ use lib.ListN.{length, getD, replicate}
 use Rattle.rows.specs.Limits.{sheetAtoms, sheetMarks, fillingLinks}
 use Rattle.rows.specs.Row.{rowOf}
 use Rattle.rows.specs.Held.{Held}
-use Rattle.rows.specs.Packed.{padded, packed}
+use Rattle.rows.specs.Packed.{padded}
+use Rattle.rows.specs.TextArrays.{packed}
 use Rattle.linking.specs.Steps.{Room}
 use Rattle.rows.specs.Entry.{Ranged}
 use Rattle.rows.proofs.Padding.{getD-filled}

@@ -1,7 +1,9 @@
 //! Times the proved library and the plain one on the same inputs in one process, and prints a table. A time is the
-//! least mean of five rounds of calls, microseconds; a row of the table has the mean over its texts.
+//! least mean of nine rounds of calls, microseconds, rounds of the two by turns; a row of the table has the mean over
+//! its texts. Fails where a row's ratio is above 1 by more than runs differ by.
 
 use std::hint::black_box;
+use std::process::ExitCode;
 use std::time::Instant;
 
 use plain::case::{Calls, Case, Task, PLAIN};
@@ -10,9 +12,11 @@ use plain::stored::stored;
 use plain::tasks::SLIP;
 use proved::PROVED;
 
-const ROUNDS: usize = 5;
+const ROUNDS: usize = 9;
 /// A round goes on for as long as this, nanoseconds.
 const ROUND: u128 = 2_000_000;
+/// The goal is a ratio of 1; from run to run a ratio differs by up to this much.
+const DIFFER: f64 = 0.05;
 
 struct Timed {
     task: Task,
@@ -22,17 +26,23 @@ struct Timed {
     plain: f64,
 }
 
-/// The least mean of a call over some rounds.
-fn time(calls: &Calls, case: &Case) -> f64 {
+/// The mean of a call over one round, microseconds.
+fn round(calls: &Calls, case: &Case, out: &mut [u8]) -> f64 {
+    let (start, mut count) = (Instant::now(), 0u32);
+    while count == 0 || start.elapsed().as_nanos() < ROUND {
+        let _ = black_box(calls.call(case.task, black_box(&case.inputs), out));
+        count += 1;
+    }
+    start.elapsed().as_nanos() as f64 / f64::from(count) / 1000.0
+}
+
+/// The least means of the two over some rounds.
+fn times(case: &Case) -> (f64, f64) {
     let mut out = vec![0; SLIP];
-    let mut least = f64::INFINITY;
+    let mut least = (f64::INFINITY, f64::INFINITY);
     for _ in 0..ROUNDS {
-        let (start, mut count) = (Instant::now(), 0u32);
-        while count == 0 || start.elapsed().as_nanos() < ROUND {
-            let _ = black_box(calls.call(case.task, black_box(&case.inputs), &mut out));
-            count += 1;
-        }
-        least = least.min(start.elapsed().as_nanos() as f64 / f64::from(count) / 1000.0);
+        least.0 = least.0.min(round(&PROVED, case, &mut out));
+        least.1 = least.1.min(round(&PLAIN, case, &mut out));
     }
     least
 }
@@ -67,12 +77,9 @@ fn all() -> Vec<Timed> {
         };
         cases.push((family, stored.name, stored.case));
     }
-    let timed = |(family, name, case): (&'static str, String, Case)| Timed {
-        task: case.task,
-        family,
-        name,
-        proved: time(&PROVED, &case),
-        plain: time(&PLAIN, &case),
+    let timed = |(family, name, case): (&'static str, String, Case)| {
+        let (proved, plain) = times(&case);
+        Timed { task: case.task, family, name, proved, plain }
     };
     cases.into_iter().map(timed).collect()
 }
@@ -81,8 +88,9 @@ fn mean(of: impl Iterator<Item = f64> + Clone) -> f64 {
     of.clone().sum::<f64>() / of.count() as f64
 }
 
-fn main() {
+fn main() -> ExitCode {
     let timed = all();
+    let mut above = Vec::new();
     println!("| Task | Texts | Count | Proved | Plain | Ratio | Slowest proved |");
     println!("|---|---|---|---|---|---|---|");
     for task in Task::ALL {
@@ -98,10 +106,17 @@ fn main() {
                 slowest.name,
                 slowest.proved
             );
+            above.extend((proved / plain > 1.0 + DIFFER).then(|| format!("{} {family}", task.name())));
         }
         for t in timed.iter().filter(|t| t.task == task && t.family == "hard") {
             let Timed { name, proved, plain, .. } = t;
             println!("| {} | {name} | 1 | {proved:.1} | {plain:.1} | {:.2} | |", task.name(), proved / plain);
+            above.extend((proved / plain > 1.0 + DIFFER).then(|| format!("{} {name}", task.name())));
         }
     }
+    if above.is_empty() {
+        return ExitCode::SUCCESS;
+    }
+    eprintln!("slower than plain: {}", above.join(", "));
+    ExitCode::FAILURE
 }

@@ -35,24 +35,26 @@ returns c = λ sheet figure o atoms un t p. apart-found o atoms un (c .before .a
 used-links-requires : tie.Need-used-links-requires
 used-links-requires c κs = let o = c .before .before .before .before .pre .2 in (ports-of (o .nets-in .contexts-in) .links-few, none-room o, to-within o)
 
+numbers-requires : tie.Need-numbers-requires
+numbers-requires c κs = let p = ports-of (c .before .before .before .before .before .pre .2 .nets-in .contexts-in) in (p .few, p .room)
+
 port-table-requires : tie.Need-port-table-requires
-port-table-requires c κs = let s = c .before .before .before .before .before .before in
+port-table-requires c κs = let s = c .before .before .before .before .before .before .before .before in
     let o = s .pre .2 in
-    (none-room o, (s .args .nets .count, ports-of (o .nets-in .contexts-in), to-within o), refl)
+    (none-room o, (s .args .nets .count, ports-of (o .nets-in .contexts-in), to-within o), refl, c .before .before .numbers .ensures)
 
 served-requires : tie.Need-served-requires
-served-requires c κs = let o = c .before .before .before .before .before .before .before .before .before .before .pre .2 in
-    let p = ports-of (o .nets-in .contexts-in) in
-    (rowed o, links-few o, p .few, p .room, falls o)
+served-requires c κs = let o = c .before .before .before .before .before .before .before .before .before .before .before .before .before .pre .2 in (rowed o, links-few o, ports-of (o .nets-in .contexts-in) .few, falls o)
 
 returns-2 : tie.Need-returns-2
-returns-2 c = let s = c .before .before .before .before .before .before .before .before .before .before .before in
+returns-2 c = let s = c .before .before .before .before .before .before .before .before .before .before .before .before .before .before in
     let a = s .args in
-    let y = c .before .before .before .before .before .before .before .before .apart in
-    let u = c .before .before .before .before .before .before .used-links in
-    let v = c .before .before .before .before .port-table in
-    λ sheet figure o atoms un t p. served-found o atoms un (c .served .result) (subst (Apart (a .nets .contexts) (a .nets .rows) (a .nets .count) (a .to .now) (a .nets .links + 1)) (c .before .before .before .before .before .before .before .if1 .left) (y .ensures))
-    (c .served .ensures (netIn sheet) (netIn figure) (stateIn figure atoms (a .to .now)) (held-in o) (tables-in o atoms un (u .result) (v .last .0) p (u .ensures) (v .ensures)) (taken-flags o atoms un (a .taken .now) t))
+    let y = c .before .before .before .before .before .before .before .before .before .before .before .apart in
+    let u = c .before .before .before .before .before .before .before .before .before .used-links in
+    let n = c .before .before .before .before .before .before .before .before .numbers in
+    let v = c .before .before .before .before .before .port-table in
+    λ sheet figure o atoms un t p. served-found o atoms un (c .served .result) (subst (Apart (a .nets .contexts) (a .nets .rows) (a .nets .count) (a .to .now) (a .nets .links + 1)) (c .before .before .before .before .before .before .before .before .before .before .if1 .left) (y .ensures))
+    (c .served .ensures (a .nets .contexts) (n .ensures) (netIn sheet) (netIn figure) (stateIn figure atoms (a .to .now)) (held-in o) (tables-in o atoms un (u .result) (v .last .0) p (u .ensures) (v .ensures)) (taken-flags o atoms un (a .taken .now) t))
 
 pub find-spec : {M : Type 1} → statement M
 find-spec =
@@ -66,6 +68,7 @@ find-spec =
     array-write-links
     returns
     used-links-requires
+    numbers-requires
     port-table-requires
     served-requires
     returns-2)

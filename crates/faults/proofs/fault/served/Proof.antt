@@ -18,13 +18,10 @@ use Rattle.faults.proofs.fault.served.Statement.{statement}
 use Rattle.faults.proofs.fault.served.Tie as tie
 
 abbrev Inv-loop : tie.InvT-loop
-Inv-loop laid atoms links rows chains used ports taken numbers contexts₀ done₀ j₀ contexts done j = (j ≤ atoms) × (length done ≡ sheetAtoms) × (length contexts ≡ sheetAtoms) × ((S F : Net) (q : Placing) → HeldIn S F laid atoms links (λ i. getD numbers i 0) rows → Tables S F q chains used ports atoms rows → TakenFlags S F q atoms taken → GivenAt S F q (given contexts done) × ((i : ℕ) → i < j → (getD taken i 0 ≡ 1) ⊎ (getD done i 0 ≡ 1)))
+Inv-loop laid atoms links numbers rows chains used ports taken contexts₀ done₀ j₀ contexts done j = (j ≤ atoms) × (length done ≡ sheetAtoms) × (length contexts ≡ sheetAtoms) × ((S F : Net) (q : Placing) → HeldIn S F laid atoms links (λ i. getD numbers i 0) rows → Tables S F q chains used ports atoms rows → TakenFlags S F q atoms taken → GivenAt S F q (given contexts done) × ((i : ℕ) → i < j → (getD taken i 0 ≡ 1) ⊎ (getD done i 0 ≡ 1)))
 
 abbrev μ-loop : tie.MeasureT-loop
-μ-loop laid atoms links rows chains used ports taken numbers contexts₀ done₀ j₀ contexts done j = atoms - j
-
-numbers-requires : tie.Need-numbers-requires Inv-loop μ-loop
-numbers-requires c κs = search needs
+μ-loop laid atoms links numbers rows chains used ports taken contexts₀ done₀ j₀ contexts done j = atoms - j
 
 loop-holds : tie.Need-loop-holds Inv-loop μ-loop
 loop-holds c = (omega arith, refl, refl, λ S F q held t f. (given-start S F q, λ i h. absurd (omega arith)))
@@ -36,19 +33,19 @@ array-read-if2 : tie.Need-array-read-if2 Inv-loop μ-loop
 array-read-if2 c = search needs
 
 one-more-requires : tie.Need-one-more-requires Inv-loop μ-loop
-one-more-requires c κs = let s = c .before .before .before .before .before .before .before .before in let l = c .before .before .before .before .before .before .loop in (s .pre .0, s .pre .1, s .pre .2, omega (arith, c .before .before .before .before .before .loop-test .taken), l .inv .2, l .inv .1, s .pre .4)
+one-more-requires c κs = let s = c .before .before .before .before .before .before in let l = c .before .before .before .before .before .loop in (s .pre .0, s .pre .1, s .pre .2, omega (arith, c .before .before .before .before .loop-test .taken), l .inv .2, l .inv .1, s .pre .3)
 
 faulty-requires : tie.Need-faulty-requires Inv-loop μ-loop
 faulty-requires c κs = search needs
 
 returns : tie.Need-returns Inv-loop μ-loop
-returns c = let s = c .before .before .before .before .before .before .before .before .before .before .before .before in
-    let l = c .before .before .before .before .before .before .before .before .before .before .loop in
+returns c = let s = c .before .before .before .before .before .before .before .before .before .before in
+    let l = c .before .before .before .before .before .before .before .before .before .loop in
     let a = s .args in
     let m = c .before .before .before .one-more in
-    λ S F q held t f.
-    let o = other-at S F q (a .atoms) (t .around .atom-count) (a .t9) f (l .j) (omega (arith, c .before .before .before .before .before .before .before .before .before .loop-test .taken)) (c .before .before .before .before .before .before .before .before .if1 .taken) in
-    cut-gives S F q (c .faulty .result) (m .result .links) (m .last .0) (c .faulty .ensures) (m .ensures .contexts-room) (m .ensures .at S F q (held-as S F (a .laid .now) (a .atoms) (a .links) (numberOf (a .choices)) (λ i. getD (c .before .before .before .before .before .before .before .before .before .before .before .numbers .result) i 0) (a .rows) (c .before .before .before .before .before .before .before .before .before .before .before .numbers .ensures) held) t o .some-found (c .before .before .if3 .taken))
+    λ choices same S F q held t f.
+    let o = other-at S F q (a .atoms) (t .around .atom-count) (a .t9) f (l .j) (omega (arith, c .before .before .before .before .before .before .before .before .loop-test .taken)) (c .before .before .before .before .before .before .before .if1 .taken) in
+    cut-gives S F q (c .faulty .result) (m .result .links) (m .last .0) (c .faulty .ensures) (m .ensures .contexts-room) (m .ensures .at S F q (held-as S F (a .laid .now) (a .atoms) (a .links) (numberOf choices) (λ i. getD (a .numbers .now) i 0) (a .rows) same held) t o .some-found (c .before .before .if3 .taken))
 
 add-j : tie.Need-add-j Inv-loop μ-loop
 add-j c = search needs
@@ -57,20 +54,20 @@ loop-less : tie.Need-loop-less Inv-loop μ-loop
 loop-less c = search needs
 
 loop-again : tie.Need-loop-again Inv-loop μ-loop
-loop-again c = let s = c .before .before .before .before in
+loop-again c = let s = c .before .before .before in
     let l = c .before .before .loop in
     let a = s .args in
-    let n : ℕ → ℕ = λ i. getD (c .before .before .before .numbers .result) i 0 in
+    let n : ℕ → ℕ = λ i. getD (a .numbers .now) i 0 in
     let P : List ℕ → List ℕ → Type 0 = λ k m. (length m ≡ sheetAtoms) × (length k ≡ sheetAtoms) × ((S F : Net) (q : Placing) → HeldIn S F (a .laid .now) (a .atoms) (a .links) n (a .rows) → Tables S F q (a .chains .now) (a .used .now) (a .ports .now) (a .atoms) (a .rows) → TakenFlags S F q (a .atoms) (a .t9) → GivenAt S F q (given k m) × ((i : ℕ) → i < l .j + 1 → (getD (a .t9) i 0 ≡ 1) ⊎ (getD m i 0 ≡ 1))) in
     let w : P (c .if1 .contexts) (c .if1 .done) = ⊎-elim
-    (λ w. subst (λ k. P k (c .if1 .done)) (sym (w .7)) (subst (P (w .5 .last .0)) (sym (w .8)) (
-      w .5 .ensures .done-room,
-      w .5 .ensures .contexts-room,
+    (λ w. subst (λ k. P k (c .if1 .done)) (sym (w .6)) (subst (P (w .4 .last .0)) (sym (w .7)) (
+      w .4 .ensures .done-room,
+      w .4 .ensures .contexts-room,
       λ S F q held t f.
           let o = l .inv .3 S F q held t f in
-          let v = w .5 .ensures .at S F q held t (other-at S F q (a .atoms) (t .around .atom-count) (a .t9) f (l .j) (omega arith) (w .0 .taken)) .none-found (w .6 .left) in (
+          let v = w .4 .ensures .at S F q held t (other-at S F q (a .atoms) (t .around .atom-count) (a .t9) f (l .j) (omega arith) (w .0 .taken)) .none-found (w .5 .left) in (
             v .0 (o .0),
-            below-next (λ i. (getD (a .t9) i 0 ≡ 1) ⊎ (getD (w .5 .last .1 .0) i 0 ≡ 1)) (l .j) (λ i h. ⊎-elim (λ e. inl e) (λ e. inr (v .1 i (inl e))) (o .1 i h)) (inr (v .1 (l .j) (inr refl))),
+            below-next (λ i. (getD (a .t9) i 0 ≡ 1) ⊎ (getD (w .4 .last .1 .0) i 0 ≡ 1)) (l .j) (λ i h. ⊎-elim (λ e. inl e) (λ e. inr (v .1 i (inl e))) (o .1 i h)) (inr (v .1 (l .j) (inr refl))),
           ),
     )))
     (⊎-elim
@@ -81,10 +78,9 @@ loop-again c = let s = c .before .before .before .before in
 
 returns-2 : tie.Need-returns-2 Inv-loop μ-loop
 returns-2 c = let l = c .before .loop in
-    let s = c .before .before .before in
-    let a = s .args in
+    let a = c .before .before .args in
     let e : l .j ≡ a .atoms = omega arith in
-    λ S F q held t f. let o = l .inv .3 S F q (held-as S F (a .laid .now) (a .atoms) (a .links) (numberOf (a .choices)) (λ i. getD (c .before .before .numbers .result) i 0) (a .rows) (c .before .before .numbers .ensures) held) t f in all-given S F q (a .atoms) (t .around .atom-count) (a .t9) f (given (l .contexts) (l .done)) (replicate 96 0) (l .inv .2) (λ i h. o .1 i (omega arith)) (o .0)
+    λ choices same S F q held t f. let o = l .inv .3 S F q (held-as S F (a .laid .now) (a .atoms) (a .links) (numberOf choices) (λ i. getD (a .numbers .now) i 0) (a .rows) same held) t f in all-given S F q (a .atoms) (t .around .atom-count) (a .t9) f (given (l .contexts) (l .done)) (replicate 96 0) (l .inv .2) (λ i h. o .1 i (omega arith)) (o .0)
 
 pub served-spec : {M : Type 1} → statement M
 served-spec =
@@ -92,7 +88,6 @@ served-spec =
     (tie.spec
     Inv-loop
     μ-loop
-    numbers-requires
     loop-holds
     array-read-if1
     array-read-if2

@@ -48,16 +48,16 @@ cast-with-ports : tie.Need-cast-with-ports Inv-loop μ-loop
 cast-with-ports c = search needs
 
 with-ports-requires : tie.Need-with-ports-requires Inv-loop μ-loop
-with-ports-requires c κs = let p = c .before .before .before in
+with-ports-requires c κs = let p = c .before .before .before .before .before in
     let l = p .before .before .before .before in
     let s = l .before .before in
     let x = getD (s .args .t2) (l .loop .i) pastContexts in (
-      (omega (arith, s .pre .0 .counted .few, p .before .before .before .loop-test .taken), s .pre .0 .counted .count (l .loop .i), fresh-more (l .loop .labels) ((l .loop .i + 1) * partRoom) ((l .loop .i + 1 + 1) * partRoom) (omega arith) (omega (arith, s .pre .0 .counted .few, p .before .before .before .loop-test .taken)) (l .loop .inv .2), omega arith),
+      (omega (arith, s .pre .0 .counted .few, p .before .before .before .loop-test .taken), s .pre .0 .counted .count (l .loop .i), fresh-more (l .loop .labels) ((l .loop .i + 1) * partRoom) ((l .loop .i + 1 + 1) * partRoom) (omega arith) (omega (arith, s .pre .0 .counted .few, p .before .before .before .loop-test .taken)) (l .loop .inv .2), omega arith, omega (arith, s .pre .0 .counted .count (l .loop .i))),
       λ k. (s .pre .0 .links (l .loop .i) k, subst (λ (n : Normal). getD (n .marked) k 0 < partRoom) (sym (p .part-of .ensures)) (part-low (s .args .list .now) (x .number) .marked k)),
     )
 
 note-exact-requires : tie.Need-note-exact-requires Inv-loop μ-loop
-note-exact-requires c κs = let p = c .before .before .before .before .before .before .before in
+note-exact-requires c κs = let p = c .before .before .before .before .before .before .before .before .before in
     let l = p .before .before .before .before in
     let s = l .before .before in
     let x = getD (s .args .t2) (l .loop .i) pastContexts in
@@ -67,7 +67,7 @@ add-with-part : tie.Need-add-with-part Inv-loop μ-loop
 add-with-part c = search needs
 
 with-part-requires : tie.Need-with-part-requires Inv-loop μ-loop
-with-part-requires c κs = let p = c .before .before .before .before .before .before .before .before .before in
+with-part-requires c κs = let p = c .before .before .before .before .before .before .before .before .before .before .before in
     let l = p .before .before .before .before in
     let s = l .before .before in
     let x = getD (s .args .t2) (l .loop .i) pastContexts in
@@ -75,7 +75,7 @@ with-part-requires c κs = let p = c .before .before .before .before .before .be
     (l .loop .inv .3, omega (arith, s .pre .0 .counted .few, p .before .before .before .loop-test .taken), subst (λ (n : Normal). n .«atom_count» ≤ sheetAtoms) (sym (p .part-of .ensures)) (low .atoms), subst (λ (n : Normal). (i k : ℕ) → getD (getD (n .atoms) i pastAtoms .links) k 0 < partRoom) (sym (p .part-of .ensures)) (low .atomLinks))
 
 add-i : tie.Need-add-i Inv-loop μ-loop
-add-i c = let t = c .before .before .before .before .before .before .before .before .before .before .before .before .before in
+add-i c = let t = c .before .before .before .before .before .before .before .before .before .before .before .before .before .before .before in
     omega (arith, t .loop-test .taken, t .before .before .before .pre .0 .counted .few)
 
 loop-less : tie.Need-loop-less Inv-loop μ-loop
@@ -84,7 +84,7 @@ loop-less c = search needs
 loop-again : tie.Need-loop-again Inv-loop μ-loop
 loop-again c = let note = c .before .before in
     let w = note .before .before .before .before in
-    let p = w .before .before .before .before in
+    let p = w .before .before .before .before .before .before in
     let l = p .before .before .before .before in
     let s = l .before .before in
     let a = s .args in

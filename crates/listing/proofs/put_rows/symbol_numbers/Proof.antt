@@ -1,8 +1,8 @@
 -- Invariant: the first k links are numbered, and stand after two numbers in the row.
 use borrow.Author.Needs.{needs}
-use Prim.Native.Nat.{ℕ, _≤_, _-_}
+use Prim.Native.Nat.{ℕ, _+_, _≤_, _-_}
 use mathlib.Core.Path.{_≡_, refl, _∙_}
-use mathlib.Core.List.{List, _∷_, map}
+use mathlib.Core.List.{List, [], _∷_, map}
 use native.Mathlib.Omega.{arith}
 use lib.ListN.{length, take, getD}
 use Rattle.rows.specs.Format.{mostLinks, fieldCount}
@@ -74,7 +74,7 @@ loop-again c = let l = c .before .before .before .before in
       v .inv .1,
       g .ensures .0 ∙ links-next (numbering (a .numbers .now) (a .numbered .now)) n (a .t5) (v .k) (omega arith) (v .inv .2),
       λ later. rw (number-put n m x (g .ensures .0) later (g .result) (g .ensures .1))
-          (numbers-next fieldCount (numberIn (withClasses m later .numbers)) (a .name) (a .count) (a .t5) (v .nums) (v .k) (rw (number-later n m x (g .ensures .0) later) at (v .inv .3 (x ∷ later))) (omega arith) (omega (arith, s .pre .0))),
+          (numbers-next fieldCount (numberIn (withClasses m later .numbers)) (a .name ∷ a .count ∷ []) (a .t5) (v .nums) (v .k) (v .k + 2) (omega arith) (rw (number-later n m x (g .ensures .0) later) at (v .inv .3 (x ∷ later))) (omega arith) (omega (arith, s .pre .0))),
     )
 
 returns : tie.Need-returns Inv-loop μ-loop

@@ -3,7 +3,7 @@ use borrow.Author.Needs.{needs}
 use borrow.Author.Count.{below-more}
 use borrow.Author.Tests.{not-false}
 use Prim.Native.Nat.{ℕ, _≤_, _-_, _<_}
-use mathlib.Core.Path.{_≡_}
+use mathlib.Core.Path.{_≡_, sym, _∙_}
 use native.Mathlib.Omega.{arith}
 use Rattle.network.specs.NetIn.{atomIn, atomAt}
 use Rattle.matching.proofs.SameNets.{identical-placed}
@@ -22,14 +22,14 @@ same-counts-requires c κs = search needs
 returns : tie.Need-returns Inv-loop μ-loop
 returns c e = absurd (let z : _≡_ {A = ℕ} 0 1 = cc in omega arith)
 
-same-numbers-requires : tie.Need-same-numbers-requires Inv-loop μ-loop
-same-numbers-requires c κs = c .before .before .before .before .before .before .pre .sheet-fit .mark-count
+same-marks-requires : tie.Need-same-marks-requires Inv-loop μ-loop
+same-marks-requires c κs = let r = c .before .before .before .before .before .before .pre in (r .sheet-fit .mark-count, r .figure-fit .mark-count, r .sheet-fit .mark-room, r .figure-fit .mark-room)
 
 returns-2 : tie.Need-returns-2 Inv-loop μ-loop
 returns-2 c e = absurd (let z : _≡_ {A = ℕ} 0 1 = cc in omega arith)
 
-same-numbers-requires-2 : tie.Need-same-numbers-requires-2 Inv-loop μ-loop
-same-numbers-requires-2 c κs = c .before .before .before .before .before .before .before .before .before .before .before .before .pre .sheet-fit .mark-count
+same-marks-requires-2 : tie.Need-same-marks-requires-2 Inv-loop μ-loop
+same-marks-requires-2 c κs = let r = c .before .before .before .before .before .before .before .before .before .before .before .before .pre in (r .sheet-fit .mark-count, r .figure-fit .mark-count, r .sheet-fit .marked-room, r .figure-fit .marked-room)
 
 returns-3 : tie.Need-returns-3 Inv-loop μ-loop
 returns-3 c e = absurd (let z : _≡_ {A = ℕ} 0 1 = cc in omega arith)
@@ -70,7 +70,7 @@ returns-5 : tie.Need-returns-5 Inv-loop μ-loop
 returns-5 c = let l = c .before in
     let b = l .before .before .before .before .before .before .before .before .before .before .before .before .before .before .before in
     let n = l .before .before .before .before .before .before .before .before .before .before .before .before .before .before .same-counts .ensures (not-false _ (l .before .before .before .before .before .before .before .before .before .before .before .before .before .if1 .left)) in
-    λ e. identical-placed (b .args .t1) (b .args .t2) (b .pre) (n .0) (n .1) (n .2) (n .3) (n .4) (l .before .before .before .before .before .before .before .before .same-numbers .ensures (not-false _ (l .before .before .before .before .before .before .before .if2 .left))) (l .before .before .same-numbers2 .ensures (not-false _ (l .before .if3 .left)))
+    λ e. identical-placed (b .args .t1) (b .args .t2) (b .pre) (n .0) (n .1) (n .2) (n .3) (sym (l .before .before .before .before .before .before .before .before .same-marks .ensures) ∙ not-false _ (l .before .before .before .before .before .before .before .if2 .left)) (sym (l .before .before .same-marks2 .ensures) ∙ not-false _ (l .before .if3 .left))
     (λ i h. l .loop .inv .1 i (omega (arith, h, c .loop-test .left)))
 
 pub identical-spec : {M : Type 1} → statement M
@@ -81,9 +81,9 @@ identical-spec =
     μ-loop
     same-counts-requires
     returns
-    same-numbers-requires
+    same-marks-requires
     returns-2
-    same-numbers-requires-2
+    same-marks-requires-2
     returns-3
     loop-holds
     mul-same-atom

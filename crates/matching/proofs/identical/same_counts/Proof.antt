@@ -18,10 +18,7 @@ returns-4 : tie.Need-returns-4
 returns-4 c e = absurd (let z : _≡_ {A = ℕ} 0 1 = cc in omega arith)
 
 returns-5 : tie.Need-returns-5
-returns-5 c e = absurd (let z : _≡_ {A = ℕ} 0 1 = cc in omega arith)
-
-returns-6 : tie.Need-returns-6
-returns-6 c e = search needs
+returns-5 c e = search needs
 
 pub same-counts-spec : {M : Type 1} → statement M
-same-counts-spec = tie.close (tie.spec returns returns-2 returns-3 returns-4 returns-5 returns-6)
+same-counts-spec = tie.close (tie.spec returns returns-2 returns-3 returns-4 returns-5)

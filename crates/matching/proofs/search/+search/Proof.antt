@@ -3,7 +3,7 @@
 use borrow.Author.Needs.{needs}
 use Prim.Native.Nat.{ℕ, _+_, _-_, _<_}
 use mathlib.Core.Path.{_∙_, sym, refl, ap, subst}
-use mathlib.Core.Logic.{⊎-elim}
+use mathlib.Core.Logic.{⊎-elim, inr}
 use native.Mathlib.Omega.{arith}
 use mathlib.Core.List.{List}
 use lib.ListN.{take}
@@ -18,17 +18,17 @@ use Rattle.candidates.specs.Laid.{LaidOut}
 use Rattle.candidates.proofs.Laying.{laid-rowed}
 use Rattle.candidates.proofs.Marks.{own-marks}
 use Rattle.lawful.specs.Checks.{Lent}
-use Rattle.matching.proofs.SearchTurns.{Tries, tries-same, pre-length, nothing-begun, tries-start, tries-end, tries-skip, next-begin, next-atoms, tries-hit, tries-miss}
+use Rattle.matching.proofs.SearchTurns.{Tries, skip-failed, tries-same, pre-length, nothing-begun, tries-start, tries-end, tries-skip, next-begin, next-atoms, tries-hit, tries-miss}
 use Rattle.matching.proofs.search.search.Reads as search′
 use Rattle.matching.proofs.search.search.Kinds as search-kinds
 use Rattle.matching.proofs.search.+search.Lts-search as search-lts
 use Rattle.symmetry.proofs.excuse.excuse.Reads as excuse-reads
 use Rattle.matching.proofs.forced.advance.Reads as advance-reads
+use Rattle.matching.proofs.forced.next_from.Reads as next-from-reads
 use Rattle.matching.proofs.search.Found.nothing.Reads as nothing-reads
 use Rattle.matching.proofs.search.leaf.Reads as leaf-reads
 use Rattle.matching.proofs.search.tally.Reads as tally-reads
 use Rattle.matching.proofs.search.try_atom.Reads as try-atom-reads
-use Rattle.matching.proofs.search.worthwhile.Reads as worthwhile-reads
 use Rattle.matching.proofs.search.+search.{statement}
 use Rattle.matching.proofs.search.+search.Tie.{close}
 
@@ -37,20 +37,20 @@ lent : (sheet : NormalForm) (laid : List ℕ) → LaidOut sheet laid (sheet .«a
 lent sheet laid o = record { atoms = o; marks = own-marks sheet (o .fit) (o .normal); count = refl }
 
 -- the count still unplaced
-abbrev μ-search : Measures 1 search-kinds.ps ℕ
+abbrev μ-search : Measures 3 search-kinds.ps ℕ
 μ-search κs a = a .1 .0 .«atom_count» - a .1 .1 .1 .1 .1 .1 .1 .1 .1 .0
 
-abbrev search-at : ℕ → In 1 search-kinds.ps
-search-at t = and 1 search-kinds.ps (is 1 search-kinds.ps μ-search t) search′.Pre
+abbrev search-at : ℕ → In 3 search-kinds.ps
+search-at t = and 3 search-kinds.ps (is 3 search-kinds.ps μ-search t) search′.Pre
 
-abbrev search-below : ℕ → In 1 search-kinds.ps
-search-below t = and 1 search-kinds.ps (falls 1 search-kinds.ps _<_ μ-search t) search′.Pre
+abbrev search-below : ℕ → In 3 search-kinds.ps
+search-below t = and 3 search-kinds.ps (falls 3 search-kinds.ps _<_ μ-search t) search′.Pre
 
 abbrev Inv-loop : search-lts.InvT-loop
-Inv-loop figure users owners atoms links laid parts from lost sheet n m placed k failed₀ work₀ t₀ failed work t = Tries (whole sheet laid) (whole figure parts) (take k placed) failed work t
+Inv-loop figure users owners atoms links laid parts from hopeless lost₀ gone₀ sheet n m placed k failed₀ work₀ t₀ lost gone failed work t = Tries (whole sheet laid) (whole figure parts) (take k placed) failed work t
 
 abbrev μ-loop : search-lts.MeasureT-loop
-μ-loop figure users owners atoms links laid parts from lost sheet n m placed k failed₀ work₀ t₀ failed work t = n - t
+μ-loop figure users owners atoms links laid parts from hopeless lost₀ gone₀ sheet n m placed k failed₀ work₀ t₀ lost gone failed work t = n - t
 
 abbrev claims : ℕ → search-lts.Claims
 claims n = (
@@ -60,8 +60,8 @@ claims n = (
   advance-reads.Learnt,
   leaf-reads.Asked,
   leaf-reads.Learnt,
-  worthwhile-reads.Asked,
-  worthwhile-reads.Learnt,
+  next-from-reads.Asked,
+  next-from-reads.Learnt,
   try-atom-reads.Asked,
   try-atom-reads.Learnt,
   search-below n,
@@ -113,69 +113,77 @@ module _ (n : ℕ) where
       let b = d .before .before .before in
       c .leaf .ensures ∙ ap (λ (i : ℕ). searchFrom (netIn (sheet-of b)) (netIn (figure-of b)) (take i (d .advance .last .1 .0))) (sym (c .before .if2 .taken)) ∙ onward d .same
 
+  next-from-requires : search-lts.Need-next-from-requires (claims n) (search-at n) search′.Post Inv-loop μ-loop
+  next-from-requires c κs =
+      let b = c .before .before .before .before in
+      (omega (arith, unfinished c, b .pre .1 .0 .figure-fit .atom-count), omega arith)
+
   loop-holds : search-lts.Need-loop-holds (claims n) (search-at n) search′.Post Inv-loop μ-loop
   loop-holds c =
-      let d = c .before in
+      let d = c .before .before in
       let b = d .before .before .before in
-      tries-start (sheet-of b) (figure-of b) (b .pre .1 .0) (d .advance .last .1 .0) (d .advance .result) (d .advance .ensures .within) (onward d .atoms-in) (unfinished c) _ refl
+      let f = c .next-from in
+      tries-skip (sheet-of b) (figure-of b) (b .pre .1 .0) (d .advance .last .1 .0) (d .advance .result) (d .advance .ensures .within) (onward d .atoms-in) (unfinished (c .before)) _ _ 0
+      (tries-start (sheet-of b) (figure-of b) (b .pre .1 .0) (d .advance .last .1 .0) (d .advance .result) (d .advance .ensures .within) (onward d .atoms-in) (unfinished (c .before)) _ refl)
+      (b .args .atoms .now) (b .args .links .now) (onward d .keeps) (f .result) (f .ensures .0) (λ v h q. inr (f .ensures .2 v h q))
 
-  worthwhile-requires : search-lts.Need-worthwhile-requires (claims n) (search-at n) search′.Post Inv-loop μ-loop
-  worthwhile-requires c κs =
-      let l = c .before .before in
-      let d = l .before .before in
+  array-read-if3 : search-lts.Need-array-read-if3 (claims n) (search-at n) search′.Post Inv-loop μ-loop
+  array-read-if3 c =
+      let l = c .before in
+      let d = l .before .before .before in
       let b = d .before .before .before in
-      (omega (arith, unfinished (l .before), b .pre .1 .0 .figure-fit .atom-count), omega (arith, c .before .loop-test .taken, b .pre .1 .0 .sheet-fit .atom-count))
+      omega (arith, c .loop-test .taken, b .pre .1 .0 .sheet-fit .atom-count)
 
   add-next : search-lts.Need-add-next (claims n) (search-at n) search′.Post Inv-loop μ-loop
   add-next c =
-      let l = c .before .before .before .before in
-      let d = l .before .before in
+      let l = c .before .before in
+      let d = l .before .before .before in
       let b = d .before .before .before in
-      omega (arith, c .before .before .before .loop-test .taken, b .pre .1 .0 .sheet-fit .atom-count)
+      omega (arith, c .before .loop-test .taken, b .pre .1 .0 .sheet-fit .atom-count)
 
   cast-next : search-lts.Need-cast-next (claims n) (search-at n) search′.Post Inv-loop μ-loop
   cast-next c =
-      let l = c .before .before .before .before in
-      let d = l .before .before in
+      let l = c .before .before in
+      let d = l .before .before .before in
       let b = d .before .before .before in
-      omega (arith, c .before .before .before .loop-test .taken, b .pre .1 .0 .sheet-fit .atom-count)
+      omega (arith, c .before .loop-test .taken, b .pre .1 .0 .sheet-fit .atom-count)
 
   mul-next : search-lts.Need-mul-next (claims n) (search-at n) search′.Post Inv-loop μ-loop
   mul-next c =
-      let l = c .before .before .before .before in
-      let d = l .before .before in
+      let l = c .before .before in
+      let d = l .before .before .before in
       let b = d .before .before .before in
-      omega (arith, unfinished (l .before), b .pre .1 .0 .figure-fit .atom-count)
+      omega (arith, unfinished (l .before .before), b .pre .1 .0 .figure-fit .atom-count)
 
   array-write-next : search-lts.Need-array-write-next (claims n) (search-at n) search′.Post Inv-loop μ-loop
   array-write-next c =
-      let l = c .before .before .before .before in
-      let d = l .before .before in
+      let l = c .before .before in
+      let d = l .before .before .before in
       let b = d .before .before .before in
-      omega (arith, unfinished (l .before), b .pre .1 .0 .figure-fit .atom-count)
+      omega (arith, unfinished (l .before .before), b .pre .1 .0 .figure-fit .atom-count)
 
   try-atom-requires : search-lts.Need-try-atom-requires (claims n) (search-at n) search′.Post Inv-loop μ-loop
   try-atom-requires c κs =
       let l = c .before .before .before .before .before .before .before .before in
-      let d = l .before .before in
+      let d = l .before .before .before in
       let b = d .before .before .before in
-      (laid-rowed (sheet-of b) (b .args .laid .now) _ (b .pre .1 .4), b .pre .1 .6, laid-rowed (figure-of b) (b .args .parts .now) _ (b .pre .1 .5), b .pre .1 .7, unfinished (l .before), c .before .before .before .before .before .before .before .loop-test .taken)
+      (laid-rowed (sheet-of b) (b .args .laid .now) _ (b .pre .1 .4), b .pre .1 .6, laid-rowed (figure-of b) (b .args .parts .now) _ (b .pre .1 .5), b .pre .1 .7, unfinished (l .before .before), c .before .before .before .before .before .before .before .loop-test .taken)
 
   add-search : search-lts.Need-add-search (claims n) (search-at n) search′.Post Inv-loop μ-loop
   add-search c =
       let l = c .before .before .before .before .before .before .before .before .before .before .before in
-      let d = l .before .before in
+      let d = l .before .before .before in
       let b = d .before .before .before in
-      omega (arith, unfinished (l .before), b .pre .1 .0 .figure-fit .atom-count)
+      omega (arith, unfinished (l .before .before), b .pre .1 .0 .figure-fit .atom-count)
 
   search-requires : search-lts.Need-search-requires (claims n) (search-at n) search′.Post Inv-loop μ-loop
   search-requires c κs =
-      let l = c .before .before .before .before .before .before .before .before .before .before .before in
-      let d = l .before .before in
+      let l = c .before .before .before .before .before .before .before .before .before .before .before .before .before in
+      let d = l .before .before .before in
       let b = d .before .before .before in
-      let u = unfinished (l .before) in
-      let h = c .before .before .before .before .before .before .before .before .before .before .loop-test .taken in
-      let w = c .before .before .try-atom in
+      let u = unfinished (l .before .before) in
+      let h = c .before .before .before .before .before .before .before .before .before .before .before .before .loop-test .taken in
+      let w = c .before .before .before .before .try-atom in
       let e = next-begin (sheet-of b) (figure-of b) (b .pre .1 .0) (d .advance .last .1 .0) (d .advance .result) (d .advance .ensures .within) (onward d .atoms-in) u (l .loop .failed) (l .loop .work) (l .loop .t) (l .loop .inv) h in (
         omega (arith, b .pre .0, u, d .advance .ensures .after),
         (
@@ -193,47 +201,57 @@ module _ (n : ℕ) where
 
   returns-3 : search-lts.Need-returns-3 (claims n) (search-at n) search′.Post Inv-loop μ-loop
   returns-3 c =
-      let l = c .before .before .before .before .before .before .before .before .before .before .before .before .before in
-      let d = l .before .before in
+      let l = c .before .before .before .before .before .before .before .before .before .before .before .before .before .before .before in
+      let d = l .before .before .before in
       let b = d .before .before .before in
-      tries-hit (sheet-of b) (figure-of b) (b .pre .1 .0) (d .advance .last .1 .0) (d .advance .result) (d .advance .ensures .within) (onward d .atoms-in) (unfinished (l .before)) (l .loop .failed) (l .loop .work) (l .loop .t) (l .loop .inv) (c .before .before .before .before .before .before .before .before .before .before .before .before .loop-test .taken) (c .before .search .result) (c .before .search .ensures) (c .if4 .taken) ∙ onward d .same
+      tries-hit (sheet-of b) (figure-of b) (b .pre .1 .0) (d .advance .last .1 .0) (d .advance .result) (d .advance .ensures .within) (onward d .atoms-in) (unfinished (l .before .before)) (l .loop .failed) (l .loop .work) (l .loop .t) (l .loop .inv) (c .before .before .before .before .before .before .before .before .before .before .before .before .before .before .loop-test .taken) (c .before .search .result) (c .before .search .ensures) (c .if4 .taken) ∙ onward d .same
 
   tally-requires : search-lts.Need-tally-requires (claims n) (search-at n) search′.Post Inv-loop μ-loop
   tally-requires c κs = search needs
 
   excuse-requires : search-lts.Need-excuse-requires (claims n) (search-at n) search′.Post Inv-loop μ-loop
   excuse-requires c κs =
-      let l = c .before .before .before .before .before .before .before .before .before .before .before .before .before .before .before .before .before .before in
-      let d = l .before .before in
+      let l = c .before .before .before .before .before .before .before .before .before .before .before .before .before .before .before .before .before .before .before .before in
+      let d = l .before .before .before in
       let b = d .before .before .before in
-      (laid-rowed (sheet-of b) (b .args .laid .now) _ (b .pre .1 .4), b .pre .1 .0 .sheet-fit .mark-count, omega (arith, unfinished (l .before), b .pre .1 .0 .figure-fit .atom-count), c .before .before .before .before .before .before .before .before .before .before .before .before .before .before .before .before .before .loop-test .taken)
+      (laid-rowed (sheet-of b) (b .args .laid .now) _ (b .pre .1 .4), b .pre .1 .0 .sheet-fit .mark-count, omega (arith, unfinished (l .before .before), b .pre .1 .0 .figure-fit .atom-count), c .before .before .before .before .before .before .before .before .before .before .before .before .before .before .before .before .before .before .before .loop-test .taken)
 
   tally-requires-2 : search-lts.Need-tally-requires-2 (claims n) (search-at n) search′.Post Inv-loop μ-loop
   tally-requires-2 c κs =
-      c .before .before .before .before .before .before .before .before .before .before .before .before .before .before .before .before .before .before .before .loop .inv .worked
+      c .before .before .before .before .before .before .before .before .before .before .before .before .before .before .before .before .before .before .before .before .before .loop .inv .worked
 
-  add-t : search-lts.Need-add-t (claims n) (search-at n) search′.Post Inv-loop μ-loop
-  add-t c =
-      let l = c .before .before .before .before in
-      let d = l .before .before in
+  add-next-from : search-lts.Need-add-next-from (claims n) (search-at n) search′.Post Inv-loop μ-loop
+  add-next-from c =
+      let l = c .before .before in
+      let d = l .before .before .before in
       let b = d .before .before .before in
-      omega (arith, c .before .before .before .loop-test .taken, b .pre .1 .0 .sheet-fit .atom-count)
+      omega (arith, c .before .loop-test .taken, b .pre .1 .0 .sheet-fit .atom-count)
+
+  next-from-requires-2 : search-lts.Need-next-from-requires-2 (claims n) (search-at n) search′.Post Inv-loop μ-loop
+  next-from-requires-2 c κs =
+      let l = c .before .before in
+      let d = l .before .before .before in
+      let b = d .before .before .before in
+      (omega (arith, unfinished (l .before .before), b .pre .1 .0 .figure-fit .atom-count), omega (arith, c .before .loop-test .taken, b .pre .1 .0 .sheet-fit .atom-count))
 
   loop-less : search-lts.Need-loop-less (claims n) (search-at n) search′.Post Inv-loop μ-loop
-  loop-less c =
-      omega (arith, c .before .before .before .loop-test .taken)
+  loop-less c = omega (arith, c .before .before .loop-test .taken, c .next-from2 .ensures .0)
 
   loop-again : search-lts.Need-loop-again (claims n) (search-at n) search′.Post Inv-loop μ-loop
   loop-again c =
-      let l = c .before .before .before .before in
-      let d = l .before .before in
+      let l = c .before .before .before in
+      let d = l .before .before .before in
       let b = d .before .before .before in
-      let u = unfinished (l .before) in
-      let h = c .before .before .before .loop-test .taken in
+      let u = unfinished (l .before .before) in
+      let h = c .before .before .loop-test .taken in
+      let f = c .next-from2 in
       ⊎-elim
-      (λ w. tries-same (w .17) (w .18) (tries-miss (sheet-of b) (figure-of b) (b .pre .1 .0) (d .advance .last .1 .0) (d .advance .result) (d .advance .ensures .within) (onward d .atoms-in) u (l .loop .failed) (l .loop .work) (l .loop .t) (l .loop .inv) h (w .8 .result) (w .8 .ensures) (w .9 .left) (w .15 .last .1 .1 .1 .1 .1 .1 .1 .1 .1 .0) (w .15 .ensures (sheet-of b) (lent (sheet-of b) (b .args .laid .now) (b .pre .1 .4))) (w .16 .result) (w .16 .ensures)))
-      (λ w. tries-same (w .1) (w .2) (tries-skip (sheet-of b) (figure-of b) (b .pre .1 .0) (d .advance .last .1 .0) (d .advance .result) (d .advance .ensures .within) (onward d .atoms-in) u (l .loop .failed) (l .loop .work) (l .loop .t) (l .loop .inv) h (b .args .atoms .now) (b .args .links .now) (onward d .keeps) (c .before .worthwhile .ensures (w .0 .left))))
-      (c .if3 .came)
+      (λ w. tries-skip (sheet-of b) (figure-of b) (b .pre .1 .0) (d .advance .last .1 .0) (d .advance .result) (d .advance .ensures .within) (onward d .atoms-in) u (c .before .if3 .failed) (c .before .if3 .work) (l .loop .t + 1)
+      (tries-same (w .23) (w .24) (tries-miss (sheet-of b) (figure-of b) (b .pre .1 .0) (d .advance .last .1 .0) (d .advance .result) (d .advance .ensures .within) (onward d .atoms-in) u (l .loop .failed) (l .loop .work) (l .loop .t) (l .loop .inv) h (w .12 .result) (w .12 .ensures) (w .13 .left) (w .19 .last .1 .1 .1 .1 .1 .1 .1 .1 .1 .0) (w .19 .ensures (sheet-of b) (lent (sheet-of b) (b .args .laid .now) (b .pre .1 .4))) (w .20 .result) (w .20 .ensures)))
+      (b .args .atoms .now) (b .args .links .now) (onward d .keeps) (f .result) (f .ensures .0) (λ v p q. inr (f .ensures .2 v p q)))
+      (λ w. tries-same (w .3) (w .4) (tries-skip (sheet-of b) (figure-of b) (b .pre .1 .0) (d .advance .last .1 .0) (d .advance .result) (d .advance .ensures .within) (onward d .atoms-in) u (l .loop .failed) (l .loop .work) (l .loop .t) (l .loop .inv)
+      (b .args .atoms .now) (b .args .links .now) (onward d .keeps) (f .result) (omega (arith, f .ensures .0)) (skip-failed (b .args .atoms .now) (l .loop .failed) (d .advance .result) (l .loop .t) (f .result) (w .0 .left) (f .ensures .2))))
+      (c .before .if3 .came)
 
   nothing-requires-2 : search-lts.Need-nothing-requires-2 (claims n) (search-at n) search′.Post Inv-loop μ-loop
   nothing-requires-2 c κs = search needs
@@ -241,9 +259,9 @@ module _ (n : ℕ) where
   returns-4 : search-lts.Need-returns-4 (claims n) (search-at n) search′.Post Inv-loop μ-loop
   returns-4 c =
       let l = c .before .before in
-      let d = l .before .before in
+      let d = l .before .before .before in
       let b = d .before .before .before in
-      tries-end (sheet-of b) (figure-of b) (b .pre .1 .0) (d .advance .last .1 .0) (d .advance .result) (d .advance .ensures .within) (onward d .atoms-in) (unfinished (l .before)) (l .loop .failed) (l .loop .work) (l .loop .t) (l .loop .inv) (omega arith) (c .nothing2 .result) (c .nothing2 .ensures) ∙ onward d .same
+      tries-end (sheet-of b) (figure-of b) (b .pre .1 .0) (d .advance .last .1 .0) (d .advance .result) (d .advance .ensures .within) (onward d .atoms-in) (unfinished (l .before .before)) (l .loop .failed) (l .loop .work) (l .loop .t) (l .loop .inv) (omega arith) (c .nothing2 .result) (c .nothing2 .ensures) ∙ onward d .same
 
 pub +search-spec : {M : Type 1} → statement M
 +search-spec = close μ-search λ n. search-lts.spec (claims n)
@@ -256,8 +274,9 @@ pub +search-spec : {M : Type 1} → statement M
     (advance-requires n)
     (leaf-requires n)
     (returns-2 n)
+    (next-from-requires n)
     (loop-holds n)
-    (worthwhile-requires n)
+    (array-read-if3 n)
     (add-next n)
     (cast-next n)
     (mul-next n)
@@ -269,7 +288,8 @@ pub +search-spec : {M : Type 1} → statement M
     (tally-requires n)
     (excuse-requires n)
     (tally-requires-2 n)
-    (add-t n)
+    (add-next-from n)
+    (next-from-requires-2 n)
     (loop-less n)
     (loop-again n)
     (nothing-requires-2 n)

@@ -124,22 +124,22 @@ narrow-all-requires c κs = let a = c .before .before .before .before .before .b
     (laid-rowed _ _ _ (sheet-laid a), c .before .before .before .before .before .before .before .before .before .users-of .ensures, laid-rowed _ _ _ (figure-laid a), c .before .before .before .before .before .before .users-of2 .ensures)
 
 search-requires : tie.Need-search-requires
-search-requires c κs = let a = c .before .before .before .before .before .before .before .before .before .before .before .before .before .before .before .before .before .before .before .before .before .before .before .before .before .before .before .before .before .before in
-    let s = c .before .before .before .before .before .before .before .before .before .before .before .before .before .before .before .before .before .before .before .before .before .before .before .before .start in
-    let w = c .before .before .before .before .before .before .narrow-all in (
+search-requires c κs = let a = c .before .before .before .before .before .before .before .before .before .before .before .before .before .before .before .before .before .before .before .before .before .before .before .before .before .before .before .before .before .before .before .before in
+    let s = c .before .before .before .before .before .before .before .before .before .before .before .before .before .before .before .before .before .before .before .before .before .before .before .before .before .before .start in
+    let w = c .before .before .before .before .before .before .before .before .narrow-all in (
       ready a,
       omega arith,
       no-atoms (sheet-of a) _ refl,
       narrow-kept (sheet-of a) (figure-of a) _ _ _ _ (sheet-laid a) (figure-laid a) _ (s .last .1 .1 .1 .1 .0) (s .last .1 .1 .1 .1 .1 .0) _ _ (w .result) (w .ensures .0) (w .ensures .1) (s .ensures),
       sheet-laid a,
       figure-laid a,
-      c .before .before .before .before .before .before .before .before .before .before .before .before .before .before .before .before .users-of .ensures,
-      c .before .before .before .before .before .before .before .before .before .before .before .before .before .users-of2 .ensures,
+      c .before .before .before .before .before .before .before .before .before .before .before .before .before .before .before .before .before .before .users-of .ensures,
+      c .before .before .before .before .before .before .before .before .before .before .before .before .before .before .before .users-of2 .ensures,
     )
 
 returns-4 : tie.Need-returns-4
 returns-4 c =
-    let a = c .before .before .before .before .before .before .before .before .before .before .before .before .before .before .before .before .before .before .before .before .before .before .before .before .before .before .before .before .before .before .before in
+    let a = c .before .before .before .before .before .before .before .before .before .before .before .before .before .before .before .before .before .before .before .before .before .before .before .before .before .before .before .before .before .before .before .before .before in
     let b = a .before .before .before .before .before .before .before .before in
     placed-whole (b .args .sheet) (b .args .figure) _ _ (given-sheet a) (given-figure a) _ _ (a .before .frame-of .ensures) (a .frame-of2 .ensures) (c .search .result)
     (placed-smallest (sheet-of a) (figure-of a) (ready a) (c .search .result) (search-room c .0) (search-room c .1) (c .search .ensures))

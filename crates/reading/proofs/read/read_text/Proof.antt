@@ -11,7 +11,8 @@ use lib.ListN.{length, getD, drop, set}
 use Rattle.rows.specs.Pick.{pick}
 use Rattle.rows.specs.Format.{rowWidth}
 use Rattle.rows.specs.Held.{withRow}
-use Rattle.rows.specs.Packed.{padded, portsOf, packed, TextArrays}
+use Rattle.rows.specs.Packed.{padded, portsOf}
+use Rattle.rows.specs.TextArrays.{packed, TextArrays}
 use Rattle.linking.specs.Steps.{Hinted, Room}
 use Rattle.rows.specs.Entry.{Ranged}
 use Rattle.linking.proofs.Hints.{hinted-none}

@@ -18,7 +18,7 @@ abbrev μ-loop : tie.MeasureT-loop
 μ-loop rows count to none labels owner₀ x₀ owner x = count - x
 
 step-labels-requires : tie.Need-step-labels-requires Inv-loop μ-loop
-step-labels-requires c κs = let s = c .before in (s .pre .0 .few, context-row (s .args .contexts) (s .args .rows) (s .args .count) (s .pre .0), search needs)
+step-labels-requires c κs = let s = c .before in (s .pre .0 .few, context-row (s .args .contexts) (s .args .rows) (s .args .count) (s .pre .0), search needs, s .pre .0 .links-few)
 
 loop-holds : tie.Need-loop-holds Inv-loop μ-loop
 loop-holds c = let a = c .before .before .args in (omega arith, refl, owners-start (a .to .now) (c .step-labels .last .0) (a .none) 96)

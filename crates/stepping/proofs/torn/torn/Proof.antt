@@ -19,7 +19,7 @@ gathered-requires c κs = search needs
 
 step-labels-requires : tie.Need-step-labels-requires
 step-labels-requires c κs = let s = c .before .before .before .before .before .before in
-    (s .pre .0 .few, context-row (s .args .contexts) (s .args .rows) (s .args .count) (s .pre .0), search needs)
+    (s .pre .0 .few, context-row (s .args .contexts) (s .args .rows) (s .args .count) (s .pre .0), search needs, s .pre .0 .links-few)
 
 differ-requires : tie.Need-differ-requires
 differ-requires c κs = search needs
