@@ -1,20 +1,24 @@
-//! The proved library on the stored cases: the numbers that the programs print, the rows, and the time.
+//! The proved library on the stored cases: the numbers that the programs print, the rows, and the time, by itself and
+//! beside the plain implementation.
 
 use std::time::Instant;
 
-use plain::case::Task;
+use plain::case::{Calls, Task, PLAIN};
 use plain::stored::{printed, stored, Stored};
 use proved::PROVED;
 
 /// Microseconds: the most that a hard case may take, and the most for the mean of a task's large ones.
 const HARD: f64 = 50_000.0;
 const LARGE: f64 = 1_000.0;
+/// The most times as long as the plain implementation that a task may take on its small and large cases. Tests run
+/// beside each other, so this is no measurement; the benchmark asks for 1.
+const BESIDE: f64 = 1.5;
 
 /// The least time of a call in nine, microseconds.
-fn time(stored: &Stored) -> f64 {
+fn time(calls: &Calls, stored: &Stored) -> f64 {
     let once = |_| {
         let start = Instant::now();
-        std::hint::black_box(printed(&PROVED, &stored.case));
+        std::hint::black_box(printed(calls, &stored.case));
         start.elapsed().as_nanos() as f64 / 1000.0
     };
     (0..9).map(once).fold(f64::INFINITY, f64::min)
@@ -30,7 +34,7 @@ fn every_stored_case() {
 #[test]
 fn hard_cases_answer_at_once() {
     for stored in stored().iter().filter(|stored| stored.family() == "hard") {
-        let taken = time(stored);
+        let taken = time(&PROVED, stored);
         assert!(taken < HARD, "{}: {taken} microseconds", stored.name);
     }
 }
@@ -40,8 +44,19 @@ fn large_cases_answer_at_once() {
     let stored = stored();
     for task in Task::ALL {
         let of_task = stored.iter().filter(|stored| stored.case.task == task && stored.family() == "large");
-        let times: Vec<f64> = of_task.map(time).collect();
+        let times: Vec<f64> = of_task.map(|stored| time(&PROVED, stored)).collect();
         let mean = times.iter().sum::<f64>() / times.len() as f64;
         assert!(mean < LARGE, "{}: {mean} microseconds in the mean", task.name());
+    }
+}
+
+#[test]
+fn no_task_is_slow_beside_plain() {
+    let stored = stored();
+    for task in Task::ALL {
+        let of_task = stored.iter().filter(|stored| stored.case.task == task && stored.family() != "hard");
+        let total = |calls| of_task.clone().map(|stored| time(calls, stored)).sum::<f64>();
+        let ratio = total(&PROVED) / total(&PLAIN);
+        assert!(ratio < BESIDE, "{}: {ratio} times as long as plain", task.name());
     }
 }
