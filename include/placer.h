@@ -18,7 +18,7 @@
    Answers. Each function returns the table's number. Through its last parameters it writes
      *input   which text is refused: 1, 2 or 3 in the order of the parameters, else 0
      *row     the refused row, counted from 1, else 0
-     *bytes   how many bytes of out were written; 0 in a refusal
+     *bytes   how many bytes of out were written; 0 in a refusal, and in compare and claim, which have no out
      *yes     the verdict of compare and claim; false in a refusal
    These must be different variables, not null, outside the texts and the buffer. They are always written. */
 
@@ -90,13 +90,13 @@ uint16_t placer_swap(const uint8_t *sheet, size_t sheet_len,
 /* Yes where the two sheets are the same: the rules E1 to E10 of HyperLMNtal lead from one to the other. */
 uint16_t placer_compare(const uint8_t *a, size_t a_len,
                         const uint8_t *b, size_t b_len,
-                        uint16_t *input, size_t *row, bool *yes);
+                        uint16_t *input, size_t *row, size_t *bytes, bool *yes);
 
 /* Yes where the figure, filled from the list, is the same as the sheet, whoever wrote the list. */
 uint16_t placer_claim(const uint8_t *sheet, size_t sheet_len,
                       const uint8_t *figure, size_t figure_len,
                       const uint8_t *list, size_t list_len,
-                      uint16_t *input, size_t *row, bool *yes);
+                      uint16_t *input, size_t *row, size_t *bytes, bool *yes);
 
 #ifdef __cplusplus
 }

@@ -1,4 +1,4 @@
--- Document 01, 'Numbers': the number, input, row and yes or no of each answer of claim.
+-- Document 01, 'Numbers': the number, input, row, bytes written and yes or no of each answer of claim.
 use Prim.Native.Nat.{ℕ}
 use mathlib.Core.Bool.{Bool, true, false}
 use Rattle.sheet.specs.Answer.{refusalNumber}
@@ -25,6 +25,14 @@ claimedRow Differs = 0
 claimedRow (Refused input why row) = row
 claimedRow (BlankClash input row) = row
 claimedRow (EdgeDiffers input row) = row
+
+-- there is no output
+abbrev pub claimedBytes : Claimed → ℕ
+claimedBytes Holds = 0
+claimedBytes Differs = 0
+claimedBytes (Refused input why row) = 0
+claimedBytes (BlankClash input row) = 0
+claimedBytes (EdgeDiffers input row) = 0
 
 -- 'compare and claim add their yes or no, which is no in a refusal'
 abbrev pub claimedYes : Claimed → Bool

@@ -1,4 +1,4 @@
--- Document 01, 'Numbers': the number, input, row and yes or no of each answer of compare.
+-- Document 01, 'Numbers': the number, input, row, bytes written and yes or no of each answer of compare.
 use Prim.Native.Nat.{ℕ}
 use mathlib.Core.Bool.{Bool, true, false}
 use Rattle.sheet.specs.Answer.{refusalNumber}
@@ -19,6 +19,12 @@ abbrev pub comparedRow : Compared → ℕ
 comparedRow Same = 0
 comparedRow Differs = 0
 comparedRow (Refused input why row) = row
+
+-- there is no output
+abbrev pub comparedBytes : Compared → ℕ
+comparedBytes Same = 0
+comparedBytes Differs = 0
+comparedBytes (Refused input why row) = 0
 
 -- 'compare and claim add their yes or no, which is no in a refusal'
 abbrev pub comparedYes : Compared → Bool

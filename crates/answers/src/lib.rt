@@ -1,4 +1,4 @@
-// The numbers of document 01's table for each task's answer, and the row that a program prints of them.
+// The numbers of document 01's table for each task's answer, and what a program prints of them.
 pub mod outcome;
 pub mod row;
 
@@ -6,14 +6,12 @@ use crate::outcome::Claimed;
 use crate::outcome::Compared;
 use crate::outcome::Done;
 use normalising::normalise::Normalised;
+use sheet::answer::Answer;
 use sheet::answer::Refusal;
 ghost use mathlib.Core.Path.{_≡_};
 ghost use mathlib.Core.Bool.{false};
 ghost use Rattle.sheet.specs.Answer.{refusalNumber};
-ghost use Rattle.normalising.specs.NormalText.{normalisedNumber, normalisedInput, normalisedRow, normalisedBytes};
-ghost use Rattle.answers.specs.Done.{doneNumber, doneInput, doneRow, doneBytes};
-ghost use Rattle.answers.specs.Compared.{comparedNumber, comparedInput, comparedRow, comparedYes};
-ghost use Rattle.answers.specs.Claimed.{claimedNumber, claimedInput, claimedRow, claimedYes};
+ghost use Rattle.answers.specs.Values.{readingValues, normalisedValues, doneValues, comparedValues, claimedValues};
 
 // The table's number of an answer, its input and row, and the bytes written.
 pub struct TaskAnswer {
@@ -23,11 +21,12 @@ pub struct TaskAnswer {
     pub bytes: usize,
 }
 
-// The table's number of an answer, its input and row, and its yes or no.
+// The table's number of an answer, its input and row, the bytes written, which are none, and its yes or no.
 pub struct Verdict {
     pub number: u16,
     pub input: u16,
     pub row: usize,
+    pub bytes: usize,
     pub yes: bool,
 }
 
@@ -71,9 +70,19 @@ fn refused(number: u16, input: u16, row: usize) -> TaskAnswer
     }
 }
 
+// What a reader answers of the text that is this input of its task.
+pub fn of_reading(answer: Answer, input: u16) -> TaskAnswer
+    ensures { λ r. ⌜ r ≡ readingValues input answer ⌝ }
+{
+    match answer {
+        Answer::Passed => written(0),
+        Answer::Refused(why, row) => refused(refusal_number(why), input, row),
+    }
+}
+
 // What normalising answers.
 pub fn of_normalised(done: Normalised) -> TaskAnswer
-    ensures { λ r. ⌜ r ≡ record { number = normalisedNumber done; input = normalisedInput done; row = normalisedRow done; bytes = normalisedBytes done } ⌝ }
+    ensures { λ r. ⌜ r ≡ normalisedValues done ⌝ }
 {
     match done {
         Normalised::Written(bytes) => written(bytes),
@@ -84,7 +93,7 @@ pub fn of_normalised(done: Normalised) -> TaskAnswer
 
 // What fill, place and swap answer.
 pub fn of_done(done: Done) -> TaskAnswer
-    ensures { λ r. ⌜ r ≡ record { number = doneNumber done; input = doneInput done; row = doneRow done; bytes = doneBytes done } ⌝ }
+    ensures { λ r. ⌜ r ≡ doneValues done ⌝ }
 {
     match done {
         Done::Written(bytes) => written(bytes),
@@ -99,31 +108,33 @@ pub fn of_done(done: Done) -> TaskAnswer
 
 // Done, with this yes or no.
 fn decided(yes: bool) -> Verdict
-    ensures { λ r. ⌜ r ≡ record { number = 0; input = 0; row = 0; yes = yes } ⌝ }
+    ensures { λ r. ⌜ r ≡ record { number = 0; input = 0; row = 0; bytes = 0; yes = yes } ⌝ }
 {
     Verdict {
         number: 0,
         input: 0,
         row: 0,
+        bytes: 0,
         yes,
     }
 }
 
 // A refusal says no.
 fn denied(number: u16, input: u16, row: usize) -> Verdict
-    ensures { λ r. ⌜ r ≡ record { number = number; input = input; row = row; yes = false } ⌝ }
+    ensures { λ r. ⌜ r ≡ record { number = number; input = input; row = row; bytes = 0; yes = false } ⌝ }
 {
     Verdict {
         number,
         input,
         row,
+        bytes: 0,
         yes: false,
     }
 }
 
 // What compare answers: yes for the same alone.
 pub fn of_compared(done: Compared) -> Verdict
-    ensures { λ r. ⌜ r ≡ record { number = comparedNumber done; input = comparedInput done; row = comparedRow done; yes = comparedYes done } ⌝ }
+    ensures { λ r. ⌜ r ≡ comparedValues done ⌝ }
 {
     match done {
         Compared::Same => decided(true),
@@ -134,7 +145,7 @@ pub fn of_compared(done: Compared) -> Verdict
 
 // What claim answers: yes for a claim that holds alone.
 pub fn of_claimed(claimed: Claimed) -> Verdict
-    ensures { λ r. ⌜ r ≡ record { number = claimedNumber claimed; input = claimedInput claimed; row = claimedRow claimed; yes = claimedYes claimed } ⌝ }
+    ensures { λ r. ⌜ r ≡ claimedValues claimed ⌝ }
 {
     match claimed {
         Claimed::Holds => decided(true),

@@ -9,7 +9,7 @@ use lib.Arith.{bin-ind, digits-div, digits-mod}
 use lib.Bits.{and-mask, bitAnd, bitOr, bitXor, differ, and-step, or-step, xor-step, and-shr, or-shr, xor-shr}
 use lib.Count.{trailingZeros, under}
 use lib.Pow.{shr-shr, shl-exact}
-use Rattle.candidates.specs.Words.{digit, In}
+use Rattle.candidates.specs.Words.{wordDigits, digit, In, alone, fewer, firstIn}
 
 -- digits one by one
 digit-zero : (s : ℕ) → digit s 0 ≡ s % 2
@@ -98,7 +98,7 @@ less (suc zero) (suc (suc y)) a b = absurd (omega (arith, b))
 less (suc (suc x)) y a b = absurd (omega (arith, a))
 
 -- the two parts make a
-pub parts-sum : (a b : ℕ) → bitXor a (bitAnd a b) + bitAnd a b ≡ a
+parts-sum : (a b : ℕ) → bitXor a (bitAnd a b) + bitAnd a b ≡ a
 parts-sum = bin-ind (λ (a : ℕ). (b : ℕ) → bitXor a (bitAnd a b) + bitAnd a b ≡ a) (λ b. refl) step
   where
     step : (a : ℕ) → ((b : ℕ) → bitXor (a / 2) (bitAnd (a / 2) b) + bitAnd (a / 2) b ≡ a / 2) → (b : ℕ) → bitXor a (bitAnd a b) + bitAnd a b ≡ a
@@ -116,14 +116,25 @@ module _ (a b : ℕ) where
   digit-less : (t : ℕ) → digit (bitXor a (bitAnd a b)) t ≡ differ (digit a t) (min (digit a t) (digit b t))
   digit-less t = digit-xor a (bitAnd a b) t ∙ ap (differ (digit a t)) (digit-and a b t)
 
-  pub less-in : (t : ℕ) → In (bitXor a (bitAnd a b)) t → In a t × (¬ In b t)
+  less-in : (t : ℕ) → In (bitXor a (bitAnd a b)) t → In a t × (¬ In b t)
   less-in t e = less (digit a t) (digit b t) (digit-lt a t) (digit-lt b t) .0 (sym (digit-less t) ∙ e)
 
-  pub in-less : (t : ℕ) → In a t → ¬ In b t → In (bitXor a (bitAnd a b)) t
+  in-less : (t : ℕ) → In a t → ¬ In b t → In (bitXor a (bitAnd a b)) t
   in-less t p q = digit-less t ∙ less (digit a t) (digit b t) (digit-lt a t) (digit-lt b t) .1 p q
 
-  pub less-smaller : (t : ℕ) → In a t → In b t → bitXor a (bitAnd a b) < a
-  less-smaller t p q = omega (arith, parts-sum a b, in-some (bitAnd a b) t (in-and a b t p q))
+module _ (a b r : ℕ) (e : r ≡ fewer a b) where
+  pub fewer-in : (t : ℕ) → In r t → In a t × (¬ In b t)
+  unfolding fewer
+  fewer-in t i = less-in a b t (subst (λ (s : ℕ). In s t) e i)
+
+  pub in-fewer : (t : ℕ) → In a t → ¬ In b t → In r t
+  unfolding fewer
+  in-fewer t p q = subst (λ (s : ℕ). In s t) (sym e) (in-less a b t p q)
+
+  -- it is a smaller number where something went
+  pub fewer-smaller : (t : ℕ) → In a t → In b t → r < a
+  unfolding fewer
+  fewer-smaller t p q = omega (arith, e, parts-sum a b, in-some (bitAnd a b) t (in-and a b t p q))
 
 -- ---- a power of two, and the first digit that is 1
 
@@ -133,26 +144,29 @@ half-pow t = ap (λ (x : ℕ). x / 2) (pow-suc 2 t) ∙ omega arith
 even-pow : (t : ℕ) → 2 ^ suc t % 2 ≡ 0
 even-pow t = ap (λ (x : ℕ). x % 2) (pow-suc 2 t) ∙ omega arith
 
-pub in-pow : (t : ℕ) → In (2 ^ t) t
+in-pow : (t : ℕ) → In (2 ^ t) t
 in-pow zero = digit-zero 1
 in-pow (suc t) = digit-suc (2 ^ suc t) t ∙ ap (λ (x : ℕ). digit x t) (half-pow t) ∙ in-pow t
 
-pub pow-in : (t u : ℕ) → In (2 ^ t) u → u ≡ t
+pow-in : (t u : ℕ) → In (2 ^ t) u → u ≡ t
 pow-in zero zero e = refl
 pow-in zero (suc u) e = absurd (none-in u (sym (digit-suc 1 u) ∙ e))
 pow-in (suc t) zero e = absurd (omega (arith, e, digit-zero (2 ^ suc t), even-pow t))
 pow-in (suc t) (suc u) e = ap suc (pow-in t u (sym (ap (λ (x : ℕ). digit x u) (half-pow t)) ∙ sym (digit-suc (2 ^ suc t) u) ∙ e))
 
--- the same as the machine makes it, in 64 digits
-shifted : (t : ℕ) → t < 64 → 1 * 2 ^ t % 2 ^ 64 ≡ 2 ^ t
-shifted t h = shl-exact {a = 1} 1 t 64 (omega arith) (omega (arith, h)) ∙ omega arith
+-- as the machine makes it, in the digits of a word
+pub shifted : (t : ℕ) → t < wordDigits → 1 * 2 ^ t % 2 ^ wordDigits ≡ alone t
+unfolding alone
+shifted t h = shl-exact {a = 1} 1 t wordDigits (omega arith) (omega (arith, h)) ∙ omega arith
 
-module _ (t : ℕ) (h : t < 64) where
-  pub one-in : In (1 * 2 ^ t % 2 ^ 64) t
-  one-in = subst (λ (s : ℕ). In s t) (sym (shifted t h)) (in-pow t)
+module _ (t r : ℕ) (e : r ≡ alone t) where
+  pub alone-in : In r t
+  unfolding alone
+  alone-in = subst (λ (s : ℕ). In s t) (sym e) (in-pow t)
 
-  pub in-one : (u : ℕ) → In (1 * 2 ^ t % 2 ^ 64) u → u ≡ t
-  in-one u e = pow-in t u (subst (λ (s : ℕ). In s u) (shifted t h) e)
+  pub alone-only : (u : ℕ) → In r u → u ≡ t
+  unfolding alone
+  alone-only u i = pow-in t u (subst (λ (s : ℕ). In s u) e i)
 
 pub shifted-one : (s t : ℕ) → bitAnd (s / 2 ^ t) 1 ≡ digit s t
 unfolding digit
@@ -168,3 +182,24 @@ first-in (suc k) n p h = go (n % 2) refl (λ q. first-in k (n / 2) q (omega (ari
         let r = f (omega (arith, p, e)) in
         (omega (arith, r .0), digit-suc n (trailingZeros k (n / 2)) ∙ r .1)
     go (suc d) e f = (omega arith, digit-zero n ∙ omega (arith, e, two n))
+
+-- the digits of a word from t on are those of the word shifted
+pub digit-shifted : (s t i : ℕ) → digit s (t + i) ≡ digit (s / 2 ^ t) i
+unfolding digit
+digit-shifted s t i = ap (λ (x : ℕ). x % 2) (sym (shr-shr s t i))
+
+-- the digits below the first that is 1
+pub below-first : (k n u : ℕ) → u < trailingZeros k n → ¬ In n u
+unfolding trailingZeros
+below-first zero n u h = absurd (omega (arith, h))
+below-first (suc k) n u h = go (n % 2) refl u h (below-first k (n / 2))
+  where
+    go : (d : ℕ) → n % 2 ≡ d → (v : ℕ) → v < under d (trailingZeros k (n / 2)) → ((w : ℕ) → w < trailingZeros k (n / 2) → ¬ In (n / 2) w) → ¬ In n v
+    go zero q zero l f e = absurd (omega (arith, q, e, digit-zero n))
+    go zero q (suc v) l f e = f v (omega (arith, l)) (sym (digit-suc n v) ∙ e)
+    go (suc d) q v l f e = absurd (omega (arith, l))
+
+-- nothing in the set is below its first
+pub first-least : (s u : ℕ) → u < firstIn s → ¬ In s u
+unfolding firstIn
+first-least s u h = below-first wordDigits s u h

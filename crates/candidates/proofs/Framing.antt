@@ -5,7 +5,7 @@ use mathlib.Core.List.{List, []}
 use native.Mathlib.Omega.{arith}
 use lib.ListN.{length, take, getD}
 use lib.Seq.{length-take-le, getD-take, ext-getD}
-use Rattle.rows.specs.Limits.{sheetAtoms}
+use Rattle.rows.specs.Limits.{atomRoom}
 use Rattle.rows.specs.declared.Atom.{Atom}
 use Rattle.rows.specs.declared.Sheet.{Sheet as NormalForm}
 use Rattle.placing.specs.Net.{Normal}
@@ -27,12 +27,12 @@ row-at l i (suc n) (suc j) d h = row-at l (suc i) n j d (omega arith) ∙ ap (la
 
 module _ (net : NormalForm) (laid : List ℕ) (o : LaidOut net laid (net .«atom_count»)) where
   whole-at : (i : ℕ) → i < net .«atom_count» → atomAt (whole (frameOf net) laid) i ≡ atomAt net i
-  whole-at i h = row-at laid 0 (sheetAtoms + 1) i _ (omega (arith, h, o .fit .atom-count)) ∙ (ap (laidAtom laid) (omega arith) ∙ o .atoms i h)
+  whole-at i h = row-at laid 0 atomRoom i _ (omega (arith, h, o .fit .atom-count)) ∙ (ap (laidAtom laid) (omega arith) ∙ o .atoms i h)
 
-  same-atoms : take (net .«atom_count») (laidRows laid 0 (sheetAtoms + 1)) ≡ take (net .«atom_count») (net .atoms)
+  same-atoms : take (net .«atom_count») (laidRows laid 0 atomRoom) ≡ take (net .«atom_count») (net .atoms)
   same-atoms =
       let n = net .«atom_count» in
-      let a = length-take-le n (laidRows laid 0 (sheetAtoms + 1)) (omega (arith, rows-length laid 0 (sheetAtoms + 1), o .fit .atom-count)) in
+      let a = length-take-le n (laidRows laid 0 atomRoom) (omega (arith, rows-length laid 0 atomRoom, o .fit .atom-count)) in
       ext-getD (record { name = 0; count = 0; links = [] }) _ _ (a ∙ sym (length-take-le n (net .atoms) (omega (arith, o .fit .atom-room, o .fit .atom-count))))
       (λ i h. let k : i < n = omega (arith, h, a) in getD-take n _ i _ k ∙ (whole-at i k ∙ sym (getD-take n (net .atoms) i _ k)))
 
@@ -46,7 +46,7 @@ module _ (net : NormalForm) (laid : List ℕ) (o : LaidOut net laid (net .«atom
         context-count = f .context-count;
         mark-count = f .mark-count;
         class-count = f .class-count;
-        atom-room = rows-length laid 0 (sheetAtoms + 1);
+        atom-room = rows-length laid 0 atomRoom;
         context-room = f .context-room;
         mark-room = f .mark-room;
         marked-room = f .marked-room;

@@ -1,32 +1,34 @@
 -- Sets of links in two words, and the sets of all figure links in one array.
 use Prim.Native.Nat.{ℕ, _+_, _*_, _/_, _%_, _<_, _≤_}
 use mathlib.Core.Path.{_≡_, refl, sym, _∙_, ap, subst}
+use mathlib.Core.Bool.{true}
 use mathlib.Core.Logic.{_≢_, _⊎_, inl, inr, ⊎-elim}
 use mathlib.Core.List.{List, [], _∷_}
 use native.Mathlib.Decide.{ℕ-discrete, decLt}
 use native.Mathlib.Omega.{arith}
+use borrow.Author.Tests.{eqb-true}
 use lib.Bits.{bitOr}
 use lib.ListN.{length, getD, set, length-set}
 use lib.Seq.{getD-set-same, getD-set-other, set-out}
 use Rattle.rows.specs.Limits.{sheetLinks}
-use Rattle.candidates.specs.Words.{digit, In, InPair}
+use Rattle.candidates.specs.Words.{wordDigits, digit, In, alone, InPair, emptyPair, commonPair, fewerPair, withLink}
 use Rattle.candidates.specs.Tables.{LinkIn}
-use Rattle.candidates.proofs.Digits.{in-or-left, in-or-right, or-in}
+use Rattle.candidates.proofs.Digits.{none-in, in-and, in-or-left, in-or-right, or-in, fewer-in, in-fewer, alone-in, alone-only}
 
 -- a link is in the first word or the second
-pub by-half : (P : ℕ → Type 0) (y : ℕ) → y < sheetLinks → P 0 → P 1 → P (y / 64)
-by-half P y h p q = go (ℕ-discrete (y / 64) 0)
+pub by-half : (P : ℕ → Type 0) (y : ℕ) → y < sheetLinks → P 0 → P 1 → P (y / wordDigits)
+by-half P y h p q = go (ℕ-discrete (y / wordDigits) 0)
   where
-    go : Dec (y / 64 ≡ 0) → P (y / 64)
+    go : Dec (y / wordDigits ≡ 0) → P (y / wordDigits)
     go (yes e) = subst P (sym e) p
-    go (no d) = subst P (let e : 1 ≡ y / 64 = omega (arith, h, d) in e) q
+    go (no d) = subst P (let e : 1 ≡ y / wordDigits = omega (arith, h, d) in e) q
 
 module _ (l : List ℕ) (x y : ℕ) (h : y < sheetLinks) where
   first-word : getD l (x * 2 + 0) 0 ≡ getD l (x * 2) 0
   first-word = ap (λ (q : ℕ). getD l q 0) (let e : x * 2 + 0 ≡ x * 2 = omega arith in e)
 
   pub pair-in : LinkIn l x y → InPair (getD l (x * 2) 0 ∷ getD l (x * 2 + 1) 0 ∷ []) y
-  pair-in = by-half (λ z. In (getD l (x * 2 + z) 0) (y % 64) → In (getD (getD l (x * 2) 0 ∷ getD l (x * 2 + 1) 0 ∷ []) z 0) (y % 64)) y h (subst (λ (w : ℕ). In w (y % 64)) first-word) (λ i. i)
+  pair-in = by-half (λ z. In (getD l (x * 2 + z) 0) (y % wordDigits) → In (getD (getD l (x * 2) 0 ∷ getD l (x * 2 + 1) 0 ∷ []) z 0) (y % wordDigits)) y h (subst (λ (w : ℕ). In w (y % wordDigits)) first-word) (λ i. i)
 
 -- a pair stored for link x
 abbrev pub stored : List ℕ → ℕ → List ℕ → List ℕ
@@ -55,9 +57,9 @@ module _ (k : List ℕ) (x : ℕ) (pair : List ℕ) where
   -- a link of both is in the set of link x afterwards
   pub stored-kept : (y : ℕ) → y < sheetLinks → LinkIn k x y → InPair pair y → LinkIn (stored k x pair) x y
   stored-kept y h =
-      by-half (λ z. In (getD k (x * 2 + z) 0) (y % 64) → In (getD pair z 0) (y % 64) → In (getD (stored k x pair) (x * 2 + z) 0) (y % 64)) y h
-      (λ i j. subst (λ (q : ℕ). In (getD (stored k x pair) q 0) (y % 64)) zero-more (first-stored (y % 64) (subst (λ (q : ℕ). In (getD k q 0) (y % 64)) (sym zero-more) i) j))
-      (second-stored (y % 64))
+      by-half (λ z. In (getD k (x * 2 + z) 0) (y % wordDigits) → In (getD pair z 0) (y % wordDigits) → In (getD (stored k x pair) (x * 2 + z) 0) (y % wordDigits)) y h
+      (λ i j. subst (λ (q : ℕ). In (getD (stored k x pair) q 0) (y % wordDigits)) zero-more (first-stored (y % wordDigits) (subst (λ (q : ℕ). In (getD k q 0) (y % wordDigits)) (sym zero-more) i) j))
+      (second-stored (y % wordDigits))
     where
       zero-more : x * 2 ≡ x * 2 + 0
       zero-more = omega arith
@@ -65,13 +67,13 @@ module _ (k : List ℕ) (x : ℕ) (pair : List ℕ) where
   -- where the table has the link, that it was there before is not needed
   pub pair-stored : (y : ℕ) → y < sheetLinks → x * 2 + 1 < length k → InPair pair y → LinkIn (stored k x pair) x y
   pair-stored y h l =
-      by-half (λ z. In (getD pair z 0) (y % 64) → In (getD (stored k x pair) (x * 2 + z) 0) (y % 64)) y h
-      (λ j. ap (λ (w : ℕ). digit w (y % 64)) (
+      by-half (λ z. In (getD pair z 0) (y % wordDigits) → In (getD (stored k x pair) (x * 2 + z) 0) (y % wordDigits)) y h
+      (λ j. ap (λ (w : ℕ). digit w (y % wordDigits)) (
       ap (λ (q : ℕ). getD (stored k x pair) q 0) zero-less
       ∙ getD-set-other (set k (x * 2) (getD pair 0 0)) (x * 2 + 1) (x * 2) (getD pair 1 0) 0 (λ e. omega (arith, e))
       ∙ getD-set-same k (x * 2) (getD pair 0 0) 0 (omega (arith, l))
       ) ∙ j)
-      (λ j. ap (λ (w : ℕ). digit w (y % 64)) (getD-set-same (set k (x * 2) (getD pair 0 0)) (x * 2 + 1) (getD pair 1 0) 0 (omega (arith, l, length-set k (x * 2) (getD pair 0 0)))) ∙ j)
+      (λ j. ap (λ (w : ℕ). digit w (y % wordDigits)) (getD-set-same (set k (x * 2) (getD pair 0 0)) (x * 2 + 1) (getD pair 1 0) 0 (omega (arith, l, length-set k (x * 2) (getD pair 0 0)))) ∙ j)
     where
       zero-less : x * 2 + 0 ≡ x * 2
       zero-less = omega arith
@@ -79,64 +81,82 @@ module _ (k : List ℕ) (x : ℕ) (pair : List ℕ) where
   -- the sets of other links stay
   pub stored-other : (u y : ℕ) → y < sheetLinks → u ≢ x → LinkIn k u y → LinkIn (stored k x pair) u y
   stored-other u y h d i =
-      ap (λ (w : ℕ). digit w (y % 64)) (
-      getD-set-other (set k (x * 2) (getD pair 0 0)) (x * 2 + 1) (u * 2 + y / 64) (getD pair 1 0) 0 (λ e. d (omega (arith, e, h)))
-      ∙ getD-set-other k (x * 2) (u * 2 + y / 64) (getD pair 0 0) 0 (λ e. d (omega (arith, e, h)))
+      ap (λ (w : ℕ). digit w (y % wordDigits)) (
+      getD-set-other (set k (x * 2) (getD pair 0 0)) (x * 2 + 1) (u * 2 + y / wordDigits) (getD pair 1 0) 0 (λ e. d (omega (arith, e, h)))
+      ∙ getD-set-other k (x * 2) (u * 2 + y / wordDigits) (getD pair 0 0) 0 (λ e. d (omega (arith, e, h)))
       )
       ∙ i
 
--- Link y put into a pair: `one` is the set of its digit.
-module _ (pair : List ℕ) (y one : ℕ) (here : In one (y % 64)) (only : (u : ℕ) → In one u → u ≡ y % 64) where
-  abbrev pub with : List ℕ
-  with = set pair (y / 64) (bitOr (getD pair (y / 64) 0) one)
-
-  module _ (z : ℕ) where
-    same : z / 64 ≡ y / 64 → y / 64 < length pair → getD with (z / 64) 0 ≡ bitOr (getD pair (z / 64) 0) one
-    same e h = ap (λ (q : ℕ). getD with q 0) e ∙ getD-set-same pair (y / 64) _ 0 h ∙ ap (λ (q : ℕ). bitOr (getD pair q 0) one) (sym e)
-
-    outside : ¬ (y / 64 < length pair) → getD with (z / 64) 0 ≡ getD pair (z / 64) 0
-    outside h = ap (λ (l : List ℕ). getD l (z / 64) 0) (set-out pair (y / 64) _ (omega (arith, h)))
-
-    -- its word, as it was or with the digit
-    word : (getD with (z / 64) 0 ≡ getD pair (z / 64) 0) ⊎ ((z / 64 ≡ y / 64) × (getD with (z / 64) 0 ≡ bitOr (getD pair (z / 64) 0) one))
-    word = go (ℕ-discrete (z / 64) (y / 64)) (decLt (y / 64) (length pair))
-      where
-        go : Dec (z / 64 ≡ y / 64) → Dec (y / 64 < length pair) → (getD with (z / 64) 0 ≡ getD pair (z / 64) 0) ⊎ ((z / 64 ≡ y / 64) × (getD with (z / 64) 0 ≡ bitOr (getD pair (z / 64) 0) one))
-        go (yes e) (yes h) = inr (e, same e h)
-        go (yes e) (no h) = inl (outside h)
-        go (no d) h = inl (getD-set-other pair (y / 64) (z / 64) _ 0 d)
-
-    pub put-kept : InPair pair z → InPair with z
-    put-kept i = ⊎-elim (λ e. ap (λ (w : ℕ). digit w (z % 64)) e ∙ i) (λ w. ap (λ (v : ℕ). digit v (z % 64)) (w .1) ∙ in-or-left (getD pair (z / 64) 0) one (z % 64) i) word
-
-    pub put-only : InPair with z → InPair pair z ⊎ (z ≡ y)
-    put-only i = ⊎-elim (λ e. inl (ap (λ (w : ℕ). digit w (z % 64)) (sym e) ∙ i))
-        (λ w. ⊎-elim (λ j. inl j) (λ j. inr (omega (arith, w .0, only (z % 64) j))) (or-in (getD pair (z / 64) 0) one (z % 64) (ap (λ (v : ℕ). digit v (z % 64)) (sym (w .1)) ∙ i))) word
-
-  pub put-there : y / 64 < length pair → InPair with y
-  put-there h = ap (λ (v : ℕ). digit v (y % 64)) (same y refl h) ∙ in-or-right (getD pair (y / 64) 0) one (y % 64) here
-
--- A pair by its two words.
+-- Link y put into a pair, of which `words` has the two words.
 abbrev words : List ℕ → List ℕ
 words p = getD p 0 0 ∷ getD p 1 0 ∷ []
 
-words-same : (p : List ℕ) (z : ℕ) → z < sheetLinks → getD (words p) (z / 64) 0 ≡ getD p (z / 64) 0
+words-same : (p : List ℕ) (z : ℕ) → z < sheetLinks → getD (words p) (z / wordDigits) 0 ≡ getD p (z / wordDigits) 0
 words-same p z h = by-half (λ (q : ℕ). getD (words p) q 0 ≡ getD p q 0) z h refl refl
 
+module _ (p : List ℕ) (y : ℕ) (small : y < sheetLinks) (r : List ℕ) (e : r ≡ withLink p y) where
+  abbrev changed : ℕ
+  changed = bitOr (getD p (y / wordDigits) 0) (alone (y % wordDigits))
+
+  same : (z : ℕ) → z / wordDigits ≡ y / wordDigits → getD r (z / wordDigits) 0 ≡ bitOr (getD p (z / wordDigits) 0) (alone (y % wordDigits))
+  unfolding withLink
+  same z q =
+      ap (λ (l : List ℕ). getD l (z / wordDigits) 0) e
+      ∙ ap (λ (k : ℕ). getD (set (words p) (y / wordDigits) changed) k 0) q
+      ∙ getD-set-same (words p) (y / wordDigits) changed 0 (omega (arith, small))
+      ∙ ap (λ (k : ℕ). bitOr (getD p k 0) (alone (y % wordDigits))) (sym q)
+
+  other : (z : ℕ) → z < sheetLinks → z / wordDigits ≢ y / wordDigits → getD r (z / wordDigits) 0 ≡ getD p (z / wordDigits) 0
+  unfolding withLink
+  other z h d = ap (λ (l : List ℕ). getD l (z / wordDigits) 0) e ∙ getD-set-other (words p) (y / wordDigits) (z / wordDigits) changed 0 d ∙ words-same p z h
+
+  pub with-kept : (z : ℕ) → z < sheetLinks → InPair p z → InPair r z
+  with-kept z h i = go (ℕ-discrete (z / wordDigits) (y / wordDigits))
+    where
+      go : Dec (z / wordDigits ≡ y / wordDigits) → InPair r z
+      go (yes q) = ap (λ (w : ℕ). digit w (z % wordDigits)) (same z q) ∙ in-or-left (getD p (z / wordDigits) 0) (alone (y % wordDigits)) (z % wordDigits) i
+      go (no d) = ap (λ (w : ℕ). digit w (z % wordDigits)) (other z h d) ∙ i
+
+  pub with-there : InPair r y
+  with-there = ap (λ (w : ℕ). digit w (y % wordDigits)) (same y refl) ∙ in-or-right (getD p (y / wordDigits) 0) (alone (y % wordDigits)) (y % wordDigits) (alone-in (y % wordDigits) (alone (y % wordDigits)) refl)
+
+  pub with-only : (z : ℕ) → z < sheetLinks → InPair r z → InPair p z ⊎ (z ≡ y)
+  with-only z h i = go (ℕ-discrete (z / wordDigits) (y / wordDigits))
+    where
+      go : Dec (z / wordDigits ≡ y / wordDigits) → InPair p z ⊎ (z ≡ y)
+      go (yes q) = ⊎-elim inl (λ j. inr (omega (arith, q, alone-only (y % wordDigits) (alone (y % wordDigits)) refl (z % wordDigits) j))) (or-in (getD p (z / wordDigits) 0) (alone (y % wordDigits)) (z % wordDigits) (ap (λ (w : ℕ). digit w (z % wordDigits)) (sym (same z q)) ∙ i))
+      go (no d) = inl (ap (λ (w : ℕ). digit w (z % wordDigits)) (sym (other z h d)) ∙ i)
+
 -- The same put into one of the two words.
-module _ (p : List ℕ) (y one : ℕ) (small : y < sheetLinks) (here : In one (y % 64)) (only : (u : ℕ) → In one u → u ≡ y % 64) (r : List ℕ) where
-  abbrev Holds : Type 0
-  Holds = ((z : ℕ) → z < sheetLinks → InPair p z → InPair r z) × InPair r y × ((z : ℕ) → z < sheetLinks → InPair r z → InPair p z ⊎ (z ≡ y))
+module _ (p : List ℕ) (y one : ℕ) (e : one ≡ alone (y % wordDigits)) (small : y < sheetLinks) where
+  pub with-low : y < wordDigits → bitOr (getD p 0 0) one ∷ getD p 1 0 ∷ [] ≡ withLink p y
+  unfolding withLink
+  with-low h = let q : y / wordDigits ≡ 0 = omega arith in rw (e, q)
 
-  holds : r ≡ with (words p) y one here only → Holds
-  holds e = (
-    λ z h i. subst (λ (l : List ℕ). InPair l z) (sym e) (put-kept (words p) y one here only z (subst (λ (w : ℕ). In w (z % 64)) (sym (words-same p z h)) i)),
-    subst (λ (l : List ℕ). InPair l y) (sym e) (put-there (words p) y one here only (omega arith)),
-    λ z h i. ⊎-elim (λ j. inl (subst (λ (w : ℕ). In w (z % 64)) (words-same p z h) j)) inr (put-only (words p) y one here only z (subst (λ (l : List ℕ). InPair l z) e i)),
-  )
+  pub with-high : wordDigits ≤ y → getD p 0 0 ∷ bitOr (getD p 1 0) one ∷ [] ≡ withLink p y
+  unfolding withLink
+  with-high h = let q : y / wordDigits ≡ 1 = omega (arith, h, small) in rw (e, q)
 
-  pub holds-low : y < 64 → r ≡ bitOr (getD p 0 0) one ∷ getD p 1 0 ∷ [] → Holds
-  holds-low h e = let q : y / 64 ≡ 0 = omega arith in holds (e ∙ rw q)
+-- What is common to two sets, or in one and not in the other, and a set with nothing in it.
+module _ (a b r : List ℕ) (y : ℕ) (h : y < sheetLinks) where
+  pub in-common : r ≡ commonPair a b → InPair a y → InPair b y → InPair r y
+  unfolding commonPair
+  in-common e = by-half (λ z. In (getD a z 0) (y % wordDigits) → In (getD b z 0) (y % wordDigits) → In (getD r z 0) (y % wordDigits)) y h
+      (λ i j. subst (λ (l : List ℕ). In (getD l 0 0) (y % wordDigits)) (sym e) (in-and (getD a 0 0) (getD b 0 0) (y % wordDigits) i j))
+      (λ i j. subst (λ (l : List ℕ). In (getD l 1 0) (y % wordDigits)) (sym e) (in-and (getD a 1 0) (getD b 1 0) (y % wordDigits) i j))
 
-  pub holds-high : 64 ≤ y → r ≡ getD p 0 0 ∷ bitOr (getD p 1 0) one ∷ [] → Holds
-  holds-high h e = let q : y / 64 ≡ 1 = omega arith in holds (e ∙ rw q)
+  pub in-fewer-pair : r ≡ fewerPair a b → InPair a y → ¬ InPair b y → InPair r y
+  unfolding fewerPair
+  in-fewer-pair e = by-half (λ z. In (getD a z 0) (y % wordDigits) → ¬ In (getD b z 0) (y % wordDigits) → In (getD r z 0) (y % wordDigits)) y h
+      (in-fewer _ _ _ (ap (λ (l : List ℕ). getD l 0 0) e) (y % wordDigits)) (in-fewer _ _ _ (ap (λ (l : List ℕ). getD l 1 0) e) (y % wordDigits))
+
+  pub fewer-pair-in : r ≡ fewerPair a b → InPair r y → ¬ InPair b y
+  unfolding fewerPair
+  fewer-pair-in e = by-half (λ z. In (getD r z 0) (y % wordDigits) → ¬ In (getD b z 0) (y % wordDigits)) y h
+      (λ i. fewer-in _ _ _ (ap (λ (l : List ℕ). getD l 0 0) e) (y % wordDigits) i .1) (λ i. fewer-in _ _ _ (ap (λ (l : List ℕ). getD l 1 0) e) (y % wordDigits) i .1)
+
+pub none-in-pair : (a : List ℕ) → emptyPair a ≡ true → (y : ℕ) → y < sheetLinks → ¬ InPair a y
+unfolding emptyPair
+none-in-pair a e y h = by-half (λ z. ¬ In (getD a z 0) (y % wordDigits)) y h
+    (λ i. none-in (y % wordDigits) (subst (λ (w : ℕ). In w (y % wordDigits)) (eqb-true _ _ e) (in-or-left (getD a 0 0) (getD a 1 0) (y % wordDigits) i)))
+    (λ i. none-in (y % wordDigits) (subst (λ (w : ℕ). In w (y % wordDigits)) (eqb-true _ _ e) (in-or-right (getD a 0 0) (getD a 1 0) (y % wordDigits) i)))

@@ -1,7 +1,7 @@
 -- A normal form without its atoms, and with them.
 use Prim.Native.Nat.{ℕ, zero, suc, _+_}
 use mathlib.Core.List.{List, [], _∷_}
-use Rattle.rows.specs.Limits.{sheetAtoms}
+use Rattle.rows.specs.Limits.{atomRoom}
 use Rattle.rows.specs.declared.Atom.{Atom}
 use Rattle.rows.specs.declared.Sheet.{Sheet as NormalForm}
 use Rattle.candidates.specs.Laid.{laidAtom}
@@ -17,4 +17,4 @@ laidRows l i (suc n) = laidAtom l i ∷ laidRows l (suc i) n
 
 -- with the atoms that are laid out
 abbrev pub whole : Frame → List ℕ → NormalForm
-whole f l = record { atoms = laidRows l 0 (sheetAtoms + 1); «atom_count» = f .«atom_count»; contexts = f .contexts; «context_count» = f .«context_count»; marks = f .marks; marked = f .marked; «mark_count» = f .«mark_count»; «class_count» = f .«class_count» }
+whole f l = record { atoms = laidRows l 0 atomRoom; «atom_count» = f .«atom_count»; contexts = f .contexts; «context_count» = f .«context_count»; marks = f .marks; marked = f .marked; «mark_count» = f .«mark_count»; «class_count» = f .«class_count» }

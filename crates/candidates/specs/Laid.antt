@@ -1,9 +1,9 @@
 -- The atoms of a net in one array of numbers: for each, counted from 0, its name, its count and its links.
-use Prim.Native.Nat.{ℕ, _+_, _*_, _≤_, _<_}
+use Prim.Native.Nat.{ℕ, zero, suc, _+_, _*_, _≤_, _<_}
 use mathlib.Core.Path.{_≡_}
 use mathlib.Core.List.{List, [], _∷_}
 use lib.ListN.{getD}
-use Rattle.rows.specs.Format.{fieldCount}
+use Rattle.rows.specs.Format.{mostLinks, fieldCount}
 use Rattle.rows.specs.Limits.{sheetAtoms, sheetLinks}
 use Rattle.rows.specs.declared.Atom.{Atom}
 use Rattle.rows.specs.declared.Sheet.{Sheet as NormalForm}
@@ -14,8 +14,13 @@ use Rattle.network.specs.NetIn.{netIn, atomAt, Used, Fit}
 abbrev pub laidAt : List ℕ → ℕ → ℕ → ℕ
 laidAt l i k = getD l (i * fieldCount + k) 0
 
+-- n numbers from a place on
+unfoldable pub numbersFrom : List ℕ → ℕ → ℕ → List ℕ
+numbersFrom l at zero = []
+numbersFrom l at (suc n) = getD l at 0 ∷ numbersFrom l (suc at) n
+
 unfoldable pub laidAtom : List ℕ → ℕ → Atom
-laidAtom l i = record { name = getD l (i * fieldCount) 0; count = laidAt l i 1; links = laidAt l i 2 ∷ laidAt l i 3 ∷ laidAt l i 4 ∷ laidAt l i 5 ∷ laidAt l i 6 ∷ laidAt l i 7 ∷ [] }
+laidAtom l i = record { name = getD l (i * fieldCount) 0; count = laidAt l i 1; links = numbersFrom l (i * fieldCount + 2) mostLinks }
 
 -- link k of an atom
 abbrev pub linkOf : Atom → ℕ → ℕ

@@ -4,7 +4,7 @@ use mathlib.Core.Path.{_≡_}
 use mathlib.Core.List.{List}
 use lib.ListN.{getD}
 use Rattle.rows.specs.Limits.{sheetAtoms, sheetLinks}
-use Rattle.candidates.specs.Words.{In}
+use Rattle.candidates.specs.Words.{wordDigits, In}
 
 -- figure atom i may go to sheet atom t
 abbrev pub AtomIn : List ℕ → ℕ → ℕ → Type 0
@@ -12,7 +12,7 @@ AtomIn a i t = In (getD a i 0) t
 
 -- figure link x may go to sheet link y
 abbrev pub LinkIn : List ℕ → ℕ → ℕ → Type 0
-LinkIn l x y = In (getD l (x * 2 + y / 64) 0) (y % 64)
+LinkIn l x y = In (getD l (x * 2 + y / wordDigits) 0) (y % wordDigits)
 
 -- the same for atoms and links that are counted from 1
 abbrev pub mayAtom : List ℕ → ℕ → ℕ → Type 0

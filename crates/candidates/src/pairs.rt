@@ -1,16 +1,14 @@
-// Sets of links, as pairs of words: the first has those below 64.
+// Sets of links, as pairs of words: the first has those below `DIGITS`.
 use crate::LINK_SETS;
 use crate::words::DIGITS;
 use crate::words::minus;
 use crate::words::one;
 ghost use mathlib.Core.Path.{_≡_};
-ghost use mathlib.Core.Bool.{true};
-ghost use mathlib.Core.Logic.{_⊎_};
 ghost use mathlib.Core.List.{[], _∷_};
-ghost use Prim.Native.Nat.{ℕ, _+_, _*_, _<_};
+ghost use Prim.Native.Nat.{_+_, _*_, _<_};
 ghost use lib.ListN.{getD, set};
 ghost use Rattle.rows.specs.Limits.{sheetLinks};
-ghost use Rattle.candidates.specs.Words.{InPair};
+ghost use Rattle.candidates.specs.Words.{emptyPair, commonPair, fewerPair, withLink};
 
 // The set of link x in the table.
 pub fn pair_at(links: &[u64; LINK_SETS], x: usize) -> [u64; 2]
@@ -31,9 +29,7 @@ pub fn set_pair(links: &mut [u64; LINK_SETS], x: usize, pair: [u64; 2])
 // A set with link y.
 pub fn with(pair: [u64; 2], y: usize) -> [u64; 2]
     requires { ⌜ y < sheetLinks ⌝ }
-    ensures kept { λ r. ⌜ ((z : ℕ) → z < sheetLinks → InPair pair z → InPair r z) ⌝ }
-    ensures there { λ r. ⌜ InPair r y ⌝ }
-    ensures only { λ r. ⌜ ((z : ℕ) → z < sheetLinks → InPair r z → InPair pair z ⊎ (z ≡ y)) ⌝ }
+    ensures { λ r. ⌜ r ≡ withLink pair y ⌝ }
 {
     let bit = one(y % DIGITS);
     if y < DIGITS {
@@ -43,19 +39,19 @@ pub fn with(pair: [u64; 2], y: usize) -> [u64; 2]
 }
 
 pub fn common(a: [u64; 2], b: [u64; 2]) -> [u64; 2]
-    ensures { λ r. ⌜ ((y : ℕ) → y < sheetLinks → InPair a y → InPair b y → InPair r y) ⌝ }
+    ensures { λ r. ⌜ r ≡ commonPair a b ⌝ }
 {
     [a[0] & b[0], a[1] & b[1]]
 }
 
 pub fn without(a: [u64; 2], b: [u64; 2]) -> [u64; 2]
-    ensures { λ r. ⌜ ((y : ℕ) → y < sheetLinks → InPair a y → ¬ InPair b y → InPair r y) × ((y : ℕ) → y < sheetLinks → InPair r y → ¬ InPair b y) ⌝ }
+    ensures { λ r. ⌜ r ≡ fewerPair a b ⌝ }
 {
     [minus(a[0], b[0]), minus(a[1], b[1])]
 }
 
 pub fn is_empty(a: [u64; 2]) -> bool
-    ensures { λ r. ⌜ (r ≡ true → (y : ℕ) → y < sheetLinks → ¬ InPair a y) ⌝ }
+    ensures { λ r. ⌜ r ≡ emptyPair a ⌝ }
 {
     a[0] | a[1] == 0
 }

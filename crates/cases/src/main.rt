@@ -1,7 +1,24 @@
 // Runs tasks on texts and prints each answer. Each argument is a case: a task's name and its files, with
 // a space before each file.
-use normalising::normalise::Normalised;
+use answers::TaskAnswer;
+use answers::Verdict;
+use answers::of_claimed;
+use answers::of_compared;
+use answers::of_done;
+use answers::of_normalised;
+use answers::row::answer_row;
+use answers::row::verdict_row;
+use answers::row::written_part;
+use claiming::claim::claim;
+use comparing::compare::compare;
+use filling::fill::fill;
+use finding::place::place;
+use libc::STDOUT_FILENO;
+use normalising::normalise::normalise_figure;
+use normalising::normalise::normalise_sheet;
 use rows::Sheet;
+use swapping::swap::swap;
+use task_files::read_named;
 ghost use Prim.Native.Nat.{_≤_};
 
 // Where the word that begins at `from` ends.
@@ -27,45 +44,55 @@ fn next_word(case: &[u8], end: usize) -> usize
     if end < case.len() { end + 1 } else { end }
 }
 
-fn normalise_as(figure: bool, text: &[u8], out: &mut [u8]) -> Normalised {
-    if figure {
-        normalising::normalise::normalise_figure(text, out)
-    } else {
-        normalising::normalise::normalise_sheet(text, out)
+fn print_answer(answer: TaskAnswer, out: &[u8]) {
+    io::write_all(STDOUT_FILENO, &answer_row(answer));
+    io::write_all(STDOUT_FILENO, written_part(answer, out));
+}
+
+fn print_verdict(verdict: Verdict) {
+    io::write_all(STDOUT_FILENO, &verdict_row(verdict));
+}
+
+// The task of this name on these texts; a text that it does not use is empty.
+fn run_task(task: &[u8], first: &[u8], second: &[u8], third: &[u8]) {
+    let mut out = [0u8; Sheet::SLIP];
+    if check::same(task, b"normalise") {
+        let done = normalise_sheet(first, &mut out);
+        print_answer(of_normalised(done), &out);
+    } else if check::same(task, b"normalise_figure") {
+        let done = normalise_figure(first, &mut out);
+        print_answer(of_normalised(done), &out);
+    } else if check::same(task, b"compare") {
+        print_verdict(of_compared(compare(first, second)));
+    } else if check::same(task, b"fill") {
+        let done = fill(first, second, &mut out);
+        print_answer(of_done(done), &out);
+    } else if check::same(task, b"place") {
+        let done = place(first, second, &mut out);
+        print_answer(of_done(done), &out);
+    } else if check::same(task, b"claim") {
+        print_verdict(of_claimed(claim(first, second, third)));
+    } else if check::same(task, b"swap") {
+        let done = swap(first, second, third, &mut out);
+        print_answer(of_done(done), &out);
     }
 }
 
-fn normalise_file(figure: bool, none: usize, name: &[u8]) {
-    let fd = task_files::open_input(none, name);
-    if fd < 0 {
+// The task of this name on the texts in the files of these names; a name that it does not use is empty.
+fn run_files(task: &[u8], first: &[u8], second: &[u8], third: &[u8]) {
+    let mut text = [0u8; Sheet::TEXT];
+    let input = read_named(first, &mut text);
+    let mut other = [0u8; Sheet::TEXT];
+    let other_input = read_named(second, &mut other);
+    let mut last = [0u8; Sheet::TEXT];
+    let last_input = read_named(third, &mut last);
+    if input.failed || other_input.failed || last_input.failed {
         return;
     }
-    let mut text = [0u8; Sheet::TEXT];
-    let n = task_files::read_input(fd, &mut text);
-    let mut out = io::buffer();
-    let done = normalise_as(figure, &text[..n], &mut out);
-    task_files::print_normalised(done, &out);
-}
-
-// The task of this name on the files of these names; a name that it does not use is empty.
-fn run_task(task: &[u8], first: &[u8], second: &[u8], third: &[u8]) {
-    // There is no such argument, so that the names count.
-    let none = os::arg_count();
-    if check::same(task, b"normalise") {
-        normalise_file(false, none, first);
-    } else if check::same(task, b"normalise_figure") {
-        normalise_file(true, none, first);
-    } else if check::same(task, b"compare") {
-        task_files::runs::compare_files(none, first, none, second);
-    } else if check::same(task, b"fill") {
-        task_files::runs::fill_files(none, first, none, second);
-    } else if check::same(task, b"place") {
-        task_files::runs::place_files(none, first, none, second);
-    } else if check::same(task, b"claim") {
-        task_files::runs::claim_files(none, first, none, second, none, third);
-    } else if check::same(task, b"swap") {
-        task_files::runs::swap_files(none, first, none, second, none, third);
-    }
+    let n = input.bytes;
+    let m = other_input.bytes;
+    let p = last_input.bytes;
+    run_task(task, &text[..n], &other[..m], &last[..p]);
 }
 
 fn run_case(case: &[u8]) {
@@ -77,7 +104,7 @@ fn run_case(case: &[u8]) {
     let second_end = word_end(case, second);
     let third = next_word(case, second_end);
     let third_end = word_end(case, third);
-    run_task(
+    run_files(
         &case[task..end],
         &case[first..first_end],
         &case[second..second_end],

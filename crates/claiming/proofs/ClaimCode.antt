@@ -17,9 +17,10 @@ use Rattle.rows.specs.declared.Sheet as form
 use Rattle.sheet.specs.declared.kind.Kind.the-variants.{Plain, Figure, Fillings}
 use Rattle.sheet.specs.declared.answer.Refusal.{Refusal}
 use Rattle.sheet.specs.declared.answer.Answer.the-variants as read
-use Rattle.placing.specs.Net.{Net, normalNet, Normal}
+use Rattle.placing.specs.Net.{Net, Normal}
 use Rattle.placing.specs.Placing.{Placing}
 use Rattle.placing.specs.Smallest.{smallest}
+use Rattle.placing.specs.TextNets.{sheetNet}
 use Rattle.network.specs.NetIn.{netIn, Fit}
 use Rattle.network.specs.Ready.{Ready}
 use Rattle.network.proofs.NetRead.{net-read, fit-read, normal-read}
@@ -35,7 +36,6 @@ use Rattle.filling.specs.Filled.{FilledIs}
 use Rattle.filling.proofs.Parts.{figure-within, figure-agrees, normal-low, low-counted}
 use Rattle.filling.proofs.Answers.{lacking-made, differing-made}
 use Rattle.filling.proofs.ResultNet.{result-sheet}
-use Rattle.finding.specs.Place.{sheetHeld}
 use Rattle.claiming.specs.Claim.{filledNet, placedClaim, claimedAnswer, claimAnswer}
 use Rattle.claiming.specs.Inputs.{ClaimInputs}
 use Rattle.answers.specs.declared.outcome.Claimed.the-variants.{Holds, Differs, Refused, BlankClash, EdgeDiffers}
@@ -79,9 +79,9 @@ module _ (s f list : List ℕ) where
   unfolding claimedAnswer
   answer-differing z n e h = rw (nought lack z, ← e, above n h)
 
-  answer-sized : lack ≡ 0 → differ ≡ 0 → (b : Bool) → tooLarge (filledBy f list) ≡ b → pick b Differs (placedClaim (smallest (normalNet (sheetHeld s)) (filledNet f list))) ≡ claimedAnswer s f list
+  answer-sized : lack ≡ 0 → differ ≡ 0 → (b : Bool) → tooLarge (filledBy f list) ≡ b → pick b Differs (placedClaim (smallest (sheetNet s) (filledNet f list))) ≡ claimedAnswer s f list
   unfolding claimedAnswer
-  answer-sized z y b t = rw (nought lack z, nought differ y) (ap (λ c. pick c Differs (placedClaim (smallest (normalNet (sheetHeld s)) (filledNet f list)))) (sym t))
+  answer-sized z y b t = rw (nought lack z, nought differ y) (ap (λ c. pick c Differs (placedClaim (smallest (sheetNet s) (filledNet f list)))) (sym t))
 
 pub figure-counted : (sheet figure : form.Sheet) (s f : List ℕ) → ClaimInputs sheet figure s f → Counted (figure .contexts) (figure .«context_count»)
 figure-counted sheet figure s f I = low-counted figure (subst Low (sym (I .of-figure)) (normal-low Figure (figureHeld f) (figure-within f) (figure-agrees f)))
@@ -97,7 +97,7 @@ module _ (sheet figure : form.Sheet) (heads : List Context) (n : ℕ) (ports lis
 
   module _ (z : clash ≡ 0) (other : ℕ) (D : other ≡ firstDiffering list (take n heads)) where
     differs : other ≡ differ s f list
-    differs = D ∙ ap₂ (λ (k : ℕ) (x : List Context). firstDiffering list (take k x)) (H .count) (H .contexts) ∙ differing-made f list
+    differs = D ∙ ap₂ (λ (k : ℕ) (x : List Context). firstDiffering list (take k x)) (H .read .count) (H .read .contexts) ∙ differing-made f list
 
     pub says-differing : (other ≡ 0 → ⊥) → EdgeDiffers 3 other ≡ claimedAnswer s f list
     says-differing h = answer-differing s f list (sym lacks ∙ z) other differs h

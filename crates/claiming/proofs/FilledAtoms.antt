@@ -16,14 +16,17 @@ use Rattle.rows.specs.declared.Context.{Context}
 use Rattle.reading.specs.Graph.{atomCell, contextCell, graphOf}
 use Rattle.reading.specs.Normal.{classOf, numberedBy, normalFormBy, normalForm}
 use Rattle.sheet.specs.declared.kind.Kind.{Kind}
-use Rattle.sheet.proofs.read.Ranges.{Every, every-append, ContextRange}
+use Rattle.sheet.specs.HeldLimits.{Every, ContextRange}
+use Rattle.sheet.proofs.read.Every.{every-append}
 use Rattle.texts.proofs.BuiltRows.{every-in}
 use Rattle.placing.specs.Net.{NetCell, atomVertex}
 use Rattle.placing.specs.Fillings.{Filling, rowsGraph}
 use Rattle.placing.specs.Holding.{marksFrom}
 use Rattle.placing.specs.Filled.{flatEntry, filledGraph, filledNormal}
-use Rattle.placing.proofs.Names.{symbolsIn, rows-atoms, marks-length}
-use Rattle.placing.proofs.FilledOrder.{putFor, putForAll, text-order}
+use Rattle.placing.specs.ListFits.{symbolsIn}
+use Rattle.placing.specs.FilledOrder.{putFor, putForAll}
+use Rattle.placing.proofs.Names.{rows-atoms, marks-length}
+use Rattle.placing.proofs.FilledOrder.{text-order}
 use Rattle.filling.proofs.ResultNet.{Atoms}
 use Rattle.finding.proofs.Blanks.{Covering}
 

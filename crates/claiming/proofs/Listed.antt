@@ -7,7 +7,7 @@ use Rattle.rows.specs.declared.Context.{Context}
 use Rattle.reading.specs.Graph.{graphOf}
 use Rattle.sheet.specs.Reading.{noPorts}
 use Rattle.sheet.specs.declared.kind.Kind.the-variants.{Figure}
-use Rattle.sheet.proofs.read.Ranges.{Every}
+use Rattle.sheet.specs.HeldLimits.{Every}
 use Rattle.sheet.proofs.read.HeldLimits.{held-within}
 use Rattle.placing.specs.Filled.{filledGraph}
 use Rattle.filling.specs.Read.{listHeld, fillingRead, fillingsRead}

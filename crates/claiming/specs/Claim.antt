@@ -10,13 +10,13 @@ use Rattle.sheet.specs.Reading.{outcomeOf, noPorts}
 use Rattle.sheet.specs.declared.kind.Kind.the-variants.{Plain, Figure, Fillings}
 use Rattle.sheet.specs.declared.answer.Answer.{Answer}
 use Rattle.sheet.specs.declared.answer.Answer.the-variants as read
-use Rattle.placing.specs.Net.{Net, netOf, normalNet}
+use Rattle.placing.specs.Net.{Net, netOf}
 use Rattle.placing.specs.Placing.{Placing}
 use Rattle.placing.specs.Filled.{filledNormal}
 use Rattle.placing.specs.Smallest.{smallest}
+use Rattle.placing.specs.TextNets.{sheetNet}
 use Rattle.filling.specs.Read.{listHeld, fillingsRead}
 use Rattle.filling.specs.Fill.{figureHeld, firstLacking, firstDiffering, filledBy, tooLarge}
-use Rattle.finding.specs.Place.{sheetHeld}
 use Rattle.answers.specs.declared.outcome.Claimed.{Claimed}
 use Rattle.answers.specs.declared.outcome.Claimed.the-variants.{Holds, Differs, Refused, BlankClash, EdgeDiffers}
 
@@ -34,7 +34,7 @@ unfoldable pub claimedAnswer : List ℕ → List ℕ → List ℕ → Claimed
 claimedAnswer sheet figure list =
     pick (ltb 0 (firstLacking (listHeld list .contexts) (figureHeld figure .contexts))) (BlankClash 2 (firstLacking (listHeld list .contexts) (figureHeld figure .contexts)))
     (pick (ltb 0 (firstDiffering list (listHeld list .contexts))) (EdgeDiffers 3 (firstDiffering list (listHeld list .contexts)))
-    (pick (tooLarge (filledBy figure list)) Differs (placedClaim (smallest (normalNet (sheetHeld sheet)) (filledNet figure list)))))
+    (pick (tooLarge (filledBy figure list)) Differs (placedClaim (smallest (sheetNet sheet) (filledNet figure list)))))
 
 -- an input that is refused at a row, or what comes next
 abbrev pub claimUnless : Answer → ℕ → Claimed → Claimed

@@ -5,7 +5,7 @@ use mathlib.Core.List.{List}
 use Rattle.reading.specs.NormalSheet.{packedNormal}
 use Rattle.rows.specs.declared.Sheet as form
 use Rattle.filling.specs.Fill.{figureHeld}
-use Rattle.finding.specs.Place.{sheetHeld}
+use Rattle.placing.specs.TextNets.{sheetHeld}
 
 pub record ClaimInputs (sheet figure : form.Sheet) (sheetText figureText : List ℕ) : Type 0 where
   pub of-sheet : sheet ≡ packedNormal (sheetHeld sheetText)

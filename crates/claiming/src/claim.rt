@@ -14,7 +14,6 @@ use sheet::answer::Answer;
 ghost use mathlib.Core.Path.{_≡_};
 ghost use mathlib.Core.List.{List};
 ghost use Prim.Native.Nat.{ℕ};
-ghost use Rattle.sheet.specs.Filling.{Passes};
 ghost use Rattle.placing.specs.Smallest.{smallest};
 ghost use Rattle.network.specs.NetIn.{netIn};
 ghost use Rattle.network.specs.Ready.{Ready};
@@ -51,7 +50,7 @@ fn claim_read(
     ports: [u16; Sheet::NUMBERS],
     list: &[u8],
 ) -> Claimed
-    requires { ⌜ ((s : List ℕ) × ((f : List ℕ) × ClaimInputs sheet figure s f)) × Headed heads «head_count» ports (now list) × Passes (now list) ⌝ }
+    requires { ⌜ ((s : List ℕ) × ((f : List ℕ) × ClaimInputs sheet figure s f)) × Headed heads «head_count» ports (now list) ⌝ }
     ensures { λ r. ⌜ ((s f : List ℕ) → ClaimInputs sheet figure s f → r ≡ claimedAnswer s f (now (list .entry))) ⌝ }
 {
     let contexts = figure.contexts;
@@ -60,7 +59,7 @@ fn claim_read(
         return Claimed::BlankClash(2, clash);
     }
     let mut exact = [0u16; Sheet::NUMBERS];
-    let filled = normal_filled(figure, list, &mut exact);
+    let filled = normal_filled(figure, list, heads, head_count, &mut exact);
     let other = first_differing(heads, head_count, list, &exact);
     if other != 0 {
         return Claimed::EdgeDiffers(3, other);

@@ -12,6 +12,7 @@ use Rattle.sheet.specs.declared.answer.Answer.the-variants as read
 use Rattle.placing.specs.Net.{normalNet}
 use Rattle.placing.specs.Placing.{Placing}
 use Rattle.placing.specs.Smallest.{smallest}
+use Rattle.placing.specs.TextNets.{sheetHeld}
 use Rattle.answers.specs.declared.outcome.Compared.{Compared}
 use Rattle.answers.specs.declared.outcome.Compared.the-variants.{Same, Differs, Refused}
 
@@ -32,5 +33,4 @@ comparedBy read.Passed read.Passed same = pick same Same Differs
 -- what comparing two texts answers
 unfoldable pub compareAnswer : List ℕ → List ℕ → Compared
 compareAnswer a b =
-    comparedBy (outcomeOf Plain noPorts a .answer) (outcomeOf Plain noPorts b .answer)
-    (sameTest (outcomeOf Plain noPorts a .held) (outcomeOf Plain noPorts b .held))
+    comparedBy (outcomeOf Plain noPorts a .answer) (outcomeOf Plain noPorts b .answer) (sameTest (sheetHeld a) (sheetHeld b))

@@ -76,7 +76,7 @@ module _ (S F : Net) (q : Placing) where
                 b : Beside S F q j j′
                 b = record { first-other = o; second-other = (r, n); link = y; first = m; second = m′; unused = u }
 
-    pub completed-good : Good S F whole
+    pub completed-good : Good S F (completed q g)
     completed-good = record {
       sending = record {
         atoms-sent = a .atoms-sent;
@@ -96,5 +96,5 @@ module _ (S F : Net) (q : Placing) where
       own-links = λ j r n y m. own j (r, λ t. n (from-q j t)) y m;
     }
 
-    pub completed-completion : Completion S F q un whole
+    pub completed-completion : Completion S F q un (completed q g)
     completed-completion = record { good = completed-good; same-atoms = refl; settled = λ x r n. refl }

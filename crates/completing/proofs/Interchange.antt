@@ -9,7 +9,8 @@ use Rattle.hyperlmntal.specs.Link.{_∈_}
 use Rattle.hyperlmntal.proofs.Lists.{map-agree}
 use Rattle.placing.specs.Net.{NetCell, Net, Range, Normal}
 use Rattle.placing.specs.Placing.{Placing, cellAt, linkTo, givenTo, Taken, At, Linked, PortAt, Inside, Good}
-use Rattle.placing.proofs.Lists.{table, table-length, table-at}
+use Rattle.placing.specs.Smallest.{table}
+use Rattle.placing.proofs.Lists.{table-length, table-at}
 use Rattle.placing.proofs.Standing.{context-link, mark-link, place-link}
 use Rattle.completing.specs.Completion.{Open, Partial, Completion, Completable, put, remove, SameContexts}
 use Rattle.network.proofs.Swapped.{swapped, swapped-cases, swapped-second, swapped-other, swapped-twice}

@@ -6,7 +6,8 @@ use native.Mathlib.Omega.{arith}
 use lib.ListN.{length}
 use Rattle.placing.specs.Net.{Net, Range}
 use Rattle.placing.specs.Placing.{Placing, numberAt, Taken}
-use Rattle.placing.proofs.Lists.{table, table-length, table-at}
+use Rattle.placing.specs.Smallest.{table}
+use Rattle.placing.proofs.Lists.{table-length, table-at}
 use Rattle.completing.specs.Fault.{Other, Number, Allowed, NoFault, LeastContext, LeastGiven}
 use Rattle.completing.proofs.Decide.{dec-and, LeastOf, least-of, other-dec, allowed-dec, number-dec}
 

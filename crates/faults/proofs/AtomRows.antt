@@ -1,6 +1,6 @@
 -- The rows of atoms that are laid out, as atoms of a net.
-use Prim.Native.Nat.{ℕ, zero, suc, _+_, _*_, _≤_, _<_}
-use mathlib.Core.Path.{_≡_, refl, sym, _∙_, ap, subst}
+use Prim.Native.Nat.{ℕ, suc, _+_, _*_, _≤_, _<_}
+use mathlib.Core.Path.{_≡_, sym, _∙_, ap, subst}
 use native.Mathlib.Omega.{arith}
 use mathlib.Core.List.{List}
 use lib.ListN.{getD}
@@ -14,6 +14,7 @@ use Rattle.placing.specs.Placing.{cellAt}
 use Rattle.placing.proofs.Lists.{member-at, getD-of}
 use Rattle.placing.proofs.Standing.{place-link}
 use Rattle.candidates.specs.Laid.{laidAt, laidAtom, Rowed}
+use Rattle.candidates.proofs.Laying.{link-laid, count-laid}
 use Rattle.stepping.specs.Chains.{RowIn}
 use Rattle.faults.specs.Parts.{StandsOn}
 
@@ -40,18 +41,10 @@ module _ (laid : List ℕ) (atoms j : ℕ) (h : j < atoms) (a : Atom) (e : a ≡
 
 -- What stands in row j of those laid out.
 pub laid-count : (laid : List ℕ) (j : ℕ) → laidAt laid j 1 ≡ laidAtom laid j .count
-unfolding laidAtom
-laid-count laid j = refl
+laid-count laid j = sym (count-laid laid j)
 
 pub laid-link : (laid : List ℕ) (j k : ℕ) → k < mostLinks → getD laid (j * fieldCount + 2 + k) 0 ≡ getD (laidAtom laid j .links) k 0
-unfolding laidAtom
-laid-link laid j zero h = ap (λ (n : ℕ). getD laid n 0) (omega arith)
-laid-link laid j (suc zero) h = ap (λ (n : ℕ). getD laid n 0) (omega arith)
-laid-link laid j (suc (suc zero)) h = ap (λ (n : ℕ). getD laid n 0) (omega arith)
-laid-link laid j (suc (suc (suc zero))) h = ap (λ (n : ℕ). getD laid n 0) (omega arith)
-laid-link laid j (suc (suc (suc (suc zero)))) h = ap (λ (n : ℕ). getD laid n 0) (omega arith)
-laid-link laid j (suc (suc (suc (suc (suc zero))))) h = ap (λ (n : ℕ). getD laid n 0) (omega arith)
-laid-link laid j (suc (suc (suc (suc (suc (suc k)))))) h = absurd (omega arith)
+laid-link laid j k h = ap (λ (q : ℕ). getD laid q 0) (let e : j * fieldCount + 2 + k ≡ j * fieldCount + (2 + k) = omega arith in e) ∙ sym (link-laid laid j k h)
 
 module _ (laid : List ℕ) (atoms j : ℕ) (r : Rowed laid atoms) (h : j < atoms) where
   pub laid-few : laidAt laid j 1 ≤ mostLinks

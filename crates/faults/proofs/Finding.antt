@@ -94,14 +94,14 @@ module _ {sheet figure : form.Sheet} {nets : Nets} {laid chains to : List ℕ} (
     abbrev q : Placing
     q = stateIn figure atoms to
 
-    pub apart-found : (y : ℕ) (given : List ℕ) → y ≢ 0 → Apart (nets .contexts) (nets .rows) (nets .count) to none y → Finds sheet figure q (record { found = true; links = set (replicate 96 0) (y - 1) 1; given = given })
+    pub apart-found : (y : ℕ) (given : List ℕ) → y ≢ 0 → Apart (nets .contexts) (nets .rows) (nets .count) to none y → Finds sheet figure q (record { found = true; links = set (replicate sheetLinks 0) (y - 1) 1; given = given })
     apart-found y given n w = record {
       none-found = λ e. absurd (let z : _≡_ {A = ℕ} 0 1 = cc in omega arith);
       some-found = λ e. (
         y ∷ [],
         faults.apart y (two-apart S figure (ready .figure-fit) atoms to none last within y n (apart-in y w)),
         λ z m.
-            subst (λ (i : ℕ). _≡_ {A = ℕ} (getD (set (replicate 96 0) (y - 1) 1) (i - 1) 0) 1) (sym (List·Memᴰ·eq-of-singleton m)) (getD-set-same (replicate 96 0) (y - 1) 1 0 (apart-room y n w)),
+            subst (λ (i : ℕ). _≡_ {A = ℕ} (getD (set (replicate sheetLinks 0) (y - 1) 1) (i - 1) 0) 1) (sym (List·Memᴰ·eq-of-singleton m)) (getD-set-same (replicate sheetLinks 0) (y - 1) 1 0 (apart-room y n w)),
       );
     }
 

@@ -134,8 +134,8 @@ pub one-cut : (S F : Net) (q : Placing) (root : ℕ) (before after : Given) (lin
 one-cut S F q root before after links c = record { none-found = λ e. absurd (let z : _≡_ {A = ℕ} 0 1 = cc in omega arith); some-found = λ e. c }
 
 -- At the start, and at the end.
-pub given-start : (S F : Net) (q : Placing) → GivenAt S F q (record { contexts = replicate 64 0; done = replicate 64 0 })
-given-start S F q = record { least = λ j e. absurd (zeros-not 64 j e); not-yet = λ j n. zeros 64 j }
+pub given-start : (S F : Net) (q : Placing) → GivenAt S F q (record { contexts = replicate sheetAtoms 0; done = replicate sheetAtoms 0 })
+given-start S F q = record { least = λ j e. absurd (zeros-not sheetAtoms j e); not-yet = λ j n. zeros sheetAtoms j }
 
 module _ (S F : Net) (q : Placing) (atoms : ℕ) (size : length (S .atoms) ≡ atoms) (taken : List ℕ) (t : TakenFlags S F q atoms taken) where
   pub other-at : (j : ℕ) → j < atoms → getD taken j 0 ≢ 1 → Other S F q (suc j)

@@ -7,7 +7,7 @@ use native.Mathlib.Omega.{arith}
 use lib.ListN.{length, getD, set, replicate, length-set}
 use lib.Seq.{getD-set-same, take-suc-set}
 use Rattle.hyperlmntal.specs.Link.{_∈_}
-use Rattle.rows.specs.Limits.{sheetAtoms}
+use Rattle.rows.specs.Limits.{sheetAtoms, contextRoom, sheetLinks}
 use Rattle.placing.specs.Net.{Net}
 use Rattle.placing.specs.Placing.{Placing, cellAt}
 use Rattle.candidates.specs.Laid.{laidAtom}
@@ -22,14 +22,14 @@ use Rattle.faults.proofs.Growing.{listed-in, listed-of}
 -- The start: one atom, no link.
 module _ (atoms root : ℕ) (h : root < atoms) (few : atoms ≤ sheetAtoms) where
   abbrev pub alone : List ℕ
-  alone = set (replicate 64 0) root 1
+  alone = set (replicate sheetAtoms 0) root 1
 
-  pub holds-start : (S F : Net) (q : Placing) → Other S F q (suc root) → Holds S F q (suc root) (suc root ∷ []) alone (replicate 96 0) []
+  pub holds-start : (S F : Net) (q : Placing) → Other S F q (suc root) → Holds S F q (suc root) (suc root ∷ []) alone (replicate sheetLinks 0) []
   holds-start S F q o = record {
     connected = part-start S F q (suc root) o;
-    flagged = λ j e. ⊎-elim (λ b. absurd (b (zeros 64 j))) (λ b. List·Memᴰ·head (ap suc b)) (store-mark (replicate 64 0) root 1 j e);
+    flagged = λ j e. ⊎-elim (λ b. absurd (b (zeros sheetAtoms j))) (λ b. List·Memᴰ·head (ap suc b)) (store-mark (replicate sheetAtoms 0) root 1 j e);
     looked = λ y m. absurd (List·Memᴰ·not-nil m);
-    flagged-seen = λ y e. absurd (zeros-not 96 y e);
+    flagged-seen = λ y e. absurd (zeros-not sheetLinks y e);
   }
 
   module _ (order : List ℕ) (room : length order ≡ sheetAtoms) where
@@ -38,7 +38,7 @@ module _ (atoms root : ℕ) (h : root < atoms) (few : atoms ≤ sheetAtoms) wher
     sized-start = record {
       order-room = simp length-set room;
       members-room = simp length-set;
-      counted = sym (marks-set (replicate 64 0) root 1 (omega arith) (zeros 64 root) (λ z. omega arith));
+      counted = sym (marks-set (replicate sheetAtoms 0) root 1 (omega arith) (zeros sheetAtoms root) (λ z. omega arith));
       most = omega arith;
       listed = λ k l. let e : k ≡ 0 = omega arith in subst (λ (n : ℕ). getD (set order 0 root) n 0 < atoms) (sym e) (subst (λ (n : ℕ). n < atoms) (sym (getD-set-same order 0 root 0 (omega arith))) h);
     }
@@ -46,11 +46,11 @@ module _ (atoms root : ℕ) (h : root < atoms) (few : atoms ≤ sheetAtoms) wher
     atoms-start : atomsOf (growth (set order 0 root) 1 alone) ≡ suc root ∷ []
     atoms-start = ap (map suc) (take-suc-set order 0 root (omega arith))
 
-    pub grows-start : (S F : Net) (q : Placing) (contexts : ℕ) → contexts < 9 → Other S F q (suc root) → Grows S F q (suc root) contexts (growth (set order 0 root) 1 alone) (replicate 96 0) (replicate 9 0)
+    pub grows-start : (S F : Net) (q : Placing) (contexts : ℕ) → contexts < contextRoom → Other S F q (suc root) → Grows S F q (suc root) contexts (growth (set order 0 root) 1 alone) (replicate sheetLinks 0) (replicate contextRoom 0)
     grows-start S F q contexts c o = record {
       seen = [];
-      holds = subst (λ (l : List ℕ). Holds S F q (suc root) l alone (replicate 96 0) []) (sym atoms-start) (holds-start S F q o);
-      serves = λ i l. ((λ e. serves-start S F q _), (λ s. zeros 9 i));
+      holds = subst (λ (l : List ℕ). Holds S F q (suc root) l alone (replicate sheetLinks 0) []) (sym atoms-start) (holds-start S F q o);
+      serves = λ i l. ((λ e. serves-start S F q _), (λ s. zeros contextRoom i));
       all-atoms = λ y j m. absurd (List·Memᴰ·not-nil m);
     }
 

@@ -8,7 +8,7 @@ use lib.ListN.{length, take, getD, set}
 use Rattle.hyperlmntal.specs.Link.{_∈_}
 use Rattle.rows.specs.Pick.{pick}
 use Rattle.rows.specs.Format.{mostLinks}
-use Rattle.rows.specs.Limits.{sheetAtoms, sheetLinks, figureContexts}
+use Rattle.rows.specs.Limits.{sheetAtoms, sheetLinks, contextRoom}
 use Rattle.placing.specs.Net.{Net, Range, Normal}
 use Rattle.placing.specs.Placing.{Placing, numberAt, cellAt, Across, PortAt}
 use Rattle.candidates.specs.Laid.{laidAtom}
@@ -110,7 +110,7 @@ pub record Enlarged (atoms : ℕ) (g : Growth) (flags : List ℕ) (r : Growth) (
   pub longer : Longer g r
   pub flags-room : length flagsNow ≡ sheetLinks
   pub flags-kept : Kept flags flagsNow
-  pub cuts-room : length cutsNow ≡ figureContexts + 1
+  pub cuts-room : length cutsNow ≡ contextRoom
 
 -- grown out
 pub record WholeAt (S F : Net) (q : Placing) (root contexts : ℕ) (g : Growth) (flags cuts : List ℕ) : Type 0 where

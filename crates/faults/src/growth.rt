@@ -11,7 +11,7 @@ use stepping::contexts::cut_at;
 ghost use mathlib.Core.Path.{_≡_};
 ghost use Prim.Native.Nat.{_+_, _-_, _<_, _≤_};
 ghost use lib.ListN.{length, getD, replicate};
-ghost use Rattle.rows.specs.Limits.{sheetAtoms, sheetLinks, figureContexts};
+ghost use Rattle.rows.specs.Limits.{sheetAtoms, sheetLinks, figureContexts, contextRoom};
 ghost use Rattle.candidates.specs.Laid.{Rowed, laidAtom};
 ghost use Rattle.stepping.specs.Chains.{nodeOf, Falls};
 ghost use Rattle.faults.specs.Grows.{growth, Sized, Longer, WithAtoms, WithLink, WithLinks, Enlarged, Whole};
@@ -58,7 +58,7 @@ fn with_link(
     contexts: usize,
     from: usize,
 ) -> usize
-    requires { ⌜ (y < sheetLinks) × (atoms ≤ sheetAtoms) × (contexts ≤ figureContexts) × Sized atoms (growth (now order) count (now way)) × (length (now seen) ≡ sheetLinks) × (length (now cuts) ≡ figureContexts + 1) × (from < sheetAtoms) × Falls (nodeOf atoms 0) (now chains) ⌝ }
+    requires { ⌜ (y < sheetLinks) × (atoms ≤ sheetAtoms) × (contexts ≤ figureContexts) × Sized atoms (growth (now order) count (now way)) × (length (now seen) ≡ sheetLinks) × (length (now cuts) ≡ contextRoom) × (from < sheetAtoms) × Falls (nodeOf atoms 0) (now chains) ⌝ }
     ensures { λ r. ⌜ Enlarged atoms (growth (now (order .entry)) count (now (way .entry))) (now (seen .entry)) (growth (now (order .exit)) r (now (way .exit))) (now (seen .exit)) (now (cuts .exit)) × (getD (now (seen .exit)) y 0 ≡ 1) × WithLink (now (chains .entry)) (now (used .entry)) (now (ports .entry)) y atoms contexts (growth (now (order .entry)) count (now (way .entry))) (now (seen .entry)) (now (cuts .entry)) (growth (now (order .exit)) r (now (way .exit))) (now (seen .exit)) (now (cuts .exit)) ⌝ }
 {
     if seen[y] == 1 {
@@ -88,7 +88,7 @@ fn with_links(
     contexts: usize,
     from: usize,
 ) -> usize
-    requires { ⌜ Rowed (now laid) atoms × (from < atoms) × (contexts ≤ figureContexts) × Sized atoms (growth (now order) count (now way)) × (length (now seen) ≡ sheetLinks) × (length (now cuts) ≡ figureContexts + 1) × Falls (nodeOf atoms 0) (now chains) ⌝ }
+    requires { ⌜ Rowed (now laid) atoms × (from < atoms) × (contexts ≤ figureContexts) × Sized atoms (growth (now order) count (now way)) × (length (now seen) ≡ sheetLinks) × (length (now cuts) ≡ contextRoom) × Falls (nodeOf atoms 0) (now chains) ⌝ }
     ensures { λ r. ⌜ Enlarged atoms (growth (now (order .entry)) count (now (way .entry))) (now (seen .entry)) (growth (now (order .exit)) r (now (way .exit))) (now (seen .exit)) (now (cuts .exit)) × WithLinks (now (chains .entry)) (now (used .entry)) (now (ports .entry)) (laidAtom (now (laid .entry)) from .links) (laidAtom (now (laid .entry)) from .count) atoms contexts (growth (now (order .entry)) count (now (way .entry))) (now (seen .entry)) (now (cuts .entry)) (growth (now (order .exit)) r (now (way .exit))) (now (seen .exit)) (now (cuts .exit)) ⌝ }
 {
     let at = from * Sheet::FIELDS;
@@ -130,7 +130,7 @@ pub(crate) fn grown(
     contexts: usize,
     root: usize,
 ) -> usize
-    requires { ⌜ Rowed (now laid) atoms × (root < atoms) × (contexts ≤ figureContexts) × (length (now order) ≡ sheetAtoms) × (now way ≡ replicate 64 0) × (now seen ≡ replicate 96 0) × (now cuts ≡ replicate 9 0) × Falls (nodeOf atoms 0) (now chains) ⌝ }
+    requires { ⌜ Rowed (now laid) atoms × (root < atoms) × (contexts ≤ figureContexts) × (length (now order) ≡ sheetAtoms) × (now way ≡ replicate sheetAtoms 0) × (now seen ≡ replicate sheetLinks 0) × (now cuts ≡ replicate contextRoom 0) × Falls (nodeOf atoms 0) (now chains) ⌝ }
     ensures { λ r. ⌜ Sized atoms (growth (now (order .exit)) r (now (way .exit))) × Whole (now (laid .entry)) atoms (now (chains .entry)) (now (used .entry)) (now (ports .entry)) root contexts (growth (now (order .exit)) r (now (way .exit))) (now (seen .exit)) (now (cuts .exit)) ⌝ }
 {
     order[0] = root as u8;

@@ -9,9 +9,9 @@ use lib.Dec.{eqb, ltb}
 use lib.ListN.{length, getD, take, length-map, length-take}
 use Rattle.rows.specs.Pick.{pick, or}
 use Rattle.rows.specs.Format.{rowWidth}
-use Rattle.rows.specs.Limits.{sheetAtoms, sheetLinks, figureContexts}
+use Rattle.rows.specs.Limits.{sheetAtoms, sheetLinks, atomRoom, contextRoom}
 use Rattle.rows.specs.Held.{Held}
-use Rattle.rows.specs.Packed.{padded, noContext, portTable}
+use Rattle.rows.specs.Packed.{padded, noContext, portTable, portsOf}
 use Rattle.rows.specs.TextArrays.{packed}
 use Rattle.rows.specs.declared.Context.{Context}
 use Rattle.rows.proofs.Padding.{take-padded}
@@ -26,13 +26,14 @@ use Rattle.sheet.specs.declared.answer.Refusal.{Refusal}
 use Rattle.sheet.specs.declared.answer.Answer.the-variants.{Passed, Refused}
 use Rattle.sheet.specs.declared.kind.Kind.{Kind}
 use Rattle.sheet.specs.declared.kind.Kind.the-variants.{Figure, Fillings}
-use Rattle.sheet.proofs.read.Ranges.{Every, ContextRange}
+use Rattle.sheet.specs.HeldLimits.{Every, ContextRange}
 use Rattle.placing.specs.Net.{netOf}
 use Rattle.placing.specs.Filled.{filledNormal}
 use Rattle.network.specs.NetIn.{netIn, Fit}
-use Rattle.filling.specs.Read.{listHeld, fillingsRead}
+use Rattle.texts.proofs.NormalFits.{every-member}
+use Rattle.filling.specs.Read.{listHeld, fillingRead, fillingsRead}
 use Rattle.answers.specs.Done.{slipAfter}
-use Rattle.filling.specs.Fill.{figureHeld, firstLacking, firstDiffering, filledBy, filledText, tooLarge, filledAnswer, fillAnswer, fillSlip}
+use Rattle.filling.specs.Fill.{figureHeld, isExact, firstLacking, firstDiffering, filledBy, filledText, tooLarge, filledAnswer, fillAnswer, fillSlip}
 use Rattle.filling.specs.Parts.{firstUnported}
 use Rattle.filling.specs.Glued.{Own, joinedAll, allPairs, Glues}
 use Rattle.filling.specs.Classes.{Made}
@@ -40,7 +41,7 @@ use Rattle.answers.specs.declared.outcome.Done.{Done}
 use Rattle.answers.specs.declared.outcome.Done.the-variants as done
 use Rattle.filling.proofs.Exact.{Rowed, none-lacking, exact-each}
 use Rattle.filling.proofs.Parts.{figure-within, list-within}
-use Rattle.filling.proofs.Located.{Right}
+use Rattle.filling.specs.Right.{Right}
 use Rattle.filling.proofs.Labelled.{labels}
 use Rattle.filling.proofs.Shown.{taken-contexts}
 use Rattle.filling.proofs.Result.{classes, class-count}
@@ -69,19 +70,21 @@ module _ (figure list : List ℕ) where
   lacking-made =
       let h = figureHeld figure in
       let l = map (normalContext h) (h .contexts) in
-      ap (λ (n : ℕ). firstUnported (portTable (listHeld list .contexts)) (take n (padded (figureContexts + 1) noContext l))) (sym (length-map (h .contexts) (normalContext h)))
-      ∙ ap (firstUnported (portTable (listHeld list .contexts))) (take-padded (figureContexts + 1) noContext l)
+      ap (λ (n : ℕ). firstUnported (portTable (listHeld list .contexts)) (take n (padded contextRoom noContext l))) (sym (length-map (h .contexts) (normalContext h)))
+      ∙ ap (firstUnported (portTable (listHeld list .contexts))) (take-padded contextRoom noContext l)
       ∙ unported-normal (portTable (listHeld list .contexts)) h (h .contexts)
       ∙ unported (listHeld list .contexts) (figureHeld figure .contexts) (figure-within figure .ranges .contexts)
 
   pub differing-made : firstDiffering list (take (packed (listHeld list) .«context_count») (packed (listHeld list) .contexts)) ≡ firstDiffering list (listHeld list .contexts)
-  differing-made = ap (firstDiffering list) (take-padded (figureContexts + 1) noContext (listHeld list .contexts))
+  differing-made = ap (firstDiffering list) (take-padded contextRoom noContext (listHeld list .contexts))
 
   pub right-fillings : firstLacking (listHeld list .contexts) (figureHeld figure .contexts) ≡ 0 → firstDiffering list (listHeld list .contexts) ≡ 0 → Right figure list
   right-fillings a b =
       record {
-        ported = none-lacking (listHeld list .contexts) (figureHeld figure .contexts) (rowed Figure (figureHeld figure .contexts) (figure-within figure .ranges .contexts)) a;
-        exact = exact-each list (listHeld list .contexts) (rowed Fillings (listHeld list .contexts) (list-within list .ranges .contexts)) b;
+        ported = λ c i. every-member (λ (d : Context). portsOf (listHeld list .contexts) (d .number) ≡ suc (d .count)) (figureHeld figure .contexts) c
+            (none-lacking (listHeld list .contexts) (figureHeld figure .contexts) (rowed Figure (figureHeld figure .contexts) (figure-within figure .ranges .contexts)) a) i;
+        exact = λ c i. every-member (λ (d : Context). isExact (fillingRead list d) ≡ true) (listHeld list .contexts) c
+            (exact-each list (listHeld list .contexts) (rowed Fillings (listHeld list .contexts) (list-within list .ranges .contexts)) b) i;
       }
 
   above : (n : ℕ) → (n ≡ 0 → ⊥) → ltb 0 n ≡ true
@@ -122,7 +125,7 @@ module _ (figure list : List ℕ) where
         subst (λ l. Made list l (packedNormal (figureHeld figure)) r)
         (made .1 .0 .2 ∙ ap (λ l. joinedAll (made .1 .0 .0) (allPairs list 1 l)) (taken-contexts figure list right own O)) (made .1 .1)
 
-    atoms-size : r .«atom_count» ≡ length (take (sheetAtoms + 1) (madeAtoms figure list right own O))
+    atoms-size : r .«atom_count» ≡ length (take atomRoom (madeAtoms figure list right own O))
     atoms-size = is-made .atomCount
 
     large : (p q : ℕ) → length (filledBy figure list .atoms) ≡ p → length (classes figure list right own O) ≡ q → tooLarge (filledBy figure list) ≡ or (ltb sheetAtoms p) (ltb sheetLinks q)
@@ -131,12 +134,12 @@ module _ (figure list : List ℕ) where
     pub large-atoms : sheetAtoms < r .«atom_count» → tooLarge (filledBy figure list) ≡ true
     large-atoms h =
         let n = length (madeAtoms figure list right own O) in
-        let q : sheetAtoms < n = omega (arith, atoms-size, length-take (sheetAtoms + 1) (madeAtoms figure list right own O)) in
+        let q : sheetAtoms < n = omega (arith, atoms-size, length-take atomRoom (madeAtoms figure list right own O)) in
         large n (length (classes figure list right own O)) (atom-count figure list right own O) refl ∙ ap (λ t. or t (ltb sheetLinks (length (classes figure list right own O)))) (lt-ltb sheetAtoms n q)
 
     module _ (few : r .«atom_count» ≤ sheetAtoms) where
       small : length (madeAtoms figure list right own O) ≤ sheetAtoms
-      small = omega (arith, atoms-size, length-take (sheetAtoms + 1) (madeAtoms figure list right own O))
+      small = omega (arith, atoms-size, length-take atomRoom (madeAtoms figure list right own O))
 
       classes-size : r .«class_count» ≡ length (take (sheetLinks + 1) (classes figure list right own O))
       classes-size = is-made .classCount ∙ ap length (labels-seen figure list right own O small)
@@ -165,7 +168,7 @@ module _ (figure list : List ℕ) where
         pub net-is : netIn r ≡ netOf (filledNormal (graphOf (figureHeld figure)) (fillingsRead list))
         net-is = made-net figure list right own O r is-made small thin
 
-        pub fit-is : length (r .atoms) ≡ sheetAtoms + 1 → length (r .contexts) ≡ figureContexts + 1 → Fit r
+        pub fit-is : length (r .atoms) ≡ atomRoom → length (r .contexts) ≡ contextRoom → Fit r
         fit-is = made-fit figure list right own O r is-made small thin
 
 -- The whole call.

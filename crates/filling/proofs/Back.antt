@@ -12,22 +12,17 @@ use Rattle.sheet.specs.Reading.{outcomeOf, noPorts}
 use Rattle.sheet.specs.declared.kind.Kind.the-variants.{Plain, Pattern}
 use Rattle.sheet.specs.declared.answer.Answer.the-variants.{Passed}
 use Rattle.texts.proofs.BuiltRows.{heldAtom}
-use Rattle.placing.specs.Net.{NetCell, Net, netOf, normalNet}
+use Rattle.placing.specs.Net.{NetCell, Net, netOf}
 use Rattle.placing.specs.Placing.{Placing, Good}
 use Rattle.placing.specs.Fillings.{Row, symbolRow, Filling, rowsGraph, symbolOf, markOf, netRows, normalFilling, fillingsOf, normalFillingsOf}
 use Rattle.placing.specs.ListText.{listText}
-use Rattle.placing.proofs.Names.{symbolsIn}
-use Rattle.placing.proofs.ListRows.{pointsIn, edgesIn}
-use Rattle.placing.proofs.ListBack.{listHeads, ListFits, list-heads}
+use Rattle.placing.specs.ListFits.{symbolsIn, pointsIn, edgesIn, ListFits, Ordered}
+use Rattle.placing.specs.TextNets.{sheetNet, patternNet}
+use Rattle.placing.proofs.ListBack.{listHeads, list-heads}
 use Rattle.placing.proofs.ListParts.{part-atoms, part-points, part-edges}
-use Rattle.placing.proofs.Theorems.{heldSheet, heldPattern}
 use Rattle.placing.proofs.PlacedText.{text-fits}
 use Rattle.placing.proofs.NormalRowsFit.{symbols-of-net}
 use Rattle.filling.specs.Read.{symbolRead, pointRead, rowsRead, partHeld, fillingRead, fillingsRead}
-
--- S rows, then F rows, then E rows.
-abbrev pub Ordered : List Row → Type 0
-Ordered r = map symbolOf (symbolsIn r) ++ (map pointRead (pointsIn r) ++ map markOf (edgesIn r)) ≡ r
 
 symbol-read : (c : NetCell) → symbolRead (heldAtom c) ≡ symbolOf c
 symbol-read c = ap (symbolRow (c .0)) (take-padded mostLinks 0 (c .1))
@@ -68,10 +63,10 @@ net-ordered N =
 
 -- The list that a good placing gives is read back as the fillings of that placing.
 pub placed-back : (sheet pattern : List ℕ) → outcomeOf Plain noPorts sheet .answer ≡ Passed → outcomeOf Pattern noPorts pattern .answer ≡ Passed
-    → (p : Placing) → Good (normalNet (heldSheet sheet)) (normalNet (heldPattern pattern)) p
-    → fillingsRead (listText (normalFillingsOf (normalNet (heldSheet sheet)) p (normalNet (heldPattern pattern)))) ≡ normalFillingsOf (normalNet (heldSheet sheet)) p (normalNet (heldPattern pattern))
+    → (p : Placing) → Good (sheetNet sheet) (patternNet pattern) p
+    → fillingsRead (listText (normalFillingsOf (sheetNet sheet) p (patternNet pattern))) ≡ normalFillingsOf (sheetNet sheet) p (patternNet pattern)
 placed-back sheet pattern a b p good =
-    let S = normalNet (heldSheet sheet) in
-    let F = normalNet (heldPattern pattern) in
+    let S = sheetNet sheet in
+    let F = patternNet pattern in
     list-back (normalFillingsOf S p F) (text-fits sheet pattern a b p good)
     (λ f i. let t : (g : Filling) × (g ∈ fillingsOf S p F) × (normalFilling g ≡ f) = Memᴰ·of-map normalFilling (fillingsOf S p F) i in subst (λ h. Ordered (h .rows)) (t .2) (net-ordered (netOf (normalForm (rowsGraph (t .0 .rows))))))

@@ -17,19 +17,18 @@ use Rattle.reading.specs.Graph.{termOfText}
 use Rattle.sheet.specs.Reading.{Outcome, outcomeOf, noPorts}
 use Rattle.sheet.specs.declared.answer.Answer.the-variants.{Passed}
 use Rattle.sheet.specs.declared.kind.Kind.the-variants.{Plain, Pattern}
-use Rattle.texts.proofs.BuiltRows.{every-in}
-use Rattle.placing.specs.Net.{NetCell, Net, normalNet}
+use Rattle.placing.specs.Net.{NetCell, Net, blankOf}
 use Rattle.placing.specs.Placing.{Placing, Good}
 use Rattle.placing.specs.Fillings.{Filling, Fits, normalFillingsOf}
 use Rattle.placing.specs.Holding.{holdingTerm}
 use Rattle.placing.specs.ListText.{listText}
-use Rattle.placing.proofs.NormalTexts.{netBlank, textBlank}
-use Rattle.placing.proofs.Theorems.{heldSheet, heldPattern, pattern-blanks, text-placing-fillings}
+use Rattle.placing.specs.TextNets.{textBlank, sheetHeld, patternHeld, sheetNet, patternNet}
+use Rattle.placing.proofs.Theorems.{pattern-blanks, text-placing-fillings}
 use Rattle.filling.specs.Read.{listHeld, fillingRead, fillingsRead}
-use Rattle.filling.specs.Fill.{figureHeld, isExact, filledText, fillAnswer}
+use Rattle.filling.specs.Fill.{figureHeld, filledText, fillAnswer}
 use Rattle.answers.specs.declared.outcome.Done.the-variants as done
 use Rattle.filling.proofs.Exact.{marks-exact}
-use Rattle.filling.proofs.Located.{Right}
+use Rattle.filling.specs.Right.{Right}
 use Rattle.filling.proofs.Back.{placed-back}
 use Rattle.filling.proofs.Denotes.{fill-congruent}
 use Rattle.filling.proofs.ReadAsFigure.{pattern-figure}
@@ -46,12 +45,12 @@ ports-first (d ∷ l) x n same c i q = go (eqb (d .number) x) refl (List·Memᴰ
     go false e (inr j) ih = ih j
 
 module _ (sheet pattern : List ℕ) (a : outcomeOf Plain noPorts sheet .answer ≡ Passed) (b : outcomeOf Pattern noPorts pattern .answer ≡ Passed)
-    (p : Placing) (good : Good (normalNet (heldSheet sheet)) (normalNet (heldPattern pattern)) p) where
+    (p : Placing) (good : Good (sheetNet sheet) (patternNet pattern) p) where
   abbrev F : Net
-  F = normalNet (heldPattern pattern)
+  F = patternNet pattern
 
   abbrev θ : List Filling
-  θ = normalFillingsOf (normalNet (heldSheet sheet)) p F
+  θ = normalFillingsOf (sheetNet sheet) p F
 
   abbrev pub placedList : List ℕ
   placedList = listText θ
@@ -59,7 +58,7 @@ module _ (sheet pattern : List ℕ) (a : outcomeOf Plain noPorts sheet .answer �
   fit : Fits F θ
   fit = text-placing-fillings sheet pattern a b p good .0
 
-  same-held : figureHeld pattern ≡ heldPattern pattern
+  same-held : figureHeld pattern ≡ patternHeld pattern
   same-held = ap (λ (o : Outcome). o .held) (pattern-figure pattern b)
 
   read-back : fillingsRead placedList ≡ θ
@@ -68,9 +67,9 @@ module _ (sheet pattern : List ℕ) (a : outcomeOf Plain noPorts sheet .answer �
   is-placed : (c : Context) → c ∈ listHeld placedList .contexts → fillingRead placedList c ∈ θ
   is-placed c i = subst (λ l. fillingRead placedList c ∈ l) read-back (Memᴰ·map (fillingRead placedList) i)
 
-  ported : (c : Context) → c ∈ heldPattern pattern .contexts → portsOf (listHeld placedList .contexts) (c .number) ≡ suc (c .count)
+  ported : (c : Context) → c ∈ patternHeld pattern .contexts → portsOf (listHeld placedList .contexts) (c .number) ≡ suc (c .count)
   ported c i =
-      let t : (d : NetCell) × (d ∈ F .contexts) × (netBlank d ≡ textBlank c) = Memᴰ·of-map netBlank (F .contexts) (subst (λ l. textBlank c ∈ l) (sym (pattern-blanks pattern)) (Memᴰ·map textBlank i)) in
+      let t : (d : NetCell) × (d ∈ F .contexts) × (blankOf d ≡ textBlank c) = Memᴰ·of-map blankOf (F .contexts) (subst (λ l. textBlank c ∈ l) (sym (pattern-blanks pattern)) (Memᴰ·map textBlank i)) in
       let x : t .0 .0 ≡ c .number = ap (λ (e : ℕ × ℕ). e .0) (t .2) in
       let n : length (t .0 .1) ≡ c .count = ap (λ (e : ℕ × ℕ). e .1) (t .2) in
       let f = fit .for-each (t .0) (t .1) in
@@ -82,13 +81,13 @@ module _ (sheet pattern : List ℕ) (a : outcomeOf Plain noPorts sheet .answer �
   pub placed-right : Right pattern placedList
   placed-right =
       record {
-        ported = every-in (λ (c : Context). portsOf (listHeld placedList .contexts) (c .number) ≡ suc (c .count)) (figureHeld pattern .contexts) (λ c i. ported c (subst (λ (h : Held). c ∈ h .contexts) same-held i));
-        exact = every-in (λ (c : Context). isExact (fillingRead placedList c) ≡ true) (listHeld placedList .contexts) (λ c i. marks-exact (fillingRead placedList c) (fit .exact (fillingRead placedList c) (is-placed c i)));
+        ported = λ c i. ported c (subst (λ (h : Held). c ∈ h .contexts) same-held i);
+        exact = λ c i. marks-exact (fillingRead placedList c) (fit .exact (fillingRead placedList c) (is-placed c i));
       }
 
   -- What fill writes of the pattern and that list is the same as the sheet.
-  pub placed-fill : (slip : List ℕ) (n : ℕ) → fillAnswer pattern placedList (length slip) ≡ done.Written n → termOfText (outcomeOf Plain noPorts (filledText pattern placedList) .held) ≅ termOfText (heldSheet sheet)
+  pub placed-fill : (slip : List ℕ) (n : ℕ) → fillAnswer pattern placedList (length slip) ≡ done.Written n → termOfText (outcomeOf Plain noPorts (filledText pattern placedList) .held) ≅ termOfText (sheetHeld sheet)
   placed-fill slip n e =
       ≅-trans (fill-congruent pattern placedList slip n e)
-      (subst (λ (η : List Filling). holdingTerm (termOfText (figureHeld pattern)) η ≅ termOfText (heldSheet sheet)) (sym read-back)
-      (subst (λ (h : Held). holdingTerm (termOfText h) θ ≅ termOfText (heldSheet sheet)) (sym same-held) (text-placing-fillings sheet pattern a b p good .1)))
+      (subst (λ (η : List Filling). holdingTerm (termOfText (figureHeld pattern)) η ≅ termOfText (sheetHeld sheet)) (sym read-back)
+      (subst (λ (h : Held). holdingTerm (termOfText h) θ ≅ termOfText (sheetHeld sheet)) (sym same-held) (text-placing-fillings sheet pattern a b p good .1)))

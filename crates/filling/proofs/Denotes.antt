@@ -22,7 +22,7 @@ use Rattle.placing.specs.Holding.{holdingTerm}
 use Rattle.filling.specs.Read.{listHeld, fillingsRead}
 use Rattle.filling.specs.Fill.{figureHeld, firstLacking, firstDiffering, filledBy, filledText, tooLarge, filledAnswer, unless, fillAnswer, fillSlip}
 use Rattle.answers.specs.declared.outcome.Done.the-variants as done
-use Rattle.filling.proofs.Located.{Right}
+use Rattle.filling.specs.Right.{Right}
 use Rattle.filling.proofs.Result.{classes, class-count}
 use Rattle.filling.proofs.Written.{madeAtoms, atom-count}
 use Rattle.filling.proofs.Answers.{right-fillings}

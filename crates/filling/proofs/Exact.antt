@@ -15,12 +15,11 @@ use Rattle.rows.specs.Packed.{portsOf}
 use Rattle.rows.specs.declared.Context.{Context}
 use Rattle.reading.specs.Normal.{marksOf}
 use Rattle.reading.proofs.normal.Marks.{marks-in, marks-of, Ascending, marks-ascending, ascending-same}
-use Rattle.sheet.proofs.read.Ranges.{Every}
-use Rattle.placing.specs.Fillings.{edgeRow, rowsGraph, Filling, ExactMarks}
+use Rattle.sheet.specs.HeldLimits.{Every}
+use Rattle.placing.specs.Fillings.{edgeRow, rowsGraph, Filling, ExactMarks, AllExactMarks}
 use Rattle.placing.specs.Smallest.{numbersFrom, numbersTo}
 use Rattle.placing.proofs.Names.{rows-name, name-rows}
 use Rattle.placing.proofs.Tests.{says-list}
-use Rattle.placing.proofs.FilledText.{AllExactMarks}
 use Rattle.filling.specs.Read.{fillingRead}
 use Rattle.filling.specs.Fill.{firstLacking, firstDiffering, isExact}
 

@@ -1,12 +1,12 @@
 -- What is promised of the arrays of a filled figure.
-use Prim.Native.Nat.{ℕ, _+_, _<_, _≤_}
+use Prim.Native.Nat.{ℕ, _<_, _≤_}
 use mathlib.Core.Path.{_≡_, subst}
 use mathlib.Core.Bool.{true}
 use mathlib.Core.List.{List}
 use native.Mathlib.Decide.{decLe}
 use native.Mathlib.Omega.{arith}
 use lib.ListN.{length}
-use Rattle.rows.specs.Limits.{sheetAtoms, sheetLinks, figureContexts}
+use Rattle.rows.specs.Limits.{sheetAtoms, sheetLinks, atomRoom, contextRoom}
 use Rattle.reading.specs.NormalSheet.{packedNormal}
 use Rattle.rows.specs.declared.Sheet.{Sheet as Normal}
 use Rattle.filling.specs.Read.{listHeld}
@@ -14,7 +14,7 @@ use Rattle.filling.specs.Fill.{figureHeld, firstLacking, firstDiffering,
 use Rattle.filling.specs.Glued.{Glues}
 use Rattle.filling.specs.Classes.{Made}
 use Rattle.filling.specs.Filled.{FilledIs}
-use Rattle.filling.proofs.Located.{Right}
+use Rattle.filling.specs.Right.{Right}
 use Rattle.filling.proofs.Answers.{right-fillings, large-atoms, large-classes, not-large, rows-written, rows-writable, net-is, fit-is}
 
 module _ (normal : Normal) (list figure : List ℕ) (q : normal ≡ packedNormal (figureHeld figure))
@@ -30,7 +30,7 @@ module _ (normal : Normal) (list figure : List ℕ) (q : normal ≡ packedNormal
   wide h (yes few) = large-classes figure list right r made few h
   wide h (no k) = large-atoms figure list right r made (omega (arith, k))
 
-  pub filled-is : length (r .atoms) ≡ sheetAtoms + 1 → length (r .contexts) ≡ figureContexts + 1 → FilledIs figure list r
+  pub filled-is : length (r .atoms) ≡ atomRoom → length (r .contexts) ≡ contextRoom → FilledIs figure list r
   filled-is atoms contexts =
       record {
         large-atoms = large-atoms figure list right r made;

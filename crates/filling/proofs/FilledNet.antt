@@ -1,5 +1,5 @@
 -- The normal form that the code makes: its net is that of the filled figure's normal form, and its numbers fit.
-use Prim.Native.Nat.{ℕ, _+_, _<_, _≤_}
+use Prim.Native.Nat.{ℕ, _<_, _≤_}
 use mathlib.Core.Path.{_≡_, refl, ap, ap₂, sym, _∙_, subst}
 use mathlib.Core.List.{List, [], _∷_, map, map-map, List·Memᴰ·not-nil, List·Memᴰ·head, List·Memᴰ·tail, Memᴰ·append-left, Memᴰ·append-right, Memᴰ·map}
 use native.Mathlib.Omega.{arith}
@@ -9,7 +9,7 @@ use Rattle.hyperlmntal.specs.Hypergraph.{Node, Label, Cell, portNodes, mapCell}
 use Rattle.hyperlmntal.specs.DenotedSubstitution.{Spot}
 use Rattle.hyperlmntal.proofs.Lists.{map-agree, Each, done, more}
 use Rattle.rows.specs.Format.{mostLinks}
-use Rattle.rows.specs.Limits.{sheetAtoms, sheetLinks, sheetMarks, figureContexts}
+use Rattle.rows.specs.Limits.{sheetAtoms, sheetLinks, atomRoom, contextRoom, markRoom}
 use Rattle.rows.specs.declared.Atom.{Atom}
 use Rattle.rows.proofs.Padding.{length-padded, take-padded}
 use Rattle.rows.proofs.Lists.{getD-mapped}
@@ -31,7 +31,8 @@ use Rattle.filling.specs.Fill.{figureHeld, filledBy}
 use Rattle.filling.specs.Glued.{Own}
 use Rattle.filling.specs.Classes.{linksIn, numberIn, numberedLinks, numberedAtom, markLabels, Made}
 use Rattle.filling.proofs.Parts.{figure-within, figure-agrees}
-use Rattle.filling.proofs.Located.{Right, filledSpots}
+use Rattle.filling.specs.Right.{Right}
+use Rattle.filling.proofs.Located.{filledSpots}
 use Rattle.filling.proofs.Labelled.{labels, label}
 use Rattle.filling.proofs.Shown.{Like, atoms-like, spotMark, shownSpots, shown-labels}
 use Rattle.filling.proofs.Result.{marks-same, classes, class-count, class-number}
@@ -113,10 +114,10 @@ module _ (figure list : List ℕ) (right : Right figure list) (own : List ℕ) (
     marked-taken : take (r .«mark_count») (r .marked) ≡ map markNumber (marks figure list right own O)
     marked-taken =
         ap₂ (λ (n : ℕ) (l : List ℕ). take n l) (made .markCount) (marked-are figure list right own O r made small few)
-        ∙ taken-padded (sheetMarks + 1) (map markNumber (marks figure list right own O)) (length (marks figure list right own O)) (length-map (marks figure list right own O) markNumber)
+        ∙ taken-padded markRoom (map markNumber (marks figure list right own O)) (length (marks figure list right own O)) (length-map (marks figure list right own O) markNumber)
 
     marks-taken : take (r .«mark_count») (r .marks) ≡ marks figure list right own O
-    marks-taken = ap₂ (λ (n : ℕ) (l : List ℕ). take n l) (made .markCount) (made .marks) ∙ take-padded (sheetMarks + 1) 0 (marks figure list right own O)
+    marks-taken = ap₂ (λ (n : ℕ) (l : List ℕ). take n l) (made .markCount) (made .marks) ∙ take-padded markRoom 0 (marks figure list right own O)
 
     -- The net.
     pub made-net : netIn r ≡ netOf (filledNormal (graphOf (figureHeld figure)) (fillingsRead list))
@@ -150,7 +151,7 @@ module _ (figure list : List ℕ) (right : Right figure list) (own : List ℕ) (
         })
 
     -- The arrays.
-    pub made-fit : length (r .atoms) ≡ sheetAtoms + 1 → length (r .contexts) ≡ figureContexts + 1 → Fit r
+    pub made-fit : length (r .atoms) ≡ atomRoom → length (r .contexts) ≡ contextRoom → Fit r
     made-fit a c =
         let f = few-marks Figure (figureHeld figure) (figure-within figure) (figure-agrees figure) in
         let ms = marks figure list right own O in
@@ -161,12 +162,12 @@ module _ (figure list : List ℕ) (right : Right figure list) (own : List ℕ) (
           class-count = omega (arith, links-count);
           atom-room = a;
           context-room = c;
-          mark-room = ap length (made .marks) ∙ length-padded (sheetMarks + 1) 0 ms (omega (arith, f));
-          marked-room = ap length (marked-are figure list right own O r made small few) ∙ length-padded (sheetMarks + 1) 0 (map markNumber ms) (omega (arith, f, length-map ms markNumber));
+          mark-room = ap length (made .marks) ∙ length-padded markRoom 0 ms (omega (arith, f));
+          marked-room = ap length (marked-are figure list right own O r made small few) ∙ length-padded markRoom 0 (map markNumber ms) (omega (arith, f, length-map ms markNumber));
           atoms = atom-used;
           contexts = λ i h. absurd (omega (arith, made .contextCount));
           marked = λ i h.
               let n : i < length ms = omega (arith, made .markCount) in
               subst (λ (k : ℕ). Range k (getD (r .marked) i 0)) (sym links-count)
-              (subst (Range (length D)) (sym (ap (λ l. getD l i 0) (marked-are figure list right own O r made small few) ∙ mapped-at markNumber (sheetMarks + 1) 0 ms i 0 0 n)) (mark-in (getD ms i 0) (getD-in ms i 0 n)));
+              (subst (Range (length D)) (sym (ap (λ l. getD l i 0) (marked-are figure list right own O r made small few) ∙ mapped-at markNumber markRoom 0 ms i 0 0 n)) (mark-in (getD ms i 0) (getD-in ms i 0 n)));
         }

@@ -12,13 +12,13 @@ use Rattle.hyperlmntal.specs.Link.{select}
 use Rattle.hyperlmntal.specs.GraphSubstitution.{Entry, sameFunctor, lookup}
 use Rattle.hyperlmntal.specs.Hypergraph.{Flat}
 use Rattle.rows.specs.Pick.{pick}
-use Rattle.rows.specs.Limits.{sheetMarks}
+use Rattle.rows.specs.Limits.{markRoom}
 use Rattle.rows.specs.Packed.{portsOf}
 use Rattle.rows.specs.declared.Context.{Context}
 use Rattle.rows.proofs.Padding.{take-padded}
 use Rattle.reading.specs.Graph.{graphOf}
 use Rattle.reading.specs.Normal.{marksOf}
-use Rattle.sheet.proofs.read.Ranges.{Every}
+use Rattle.sheet.specs.HeldLimits.{Every}
 use Rattle.placing.specs.Fillings.{Filling, rowsGraph}
 use Rattle.placing.specs.Holding.{marksFrom}
 use Rattle.placing.specs.Filled.{flatEntry}
@@ -71,4 +71,4 @@ module _ (list : List ℕ) where
   pub exact-part : (x n : ℕ) → exactTo list x n ≡ isExact (fillingAt x n)
   exact-part x n =
       let h = withoutHeads (partHeld list x) in
-      ap (λ l. sameList l (numbersTo n)) (take-padded (sheetMarks + 1) 0 (marksOf (graphOf h)) ∙ ap marksOf (sym (read-graph (partHeld list x))))
+      ap (λ l. sameList l (numbersTo n)) (take-padded markRoom 0 (marksOf (graphOf h)) ∙ ap marksOf (sym (read-graph (partHeld list x))))

@@ -10,7 +10,7 @@ use lib.Dec.{eqb, ltb}
 use lib.ListN.{length, getD, take, drop, length-append, length-take, drop-of-length-le, List·getD-append}
 use lib.Seq.{drop-append-le, length-take-le, getD-take}
 use Rattle.rows.specs.Pick.{pick}
-use Rattle.rows.specs.Format.{rowWidth, letterOf}
+use Rattle.rows.specs.Format.{rowWidth, headLetter, letterOf}
 use Rattle.rows.specs.Limits.{rowLimit}
 use Rattle.rows.specs.Held.{Held, nothing, withRow, withAtom, withContext, withFusionRow, withEdgeRow, withHead}
 use Rattle.rows.proofs.RowRange.{good-letter, row-letter}
@@ -23,17 +23,7 @@ use Rattle.sheet.proofs.read.Taken.{rowAt, Taken, tests-none}
 use Rattle.texts.proofs.OneFilling.{headless-row}
 use Rattle.filling.specs.Read.{partHeld}
 use Rattle.sheet.proofs.part.FillingLaws.{before-nil}
-
-other-letter : (b : ℕ) → eqb b 72 ≡ false → letterOf b ≡ 4 → ⊥
-unfolding letterOf
-other-letter b e = rw e (go (eqb b 83) (eqb b 66) (eqb b 70) (eqb b 69))
-  where
-    go : (p q r s : Bool) → _≡_ {A = ℕ} (pick p 0 (pick q 1 (pick r 2 (pick s 3 5)))) 4 → ⊥
-    go true q r s k = omega arith
-    go false true r s k = omega arith
-    go false false true s k = omega arith
-    go false false false true k = omega arith
-    go false false false false k = omega arith
+use Rattle.sheet.proofs.part.HeadRows.{other-letter}
 
 -- The H rows of what is read from a text on, when the rest of the text after its first row adds none.
 abbrev headsRead : ℕ → Held → List ℕ → ℕ
@@ -72,7 +62,7 @@ no-heads (suc n) (suc m) h t = by (ltb (length t) rowWidth) (headFirst t) refl r
         let l : length (take rowWidth t) ≡ rowWidth = length-take-le rowWidth t w in
         let byte : getD text 0 0 ≡ getD t 0 0 = rw q (List·getD-append (take rowWidth t) (beforeHead m (drop rowWidth t)) 0 0 (omega arith) ∙ getD-take rowWidth t 0 0 (omega arith)) in
         let first : getD (take rowWidth text) 0 0 ≡ getD t 0 0 = getD-take rowWidth text 0 0 (omega arith) ∙ byte in
-        let four : rowAt text .letter ≡ 4 → ⊥ = λ e. other-letter (getD t 0 0) f (ap letterOf (sym first) ∙ sym (row-letter (take rowWidth text)) ∙ e) in
+        let four : rowAt text .letter ≡ headLetter → ⊥ = λ e. other-letter (getD t 0 0) f (ap letterOf (sym first) ∙ sym (row-letter (take rowWidth text)) ∙ e) in
         let five = good-letter (take rowWidth text) (k .good) in
         let s = headless-row h (rowAt text) (k .allowed) (omega (arith, four)) .0 in
         rw s (omega arith)

@@ -11,7 +11,7 @@ use Rattle.hyperlmntal.specs.DenotedSubstitution.{Spot, outer, within, outerNod
 use Rattle.hyperlmntal.proofs.Connection.{connected-≡}
 use Rattle.hyperlmntal.proofs.Flats.{ends-in, on-fusions}
 use Rattle.hyperlmntal.proofs.Slots.{bodyOf, portsOf as portsPut, entryAt, plugAt, fillFlat-all}
-use Rattle.rows.specs.Limits.{sheetMarks}
+use Rattle.rows.specs.Limits.{markRoom}
 use Rattle.rows.specs.Packed.{padded}
 use Rattle.rows.specs.declared.Context.{Context}
 use Rattle.rows.proofs.Lists.{getD-mapped}
@@ -36,7 +36,8 @@ use Rattle.filling.proofs.Rows.{read-graph}
 use Rattle.filling.proofs.Exact.{numbers-of, numbers-in}
 use Rattle.filling.proofs.Parts.{figure-within}
 use Rattle.filling.proofs.Join.{Tells, Pair, all-tell, pair-same, port-pair, pair-port, pair-at, at-pair}
-use Rattle.filling.proofs.Located.{Right, figureGraph, entries, filledSpots, atomCount, partCount, contextAt, linksAt, heldAt, nodeAt, context-range, links-size, low-at, VertexAt, an-atom, a-context, vertex-at, entry-at, marks-at, part-connected, port-at}
+use Rattle.filling.specs.Right.{Right}
+use Rattle.filling.proofs.Located.{figureGraph, entries, filledSpots, atomCount, partCount, contextAt, linksAt, heldAt, nodeAt, context-range, links-size, low-at, VertexAt, an-atom, a-context, vertex-at, entry-at, marks-at, part-connected, port-at}
 
 module _ (figure list : List ℕ) (right : Right figure list) (own : List ℕ) (O : Own own) where
   -- The figure's contexts with the numbers of their classes.
@@ -61,8 +62,8 @@ module _ (figure list : List ℕ) (right : Right figure list) (own : List ℕ) (
       let c = contextAt figure list j in
       let r = context-range figure list j h in
       let e : take (c .count) (partNormal list (c .number) .marked) ≡ markNumbers j =
-      ap (λ l. take (c .count) (padded (sheetMarks + 1) 0 (map (λ m. numberIn (heldAt figure list (suc j)) (markNode m)) l))) (marks-at figure list right j h)
-      ∙ taken-padded (sheetMarks + 1) (markNumbers j) (c .count) (length-map (numbersTo (c .count)) (λ m. numberIn (heldAt figure list (suc j)) (markNode m)) ∙ numbers-length 1 (c .count)) in
+      ap (λ l. take (c .count) (padded markRoom 0 (map (λ m. numberIn (heldAt figure list (suc j)) (markNode m)) l))) (marks-at figure list right j h)
+      ∙ taken-padded markRoom (markNumbers j) (c .count) (length-map (numbersTo (c .count)) (λ m. numberIn (heldAt figure list (suc j)) (markNode m)) ∙ numbers-length 1 (c .count)) in
       ap₂ (portPairs p) (used-links (figureHeld figure) (c .count) (c .links) (omega (arith, r .count, r .ports .width))) e
 
   abbrev pub At : Type 0

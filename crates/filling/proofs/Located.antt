@@ -24,7 +24,10 @@ use Rattle.reading.specs.Normal.{markNode, marksOf, shown}
 use Rattle.reading.specs.NormalSheet.{numberIn}
 use Rattle.normalising.specs.NormalRows.{pastContexts}
 use Rattle.sheet.specs.declared.kind.Kind.the-variants.{Figure, Fillings}
-use Rattle.sheet.proofs.read.Ranges.{Every, every-at, ContextRange}
+use Rattle.sheet.specs.HeldLimits.{ContextRange}
+use Rattle.sheet.proofs.read.Every.{every-at}
+use Rattle.reading.proofs.normal.Merging.{getD-in}
+use Rattle.texts.proofs.BuiltRows.{every-in}
 use Rattle.placing.specs.Holding.{marksFrom}
 use Rattle.placing.specs.Filled.{flatEntry}
 use Rattle.placing.specs.Smallest.{numbersTo}
@@ -32,15 +35,11 @@ use Rattle.placing.proofs.Lists.{at-left, at-right, at-map, at-of-map, at-getD,
 use Rattle.placing.proofs.Filled.{figN, connect-port}
 use Rattle.filling.specs.Read.{listHeld, partHeld, fillingRead, fillingsRead}
 use Rattle.filling.specs.Fill.{figureHeld, isExact}
+use Rattle.filling.specs.Right.{Right}
 use Rattle.filling.specs.Parts.{withoutHeads, partRoom}
 use Rattle.filling.proofs.Rows.{read-graph}
 use Rattle.filling.proofs.Parts.{figure-within, figure-agrees, part-within, part-agrees, number-low}
 use Rattle.filling.proofs.Found.{fillingAt, entry-found, head-exact, exact-numbers}
-
--- Every blank has its filling, and every filling its ports as marks.
-pub record Right (figure list : List ℕ) : Type 0 where
-  pub ported : Every (λ (c : Context). portsOf (listHeld list .contexts) (c .number) ≡ suc (c .count)) (figureHeld figure .contexts)
-  pub exact : Every (λ (c : Context). isExact (fillingRead list c) ≡ true) (listHeld list .contexts)
 
 module _ (figure list : List ℕ) where
   abbrev pub figureGraph : Flat ℕ
@@ -110,7 +109,7 @@ module _ (figure list : List ℕ) where
 
   module _ (right : Right figure list) where
     pub ported-at : (j : ℕ) → j < partCount → portsOf (listHeld list .contexts) (contextAt j .number) ≡ suc (contextAt j .count)
-    ported-at j h = every-at (λ (c : Context). portsOf (listHeld list .contexts) (c .number) ≡ suc (c .count)) pastContexts (figureHeld figure .contexts) (right .ported) j h
+    ported-at j h = right .ported (contextAt j) (getD-in (figureHeld figure .contexts) j pastContexts h)
 
     -- The entry that is put for a context, and its marks.
     pub entry-at : (j : ℕ) → j < partCount → entryAt entries (contextCell (contextAt j)) ≡ some (flatEntry (fillingAt list (contextAt j .number) (contextAt j .count)))
@@ -119,7 +118,7 @@ module _ (figure list : List ℕ) where
         ∙ entry-found list (listHeld list .contexts) (contextAt j .number) (contextAt j .count) (ported-at j h)
 
     pub marks-at : (j : ℕ) → j < partCount → marksOf (graphOf (heldAt (suc j))) ≡ numbersTo (contextAt j .count)
-    marks-at j h = exact-numbers list (contextAt j .number) (contextAt j .count) (head-exact list (listHeld list .contexts) (contextAt j .number) (contextAt j .count) (ported-at j h) (right .exact))
+    marks-at j h = exact-numbers list (contextAt j .number) (contextAt j .count) (head-exact list (listHeld list .contexts) (contextAt j .number) (contextAt j .count) (ported-at j h) (every-in (λ (c : Context). isExact (fillingRead list c) ≡ true) (listHeld list .contexts) (right .exact)))
 
     -- The fusions of a filling are in the filled figure.
     part-fusion : (j : ℕ) → j < partCount → (d : Fusion ℕ) → d ∈ graphOf (heldAt (suc j)) .fusions → mapFusion (nodeAt (suc j)) d ∈ filledSpots .fusions

@@ -13,7 +13,7 @@ use lib.ListN.{length, getD, take, drop, set, replicate, length-append, length-m
 use lib.Seq.{take-all, take-append-le, take-suc, take-suc-set, length-take-le, getD-set-same, getD-set-other}
 use Rattle.rows.specs.Pick.{pick, and}
 use Rattle.rows.specs.Format.{mostLinks}
-use Rattle.rows.specs.Limits.{sheetAtoms, sheetLinks}
+use Rattle.rows.specs.Limits.{sheetLinks, atomRoom}
 use Rattle.rows.specs.Held.{indexOf, isIn}
 use Rattle.rows.specs.Packed.{padded}
 use Rattle.rows.specs.declared.Atom.{Atom}
@@ -108,36 +108,36 @@ own-places (a ∷ l) = ap₂ (λ (w : List ℕ) (r : List Atom). record { name =
 
 -- As many atoms as there is room for.
 pub room-twice : (a b : List Atom) → roomFor (roomFor a ++ b) ≡ roomFor (a ++ b)
-room-twice a b = go (decLe (length a) (sheetAtoms + 1))
+room-twice a b = go (decLe (length a) atomRoom)
   where
-    go : Dec (length a ≤ sheetAtoms + 1) → roomFor (roomFor a ++ b) ≡ roomFor (a ++ b)
-    go (yes h) = ap (λ l. roomFor (l ++ b)) (take-all (sheetAtoms + 1) a h)
+    go : Dec (length a ≤ atomRoom) → roomFor (roomFor a ++ b) ≡ roomFor (a ++ b)
+    go (yes h) = ap (λ l. roomFor (l ++ b)) (take-all atomRoom a h)
     go (no k) =
-        let n : sheetAtoms + 1 ≤ length a = omega arith in
-        let m : length (roomFor a) ≡ sheetAtoms + 1 = length-take-le (sheetAtoms + 1) a n in
-        take-append-le (sheetAtoms + 1) (roomFor a) b (omega arith) ∙ take-all (sheetAtoms + 1) (roomFor a) (omega arith) ∙ sym (take-append-le (sheetAtoms + 1) a b n)
+        let n : atomRoom ≤ length a = omega arith in
+        let m : length (roomFor a) ≡ atomRoom = length-take-le atomRoom a n in
+        take-append-le atomRoom (roomFor a) b (omega arith) ∙ take-all atomRoom (roomFor a) (omega arith) ∙ sym (take-append-le atomRoom a b n)
 
-pub room-all : (l : List Atom) → length l ≤ sheetAtoms + 1 → roomFor l ≡ l
-room-all l h = take-all (sheetAtoms + 1) l h
+pub room-all : (l : List Atom) → length l ≤ atomRoom → roomFor l ≡ l
+room-all l h = take-all atomRoom l h
 
-pub room-one : (l : List Atom) (n : ℕ) (a : Atom) → length l ≡ sheetAtoms + 1 → n < sheetAtoms + 1 → take (n + 1) (set l n a) ≡ roomFor (take n l ++ (a ∷ []))
+pub room-one : (l : List Atom) (n : ℕ) (a : Atom) → length l ≡ atomRoom → n < atomRoom → take (n + 1) (set l n a) ≡ roomFor (take n l ++ (a ∷ []))
 room-one l n a e h =
     let m : length (take n l) ≡ n = length-take-le n l (omega arith) in
     rw (add-one n) (take-suc-set l n a (omega arith) ∙ sym (room-all (take n l ++ (a ∷ [])) (simp length-append (omega arith))))
 
-pub room-full : (l : List Atom) (n : ℕ) (a : Atom) → length l ≡ sheetAtoms + 1 → n ≤ sheetAtoms + 1 → sheetAtoms + 1 ≤ n → take n l ≡ roomFor (take n l ++ (a ∷ []))
+pub room-full : (l : List Atom) (n : ℕ) (a : Atom) → length l ≡ atomRoom → n ≤ atomRoom → atomRoom ≤ n → take n l ≡ roomFor (take n l ++ (a ∷ []))
 room-full l n a e h k =
     let m : length (take n l) ≡ n = length-take-le n l (omega arith) in
-    sym (take-append-le (sheetAtoms + 1) (take n l) (a ∷ []) (omega arith) ∙ room-all (take n l) (omega arith))
+    sym (take-append-le atomRoom (take n l) (a ∷ []) (omega arith) ∙ room-all (take n l) (omega arith))
 
-pub grown-none : (w : Whole) → w .count ≤ sheetAtoms + 1 → Grown w w []
+pub grown-none : (w : Whole) → w .count ≤ atomRoom → Grown w w []
 grown-none w h = record { atoms = sym (ap roomFor (append-nil (wholeAtoms w)) ∙ room-all (wholeAtoms w) (omega (arith, length-take (w .count) (w .atoms)))); few = h }
 
 -- One atom more, and one for which there is no room.
-pub grown-one : (w r : Whole) (a : Atom) → length (w .atoms) ≡ sheetAtoms + 1 → w .count < sheetAtoms + 1 → r ≡ record { atoms = set (w .atoms) (w .count) a; count = w .count + 1 } → Grown w r (a ∷ [])
+pub grown-one : (w r : Whole) (a : Atom) → length (w .atoms) ≡ atomRoom → w .count < atomRoom → r ≡ record { atoms = set (w .atoms) (w .count) a; count = w .count + 1 } → Grown w r (a ∷ [])
 grown-one w r a e h q = subst (λ (t : Whole). Grown w t (a ∷ [])) (sym q) (record { atoms = room-one (w .atoms) (w .count) a e h; few = omega arith })
 
-pub grown-full : (w r : Whole) (a : Atom) → length (w .atoms) ≡ sheetAtoms + 1 → w .count ≤ sheetAtoms + 1 → sheetAtoms + 1 ≤ w .count → r ≡ w → Grown w r (a ∷ [])
+pub grown-full : (w r : Whole) (a : Atom) → length (w .atoms) ≡ atomRoom → w .count ≤ atomRoom → atomRoom ≤ w .count → r ≡ w → Grown w r (a ∷ [])
 grown-full w r a e h k q = subst (λ (t : Whole). Grown w t (a ∷ [])) (sym q) (record { atoms = room-full (w .atoms) (w .count) a e h k; few = h })
 
 pub grown-then : (w r s : Whole) (a b : List Atom) → Grown w r a → Grown r s b → Grown w s (a ++ b)

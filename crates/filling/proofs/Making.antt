@@ -8,7 +8,7 @@ use lib.ListN.{length, getD, take, drop, length-map, length-take}
 use lib.Seq.{take-append-seam, length-take-le}
 use Rattle.hyperlmntal.specs.Link.{_∈_}
 use Rattle.rows.specs.Format.{mostLinks}
-use Rattle.rows.specs.Limits.{sheetAtoms, figureContexts, sheetMarks}
+use Rattle.rows.specs.Limits.{figureContexts, atomRoom, contextRoom, markRoom}
 use Rattle.rows.specs.Packed.{padded}
 use Rattle.rows.specs.declared.Atom.{Atom}
 use Rattle.rows.specs.declared.Context.{Context}
@@ -56,7 +56,7 @@ part-linked p h n low a i =
     let s = small-taken (n .«atom_count») (n .atoms) (λ k. (low .atomCounts k, low .atomLinks k)) (t .0) (t .1) in
     subst Linked (t .2) (s .0, places-low p h (t .0 .links) (s .1))
 
-contexts-linked : (list : List ℕ) (p : ℕ) (l : List Context) → p + length l ≤ figureContexts + 1 → (a : Atom) → a ∈ contextAtoms list p l → Linked a
+contexts-linked : (list : List ℕ) (p : ℕ) (l : List Context) → p + length l ≤ contextRoom → (a : Atom) → a ∈ contextAtoms list p l → Linked a
 unfolding contextAtoms
 contexts-linked list p [] h a i = absurd (List·Memᴰ·not-nil i)
 contexts-linked list p (c ∷ l) h a i = both-linked (partAtoms p (partNormal list (c .number))) (contextAtoms list (p + 1) l) (part-linked p (omega arith) (partNormal list (c .number)) (part-low list (c .number))) (contexts-linked list (p + 1) l (omega arith)) a i
@@ -65,7 +65,7 @@ placed-linked : (list : List ℕ) (figure : Normal) → Low figure → (i : ℕ)
 placed-linked list figure low =
     let contexts = take (figure .«context_count») (figure .contexts) in
     list-any Linked pastAtoms (roomFor (placedAtoms list figure)) (omega arith, λ k. omega arith)
-    (taken-linked (sheetAtoms + 1) (placedAtoms list figure)
+    (taken-linked atomRoom (placedAtoms list figure)
     (both-linked (partAtoms 0 figure) (contextAtoms list 1 contexts) (part-linked 0 (omega arith) figure low) (contexts-linked list 1 contexts (omega (arith, length-take (figure .«context_count») (figure .contexts), low .contexts)))))
 
 -- What a normal form has of contexts, and its own atoms.
@@ -83,7 +83,7 @@ module _ (list : List ℕ) (figure : Normal) (own labels : List ℕ) (whole : Wh
   -- All labels that are known in the end are those of the atoms and marks in order.
   module _ (none first all : List ℕ) (m n : ℕ) (A : Sees none 0 first m (linksIn (map (labelledAtom labels) (wholeAtoms whole)))) (M : Sees first m all n (markLabels labels figure)) where
     all-shown : map (labelledAtom labels) (wholeAtoms whole) ≡ shownAtoms list labels figure
-    all-shown = ap (map (labelledAtom labels)) all-placed ∙ sym (taken-map (labelledAtom labels) (sheetAtoms + 1) (placedAtoms list figure))
+    all-shown = ap (map (labelledAtom labels)) all-placed ∙ sym (taken-map (labelledAtom labels) atomRoom (placedAtoms list figure))
 
     in-order : withLabels (take m first) (markLabels labels figure) ≡ shownLabels list labels figure
     in-order = ap (λ (l : List ℕ). withLabels l (markLabels labels figure)) (A .labels ∙ ap (λ (l : List Atom). withLabels [] (linksIn l)) all-shown)
@@ -93,7 +93,7 @@ module _ (list : List ℕ) (figure : Normal) (own labels : List ℕ) (whole : Wh
 
     pub made-of : Own own → length (wholeAtoms whole) ≡ whole .count
         → (r : Normal) → ((later : List ℕ) → r .atoms ≡ map (numberedAt (withLabels (take m first) later) labels) (wholeAtoms whole) ++ drop (whole .count) (whole .atoms)) → r .«atom_count» ≡ whole .count
-        → r .«context_count» ≡ 0 → r .marks ≡ figure .marks → r .marked ≡ padded (sheetMarks + 1) 0 (map (numberIn (take n all)) (markLabels labels figure)) → r .«mark_count» ≡ figure .«mark_count» → r .«class_count» ≡ n
+        → r .«context_count» ≡ 0 → r .marks ≡ figure .marks → r .marked ≡ padded markRoom 0 (map (numberIn (take n all)) (markLabels labels figure)) → r .«mark_count» ≡ figure .«mark_count» → r .«class_count» ≡ n
         → (l : List ℕ) × (Glues list figure l × Made list l figure r)
     made-of O size r a b c d e f g =
         let s = withLabels (take m first) (markLabels labels figure) in
@@ -109,7 +109,7 @@ module _ (list : List ℕ) (figure : Normal) (own labels : List ℕ) (whole : Wh
               atomCount = b ∙ sym size ∙ sym (length-map (wholeAtoms whole) (labelledAtom labels)) ∙ ap length all-shown;
               contextCount = c;
               marks = d;
-              marked = e ∙ ap (λ (t : List ℕ). padded (sheetMarks + 1) 0 (map (numberIn t) (markLabels labels figure))) known-shown;
+              marked = e ∙ ap (λ (t : List ℕ). padded markRoom 0 (map (numberIn t) (markLabels labels figure))) known-shown;
               markCount = f;
               classCount = g ∙ sym (length-take-le n all few) ∙ ap length known-shown;
             },

@@ -9,8 +9,8 @@ use lib.Dec.{ltb}
 use lib.ListN.{length, getD, take, replicate}
 use Rattle.hyperlmntal.specs.Link.{_∈_}
 use Rattle.hyperlmntal.specs.Hypergraph.{Node, inner, portNodes}
-use Rattle.rows.specs.Format.{mostLinks}
-use Rattle.rows.specs.Limits.{sheetAtoms, figureContexts, sheetMarks}
+use Rattle.rows.specs.Format.{mostLinks, contextBound}
+use Rattle.rows.specs.Limits.{atomRoom, contextRoom, markRoom}
 use Rattle.rows.specs.Held.{Held}
 use Rattle.rows.specs.Packed.{padded, noAtom, noContext}
 use Rattle.rows.specs.TextArrays.{packed}
@@ -25,10 +25,12 @@ use Rattle.rows.specs.declared.Context.{Context}
 use Rattle.rows.specs.declared.Sheet.{Sheet as Normal}
 use Rattle.sheet.specs.Reading.{outcomeOf, noPorts}
 use Rattle.reading.specs.Made.{readingOf}
-use Rattle.sheet.specs.Filling.{fillingOf}
+use Rattle.reading.specs.declared.read.Reading.{Reading}
+use Rattle.sheet.specs.Filling.{fillingOf, HeadsRead}
+use Rattle.sheet.specs.declared.answer.Answer.the-variants.{Passed}
 use Rattle.sheet.specs.declared.kind.Kind.{Kind}
 use Rattle.sheet.specs.declared.kind.Kind.the-variants.{Figure, Fillings}
-use Rattle.sheet.proofs.read.Ranges.{AtomRange, ContextRange, WithinLimits}
+use Rattle.sheet.specs.HeldLimits.{AtomRange, ContextRange, WithinLimits}
 use Rattle.sheet.proofs.read.Room.{limits-most}
 use Rattle.sheet.proofs.read.HeldLimits.{held-within}
 use Rattle.reading.proofs.normal.Connected.{agrees-read, ports-in}
@@ -36,6 +38,7 @@ use Rattle.reading.proofs.normal.NormalBounds.{number-range, text-links}
 use Rattle.normalising.proofs.normal_text.NormalWritten.{links-known, few-marks}
 use Rattle.reading.proofs.normal.NormalMade.{normal-made}
 use Rattle.reading.proofs.normal.NormalReady.{numberable-held}
+use Rattle.reading.proofs.part.ListRead.{heads-read}
 use Rattle.texts.proofs.OneFilling.{filling-agrees}
 use Rattle.texts.proofs.NormalFits.{every-member}
 use Rattle.filling.specs.Read.{listHeld, partHeld}
@@ -121,19 +124,19 @@ module _ (kind : Kind) (h : Held) (w : WithinLimits kind h) (A : Agrees h) where
         atoms = omega (arith, w .atoms, limits-most kind .0);
         contexts = w .contexts;
         marks = few-marks kind h w A;
-        atomCounts = padded-any (λ a. a .count ≤ mostLinks) (sheetAtoms + 1) noAtom pastAtoms (map (normalAtom h) (h .atoms)) (omega arith) (omega arith)
+        atomCounts = padded-any (λ a. a .count ≤ mostLinks) atomRoom noAtom pastAtoms (map (normalAtom h) (h .atoms)) (omega arith) (omega arith)
             (map-all (λ a. a .count ≤ mostLinks) (normalAtom h) (h .atoms) (λ a i. every-member AtomRange (h .atoms) a (w .ranges .atoms) i .count));
-        atomLinks = padded-any (λ a. (k : ℕ) → getD (a .links) k 0 < partRoom) (sheetAtoms + 1) noAtom pastAtoms (map (normalAtom h) (h .atoms)) zero-low (λ k. omega arith)
+        atomLinks = padded-any (λ a. (k : ℕ) → getD (a .links) k 0 < partRoom) atomRoom noAtom pastAtoms (map (normalAtom h) (h .atoms)) zero-low (λ k. omega arith)
             (map-all (λ a. (k : ℕ) → getD (a .links) k 0 < partRoom) (normalAtom h) (h .atoms)
             (λ a i. links-low (take (a .count) (a .links)) (λ x j. ports-in (atomCell a) (inner x) (Memᴰ·append-left (map contextCell (h .contexts)) (Memᴰ·map atomCell i)) (Memᴰ·map inner j))));
-        contextCounts = padded-any (λ c. c .count ≤ mostLinks) (figureContexts + 1) noContext pastContexts (map (normalContext h) (h .contexts)) (omega arith) (omega arith)
+        contextCounts = padded-any (λ c. c .count ≤ mostLinks) contextRoom noContext pastContexts (map (normalContext h) (h .contexts)) (omega arith) (omega arith)
             (map-all (λ c. c .count ≤ mostLinks) (normalContext h) (h .contexts) (λ c i. every-member (ContextRange kind) (h .contexts) c (w .ranges .contexts) i .count));
-        contextNumbers = padded-any (λ c. c .number < 5) (figureContexts + 1) noContext pastContexts (map (normalContext h) (h .contexts)) (omega arith) (omega arith)
-            (map-all (λ c. c .number < 5) (normalContext h) (h .contexts) (λ c i. let r = every-member (ContextRange kind) (h .contexts) c (w .ranges .contexts) i in omega (arith, r .number .1)));
-        contextLinks = padded-any (λ c. (k : ℕ) → getD (c .links) k 0 < partRoom) (figureContexts + 1) noContext pastContexts (map (normalContext h) (h .contexts)) zero-low (λ k. omega arith)
+        contextNumbers = padded-any (λ c. c .number < contextBound) contextRoom noContext pastContexts (map (normalContext h) (h .contexts)) (omega arith) (omega arith)
+            (map-all (λ c. c .number < contextBound) (normalContext h) (h .contexts) (λ c i. let r = every-member (ContextRange kind) (h .contexts) c (w .ranges .contexts) i in omega (arith, r .number .1)));
+        contextLinks = padded-any (λ c. (k : ℕ) → getD (c .links) k 0 < partRoom) contextRoom noContext pastContexts (map (normalContext h) (h .contexts)) zero-low (λ k. omega arith)
             (map-all (λ c. (k : ℕ) → getD (c .links) k 0 < partRoom) (normalContext h) (h .contexts)
             (λ c i. links-low (take (c .count) (c .links)) (λ x j. ports-in (contextCell c) (inner x) (Memᴰ·append-right (map atomCell (h .atoms)) (Memᴰ·map contextCell i)) (Memᴰ·map inner j))));
-        marked = padded-any (λ n. n < partRoom) (sheetMarks + 1) 0 0 (map (λ m. numberIn h (markNode m)) (normalMarks h)) (omega arith) (omega arith)
+        marked = padded-any (λ n. n < partRoom) markRoom 0 0 (map (λ m. numberIn h (markNode m)) (normalMarks h)) (omega arith) (omega arith)
             (map-all (λ n. n < partRoom) (λ m. numberIn h (markNode m)) (normalMarks h) (λ m i. number-low (markNode m) (Memᴰ·append-right (portNodes (graphOf h .atoms)) (Memᴰ·map markNode i)) .1));
       }
 
@@ -145,12 +148,12 @@ pub counted : (kind : Kind) (h : Held) → WithinLimits kind h → Counted (pack
 counted kind h w =
     record {
       few = w .contexts;
-      number = padded-any (λ c. c .number < 5) (figureContexts + 1) noContext pastContexts (h .contexts) (omega arith) (omega arith) (λ c i. let r = every-member (ContextRange kind) (h .contexts) c (w .ranges .contexts) i in omega (arith, r .number .1));
-      count = padded-any (λ c. c .count ≤ mostLinks) (figureContexts + 1) noContext pastContexts (h .contexts) (omega arith) (omega arith) (λ c i. every-member (ContextRange kind) (h .contexts) c (w .ranges .contexts) i .count);
+      number = padded-any (λ c. c .number < contextBound) contextRoom noContext pastContexts (h .contexts) (omega arith) (omega arith) (λ c i. let r = every-member (ContextRange kind) (h .contexts) c (w .ranges .contexts) i in omega (arith, r .number .1));
+      count = padded-any (λ c. c .count ≤ mostLinks) contextRoom noContext pastContexts (h .contexts) (omega arith) (omega arith) (λ c i. every-member (ContextRange kind) (h .contexts) c (w .ranges .contexts) i .count);
     }
 
-pub headed-counted : (heads : List Context) (n : ℕ) (ports list : List ℕ) → Headed heads n ports list → Counted heads n
-headed-counted heads n ports list H = rw (H .contexts, H .count) (counted Fillings (listHeld list) (list-within list))
+pub heads-counted : (list : List ℕ) (heads : List Context) (n : ℕ) → HeadsRead list heads n → Counted heads n
+heads-counted list heads n r = rw (r .contexts, r .count) (counted Fillings (listHeld list) (list-within list))
 
 pub part-low : (list : List ℕ) (number : ℕ) → Low (partNormal list number)
 part-low list number = normal-low Fillings (withoutHeads (partHeld list number)) (part-within list number) (part-agrees list number)
@@ -161,9 +164,9 @@ part-made list number = let h = partHeld list number in
     let one : ltb 1 (length (h .contexts)) ≡ false = le-ltb 1 (length (h .contexts)) (part-heads list number) in
     rw one (ap (withHeads h) (normal-made (withoutHeads h) (part-agrees list number) (part-numberable list number)))
 
--- The H rows of a list that was read.
-pub headed-read : (list : List ℕ) → Headed (readingOf Fillings (outcomeOf Fillings noPorts list) .normal .contexts) (readingOf Fillings (outcomeOf Fillings noPorts list) .normal .«context_count») (readingOf Fillings (outcomeOf Fillings noPorts list) .ports) list
-headed-read list = record { contexts = refl; count = refl; ports = refl }
+-- The H rows of a list that was read and passed.
+pub headed-read : (list : List ℕ) (r : Reading) → r ≡ readingOf Fillings (outcomeOf Fillings noPorts list) → r .answer ≡ Passed → Headed (r .normal .contexts) (r .normal .«context_count») (r .ports) list
+headed-read list r e p = record { read = heads-read list r e p; ports = ap (λ (x : Reading). x .ports) e }
 
-pub part-marks : (list : List ℕ) (number : ℕ) → length (partNormal list number .marks) ≡ sheetMarks + 1
-part-marks list number = length-padded (sheetMarks + 1) 0 (normalMarks (withoutHeads (partHeld list number))) (omega (arith, part-low list number .marks))
+pub part-marks : (list : List ℕ) (number : ℕ) → length (partNormal list number .marks) ≡ markRoom
+part-marks list number = length-padded markRoom 0 (normalMarks (withoutHeads (partHeld list number))) (omega (arith, part-low list number .marks))

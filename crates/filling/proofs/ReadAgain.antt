@@ -11,6 +11,7 @@ use Rattle.hyperlmntal.specs.TermOf.{termOf}
 use Rattle.hyperlmntal.specs.DenotedSubstitution.{Spot}
 use Rattle.hyperlmntal.proofs.Lists.{map-agree, Each, done, more, all-map}
 use Rattle.hyperlmntal.proofs.Flats.{flat-≡, cell-≡}
+use Rattle.rows.specs.Format.{mostName}
 use Rattle.rows.specs.Limits.{sheetAtoms, sheetLinks}
 use Rattle.rows.specs.declared.Atom.{Atom}
 use Rattle.reading.specs.Graph.{edgeOf, graphOf, termOfText}
@@ -20,13 +21,14 @@ use Rattle.normalising.specs.NormalText.{textOf}
 use Rattle.sheet.specs.Reading.{outcomeOf, noPorts}
 use Rattle.sheet.specs.declared.kind.Kind.the-variants.{Plain, Figure}
 use Rattle.sheet.specs.declared.answer.Answer.the-variants.{Passed}
-use Rattle.sheet.proofs.read.Ranges.{Every, MarkRange, EdgeRange}
+use Rattle.sheet.specs.HeldLimits.{Every, MarkRange, EdgeRange}
 use Rattle.reading.proofs.normal.Marks.{marks-of}
 use Rattle.reading.proofs.normal.Distinct.{index-below, distinct-in}
 use Rattle.reading.proofs.normal.TextGraph.{graph-name}
 use Rattle.normalising.proofs.normal_text.NormalWritten.{few-marks}
 use Rattle.texts.proofs.NormalFits.{every-member, upTo, upTo-length, upTo-in, upTo-of}
-use Rattle.texts.proofs.BuiltRows.{Vertex, symbolCell, Fitting, every-in}
+use Rattle.texts.specs.Fitting.{Vertex, Fitting}
+use Rattle.texts.proofs.BuiltRows.{symbolCell, every-in}
 use Rattle.texts.proofs.ReadBack.{builtGraph, EdgeAmong, Readable, read-back, graph-back}
 use Rattle.placing.specs.Filled.{spotNode, filledNormal}
 use Rattle.placing.specs.Holding.{holdingTerm}
@@ -37,7 +39,8 @@ use Rattle.filling.specs.Parts.{places}
 use Rattle.filling.specs.Glued.{Own}
 use Rattle.filling.specs.Classes.{numberIn}
 use Rattle.filling.proofs.Parts.{figure-within, figure-agrees}
-use Rattle.filling.proofs.Located.{Right, filledSpots}
+use Rattle.filling.specs.Right.{Right}
+use Rattle.filling.proofs.Located.{filledSpots}
 use Rattle.filling.proofs.Labelled.{label}
 use Rattle.filling.proofs.Shown.{Like, atoms-like, spotMark, shownSpots}
 use Rattle.filling.proofs.Result.{exact-fillings, marks-same, classes, class-number}
@@ -124,7 +127,7 @@ module _ (figure list : List ℕ) (right : Right figure list) where
 
   module _ (small : length atoms ≤ sheetAtoms) (narrow : length D ≤ sheetLinks) where
     fitting : {l : List Atom} {k : List (Cell (Spot ℕ ℕ))} → Each (Like figure list right ownLabels own-labels) l k → ((x : Node (Spot ℕ ℕ)) → x ∈ portNodes k → x ∈ shownSpots figure list right ownLabels own-labels)
-        → Every (Fitting (upTo (length D)) 999) (map vertex l)
+        → Every (Fitting (upTo (length D)) mostName) (map vertex l)
     fitting done shown = tt
     fitting (more {a = α} {b = κ} {k = k} r e) shown = (
       record {

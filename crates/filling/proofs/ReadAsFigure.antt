@@ -7,7 +7,7 @@ use native.Mathlib.Omega.{arith}
 use lib.Dec.{eqb, leb}
 use lib.ListN.{length, drop, getD}
 use Rattle.rows.specs.Pick.{pick, and, or, not}
-use Rattle.rows.specs.Format.{rowWidth}
+use Rattle.rows.specs.Format.{rowWidth, contextLetter, headLetter}
 use Rattle.rows.specs.Limits.{rowLimit}
 use Rattle.rows.specs.Held.{Held, nothing, withRow}
 use Rattle.rows.specs.Packed.{portsOf}
@@ -16,6 +16,7 @@ use Rattle.sheet.specs.Reading.{strange, clashOf, clashes, lastNumber, Verdict,
 use Rattle.sheet.specs.declared.kind.Kind.{Kind}
 use Rattle.sheet.specs.declared.kind.Kind.the-variants.{Pattern, Figure, Replacement}
 use Rattle.sheet.specs.declared.answer.Answer.the-variants.{Passed}
+use Rattle.sheet.proofs.kind.KindLaws.{rows-limit}
 use Rattle.sheet.proofs.read.Taken.{rowAt, Taken, tests-none, none-tests}
 
 -- Where each row that is taken in would be taken in as a row of a figure.
@@ -37,14 +38,14 @@ module _ (kind : Kind) (given : List ℕ) (row : (h : Held) (text : List ℕ) �
 
   as-figure : (text : List ℕ) → outcomeOf kind given text .answer ≡ Passed → outcomeOf Figure noPorts text ≡ outcomeOf kind given text
   unfolding outcomeOf
-  as-figure text e = read-figure (rowLimit + 1) nothing text e
+  as-figure text e = rw (rows-limit kind) (read-figure (rowLimit + 1) nothing text (rw (rows-limit kind) at e))
 
 -- Where no earlier B row has the number, none has it with another port count.
 pattern-agrees : (contexts : List Context) (text : List ℕ) → clashes Pattern noPorts contexts (rowAt text) ≡ false → clashes Figure noPorts contexts (rowAt text) ≡ false
 unfolding clashes clashOf
 pattern-agrees contexts text e =
     let k = getD (rowAt text .nums) 0 0 in
-    go (eqb (rowAt text .letter) 4) (eqb (rowAt text .letter) 1) (leb k (lastNumber contexts)) (eqb (portsOf contexts k) 0) (not (eqb (portsOf contexts k) (suc (getD (rowAt text .nums) 1 0)))) e
+    go (eqb (rowAt text .letter) headLetter) (eqb (rowAt text .letter) contextLetter) (leb k (lastNumber contexts)) (eqb (portsOf contexts k) 0) (not (eqb (portsOf contexts k) (suc (getD (rowAt text .nums) 1 0)))) e
   where
     go : (h b l a c : Bool) → pick h l (pick b (not a) false) ≡ false → pick h l (pick b (and (not a) c) false) ≡ false
     go true b l a c q = q
@@ -57,7 +58,7 @@ unfolding clashes clashOf
 replacement-agrees given contexts text e =
     let k = getD (rowAt text .nums) 0 0 in
     let n = suc (getD (rowAt text .nums) 1 0) in
-    go (eqb (rowAt text .letter) 4) (eqb (rowAt text .letter) 1) (leb k (lastNumber contexts)) (and (not (eqb (portsOf contexts k) 0)) (not (eqb (portsOf contexts k) n))) (not (eqb (getD given k 0) n)) e
+    go (eqb (rowAt text .letter) headLetter) (eqb (rowAt text .letter) contextLetter) (leb k (lastNumber contexts)) (and (not (eqb (portsOf contexts k) 0)) (not (eqb (portsOf contexts k) n))) (not (eqb (getD given k 0) n)) e
   where
     go : (h b l a c : Bool) → pick h l (pick b (or a c) false) ≡ false → pick h l (pick b a false) ≡ false
     go true b l a c q = q

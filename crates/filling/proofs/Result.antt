@@ -2,7 +2,6 @@
 use Prim.Native.Nat.{ℕ, suc}
 use mathlib.Core.Path.{_≡_, refl, ap, ap₂, sym, _∙_, subst}
 use mathlib.Core.Logic.{_↔_}
-use mathlib.Core.Bool.{true}
 use mathlib.Core.List.{List, _++_, map, map-map, map-append}
 use native.Mathlib.Omega.{arith}
 use lib.ListN.{length}
@@ -19,16 +18,16 @@ use Rattle.reading.specs.NormalSheet.{normalMarks}
 use Rattle.reading.proofs.normal.Classes.{class-of-connected, connected-of-class}
 use Rattle.reading.proofs.normal.Distinct.{Agree, index-agree, length-agree}
 use Rattle.reading.proofs.normal.Marks.{marks-in, marks-of, marks-ascending, ascending-same}
-use Rattle.placing.specs.Fillings.{ExactMarks}
+use Rattle.placing.specs.Fillings.{ExactMarks, AllExactMarks}
 use Rattle.placing.specs.Filled.{flatEntry, spotNumber, spotNode}
 use Rattle.placing.proofs.Names.{exact-flat}
-use Rattle.placing.proofs.FilledText.{spot-injective, AllExactMarks}
-use Rattle.texts.proofs.NormalFits.{every-member}
+use Rattle.placing.proofs.FilledText.{spot-injective}
 use Rattle.filling.specs.Read.{fillingRead, fillingsRead, listHeld}
-use Rattle.filling.specs.Fill.{figureHeld, filledBy, isExact}
+use Rattle.filling.specs.Fill.{figureHeld, filledBy}
 use Rattle.filling.specs.Glued.{Own}
 use Rattle.filling.proofs.Exact.{exact-marks}
-use Rattle.filling.proofs.Located.{Right, figureGraph, filledSpots}
+use Rattle.filling.specs.Right.{Right}
+use Rattle.filling.proofs.Located.{figureGraph, filledSpots}
 use Rattle.filling.proofs.Labelled.{label, labels-tell, connected-same}
 use Rattle.filling.proofs.Shown.{spotMark, shownSpots, shown-stands}
 
@@ -55,7 +54,7 @@ spot-connected E x y c =
 
 module _ (figure list : List ℕ) (right : Right figure list) where
   pub exact-fillings : AllExactMarks (fillingsRead list)
-  exact-fillings = all-map (fillingRead list) (listHeld list .contexts) (λ f. ExactMarks (f .ports) (f .rows)) (λ c i. exact-marks (fillingRead list c) (every-member (λ c. isExact (fillingRead list c) ≡ true) (listHeld list .contexts) c (right .exact) i))
+  exact-fillings = all-map (fillingRead list) (listHeld list .contexts) (λ f. ExactMarks (f .ports) (f .rows)) (λ c i. exact-marks (fillingRead list c) (right .exact c i))
 
   -- The marks of the filled figure are the figure's.
   pub marks-same : marksOf (filledBy figure list) ≡ normalMarks (figureHeld figure)

@@ -14,7 +14,7 @@ use Rattle.rows.specs.declared.Atom.{Atom}
 use Rattle.reading.specs.Graph.{atomCell, edgeOf, graphOf}
 use Rattle.reading.specs.Normal.{classOf, marksOf, shown, distinct, classesBy, numberBy, numberedBy, markedBy, normalFormBy, normalForm}
 use Rattle.normalising.specs.NormalText.{nodeNumber}
-use Rattle.sheet.proofs.read.Ranges.{Every}
+use Rattle.sheet.specs.HeldLimits.{Every}
 use Rattle.reading.proofs.normal.Distinct.{Once, distinct-of, distinct-once, index-below, index-injective, once-length}
 use Rattle.reading.proofs.normal.NormalBounds.{classCount, normal-range}
 use Rattle.texts.proofs.NormalFits.{upTo, upTo-length, upTo-in}

@@ -27,7 +27,7 @@ module _ (normal : Normal) (heads : List Context) (n : ℕ) (ports list : List �
 
   module _ (z : lacking ≡ 0) (differing : ℕ) (D : differing ≡ firstDiffering list (take n heads)) where
     differs : differing ≡ firstDiffering list (listHeld list .contexts)
-    differs = D ∙ ap₂ (λ (k : ℕ) (x : List Context). firstDiffering list (take k x)) (H .count) (H .contexts) ∙ differing-made figure list
+    differs = D ∙ ap₂ (λ (k : ℕ) (x : List Context). firstDiffering list (take k x)) (H .read .count) (H .read .contexts) ∙ differing-made figure list
 
     pub says-differing : (differing ≡ 0 → ⊥) → done.EdgeDiffers 2 differing ≡ filledAnswer figure list
     says-differing h = answer-differing figure list (sym lacks ∙ z) differing differs h

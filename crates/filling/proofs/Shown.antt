@@ -12,8 +12,8 @@ use Rattle.hyperlmntal.specs.DenotedSubstitution.{Spot, outerNode, fillWith, fi
 use Rattle.hyperlmntal.proofs.Lists.{map-agree, Each, done, more, each-append, each-maps, all-append, all-map}
 use Rattle.hyperlmntal.proofs.Filling.{fillCells-append}
 use Rattle.hyperlmntal.proofs.Slots.{entryAt}
-use Rattle.rows.specs.Format.{mostLinks}
-use Rattle.rows.specs.Limits.{sheetAtoms, figureContexts, sheetMarks}
+use Rattle.rows.specs.Format.{mostLinks, mostName}
+use Rattle.rows.specs.Limits.{atomRoom, contextRoom, markRoom}
 use Rattle.rows.specs.Held.{Held}
 use Rattle.rows.specs.Packed.{padded, noAtom, noContext}
 use Rattle.rows.specs.declared.Atom.{Atom}
@@ -23,7 +23,7 @@ use Rattle.reading.specs.Graph.{atomCell, contextCell, graphOf}
 use Rattle.reading.specs.Normal.{markNode, marksOf}
 use Rattle.reading.specs.NormalSheet.{numberIn, normalAtom, normalContext, normalMarks, packedNormal}
 use Rattle.normalising.specs.NormalRows.{pastContexts}
-use Rattle.sheet.proofs.read.Ranges.{Every, AtomRange}
+use Rattle.sheet.specs.HeldLimits.{Every, AtomRange}
 use Rattle.reading.proofs.normal.Connected.{ports-in}
 use Rattle.normalising.proofs.normal_text.NormalWritten.{used-links, taken-padded}
 use Rattle.texts.proofs.NormalFits.{every-member}
@@ -35,7 +35,8 @@ use Rattle.filling.specs.Whole.{placedAtom, partAtoms, contextAtoms, lab
 use Rattle.filling.specs.Classes.{linksIn, markLabels}
 use Rattle.filling.proofs.Rows.{read-graph}
 use Rattle.filling.proofs.Parts.{taken-map, figure-within, part-within}
-use Rattle.filling.proofs.Located.{Right, figureGraph, entries, filledSpots, atomCount, partCount, contextAt, heldAt, nodeAt, entry-at}
+use Rattle.filling.specs.Right.{Right}
+use Rattle.filling.proofs.Located.{figureGraph, entries, filledSpots, atomCount, partCount, contextAt, heldAt, nodeAt, entry-at}
 use Rattle.filling.proofs.Labelled.{labels, Known, labelAt, label, label-within}
 
 module _ (figure list : List ℕ) (right : Right figure list) (own : List ℕ) (O : Own own) where
@@ -48,7 +49,7 @@ module _ (figure list : List ℕ) (right : Right figure list) (own : List ℕ) (
     pub name : κ .label ≡ symbol (α .name)
     pub ports : take (α .count) (α .links) ≡ map (label figure list right own O) (κ .ports)
     pub size : α .count ≡ length (κ .ports)
-    pub range : (1 ≤ α .name) × (α .name ≤ 999) × (α .count ≤ mostLinks)
+    pub range : (1 ≤ α .name) × (α .name ≤ mostName) × (α .count ≤ mostLinks)
     pub stands : (x : Node (Spot ℕ ℕ)) → x ∈ κ .ports → Stands x
 
   abbrev partCells : ℕ → List (Cell (Spot ℕ ℕ))
@@ -94,7 +95,7 @@ module _ (figure list : List ℕ) (right : Right figure list) (own : List ℕ) (
       }
 
   taken-atoms : (h : Held) → take (length (h .atoms)) (packedNormal h .atoms) ≡ map (normalAtom h) (h .atoms)
-  taken-atoms h = ap (λ n. take n (packedNormal h .atoms)) (sym (length-map (h .atoms) (normalAtom h))) ∙ take-padded (sheetAtoms + 1) noAtom (map (normalAtom h) (h .atoms))
+  taken-atoms h = ap (λ n. take n (packedNormal h .atoms)) (sym (length-map (h .atoms) (normalAtom h))) ∙ take-padded atomRoom noAtom (map (normalAtom h) (h .atoms))
 
   part-like : (p : ℕ) → p ≤ partCount figure list → Each Like (tagged (partAtoms p (packedNormal (heldAt figure list p)))) (partCells p)
   part-like p h =
@@ -134,7 +135,7 @@ module _ (figure list : List ℕ) (right : Right figure list) (own : List ℕ) (
   pub taken-contexts : take (length (figureHeld figure .contexts)) (packedNormal (figureHeld figure) .contexts) ≡ map (normalContext (figureHeld figure)) (figureHeld figure .contexts)
   taken-contexts =
       ap (λ n. take n (packedNormal (figureHeld figure) .contexts)) (sym (length-map (figureHeld figure .contexts) (normalContext (figureHeld figure))))
-      ∙ take-padded (figureContexts + 1) noContext (map (normalContext (figureHeld figure)) (figureHeld figure .contexts))
+      ∙ take-padded contextRoom noContext (map (normalContext (figureHeld figure)) (figureHeld figure .contexts))
 
   -- The atoms that the code makes are those of the filled figure.
   pub atoms-like : Each Like (allAtoms list (labels figure list right own O) (packedNormal (figureHeld figure))) (filledSpots figure list .atoms)
@@ -170,7 +171,7 @@ module _ (figure list : List ℕ) (right : Right figure list) (own : List ℕ) (
       at (inr j) f = f j
 
   marks-size : take (length (normalMarks (figureHeld figure))) (packedNormal (figureHeld figure) .marked) ≡ map (λ m. numberIn (figureHeld figure) (markNode m)) (normalMarks (figureHeld figure))
-  marks-size = taken-padded (sheetMarks + 1) (map (λ m. numberIn (figureHeld figure) (markNode m)) (normalMarks (figureHeld figure))) (length (normalMarks (figureHeld figure))) (length-map (normalMarks (figureHeld figure)) (λ m. numberIn (figureHeld figure) (markNode m)))
+  marks-size = taken-padded markRoom (map (λ m. numberIn (figureHeld figure) (markNode m)) (normalMarks (figureHeld figure))) (length (normalMarks (figureHeld figure))) (length-map (normalMarks (figureHeld figure)) (λ m. numberIn (figureHeld figure) (markNode m)))
 
   pub mark-labels : markLabels (labels figure list right own O) (packedNormal (figureHeld figure)) ≡ map (label figure list right own O) (map spotMark (normalMarks (figureHeld figure)))
   mark-labels =

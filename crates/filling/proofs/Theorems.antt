@@ -16,21 +16,21 @@ use Rattle.sheet.specs.Reading.{outcomeOf, noPorts}
 use Rattle.sheet.specs.declared.answer.Answer.the-variants.{Passed}
 use Rattle.sheet.specs.declared.kind.Kind.the-variants.{Plain, Pattern, Figure, Fillings}
 use Rattle.reading.proofs.normal.NormalBounds.{normal-range}
-use Rattle.placing.specs.Net.{Range, normalNet}
+use Rattle.placing.specs.Net.{Range}
 use Rattle.placing.specs.Placing.{Placing, Good}
 use Rattle.placing.specs.Fillings.{Filling, ExactMarks, rowsGraph, normalFillingsOf}
 use Rattle.placing.specs.Filled.{filledNormal}
 use Rattle.placing.specs.Holding.{holdingTerm}
 use Rattle.placing.specs.ListText.{listText}
 use Rattle.placing.specs.Smallest.{smallest}
-use Rattle.placing.proofs.ListBack.{ListFits}
+use Rattle.placing.specs.ListFits.{ListFits, Ordered}
+use Rattle.placing.specs.TextNets.{sheetHeld, sheetNet, patternNet}
 use Rattle.placing.proofs.NormalNets.{number-used}
-use Rattle.placing.proofs.Theorems.{heldSheet, heldPattern}
 use Rattle.placing.proofs.SmallestLaws.{smallest-good}
 use Rattle.filling.specs.Read.{rowsRead, fillingsRead}
 use Rattle.filling.specs.Fill.{figureHeld, isExact, filledBy, filledText, fillAnswer, fillSlip}
 use Rattle.answers.specs.declared.outcome.Done.the-variants as done
-use Rattle.filling.proofs.Located.{Right}
+use Rattle.filling.specs.Right.{Right}
 use Rattle.filling.proofs.Rows as Rows
 use Rattle.filling.proofs.Exact as Exact
 use Rattle.filling.proofs.Denotes as Denotes
@@ -78,22 +78,22 @@ pub marks-exact : (f : Filling) → ExactMarks (f .ports) (f .rows) → isExact 
 marks-exact f x = Exact.marks-exact f x
 
 -- A list of fillings that is written is read back as those fillings.
-pub list-back : (θ : List Filling) → ListFits θ → ((f : Filling) → f ∈ θ → Back.Ordered (f .rows)) → fillingsRead (listText θ) ≡ θ
+pub list-back : (θ : List Filling) → ListFits θ → ((f : Filling) → f ∈ θ → Ordered (f .rows)) → fillingsRead (listText θ) ≡ θ
 list-back θ fits o = Back.list-back θ fits o
 
 -- So is the list of fillings of a good placing.
 pub placed-back : (sheet pattern : List ℕ) → outcomeOf Plain noPorts sheet .answer ≡ Passed → outcomeOf Pattern noPorts pattern .answer ≡ Passed
-    → (p : Placing) → Good (normalNet (heldSheet sheet)) (normalNet (heldPattern pattern)) p
-    → fillingsRead (listText (normalFillingsOf (normalNet (heldSheet sheet)) p (normalNet (heldPattern pattern)))) ≡ normalFillingsOf (normalNet (heldSheet sheet)) p (normalNet (heldPattern pattern))
+    → (p : Placing) → Good (sheetNet sheet) (patternNet pattern) p
+    → fillingsRead (listText (normalFillingsOf (sheetNet sheet) p (patternNet pattern))) ≡ normalFillingsOf (sheetNet sheet) p (patternNet pattern)
 placed-back sheet pattern a b p good = Back.placed-back sheet pattern a b p good
 
 -- The list that place hands out fills the pattern: no refusal 8 or 9 over whole texts, and what fill writes is the same as the sheet.
 pub chosen-fill : (sheet pattern : List ℕ) → outcomeOf Plain noPorts sheet .answer ≡ Passed → outcomeOf Pattern noPorts pattern .answer ≡ Passed
-    → (p : Placing) → smallest (normalNet (heldSheet sheet)) (normalNet (heldPattern pattern)) ≡ some p
+    → (p : Placing) → smallest (sheetNet sheet) (patternNet pattern) ≡ some p
     → (outcomeOf Figure noPorts pattern ≡ outcomeOf Pattern noPorts pattern)
-    × Right pattern (listText (normalFillingsOf (normalNet (heldSheet sheet)) p (normalNet (heldPattern pattern))))
-    × ((slip : List ℕ) (n : ℕ) → fillAnswer pattern (listText (normalFillingsOf (normalNet (heldSheet sheet)) p (normalNet (heldPattern pattern)))) (length slip) ≡ done.Written n
-    → termOfText (outcomeOf Plain noPorts (filledText pattern (listText (normalFillingsOf (normalNet (heldSheet sheet)) p (normalNet (heldPattern pattern))))) .held) ≅ termOfText (heldSheet sheet))
+    × Right pattern (listText (normalFillingsOf (sheetNet sheet) p (patternNet pattern)))
+    × ((slip : List ℕ) (n : ℕ) → fillAnswer pattern (listText (normalFillingsOf (sheetNet sheet) p (patternNet pattern))) (length slip) ≡ done.Written n
+    → termOfText (outcomeOf Plain noPorts (filledText pattern (listText (normalFillingsOf (sheetNet sheet) p (patternNet pattern)))) .held) ≅ termOfText (sheetHeld sheet))
 chosen-fill sheet pattern a b p e =
-    let g = smallest-good (normalNet (heldSheet sheet)) (normalNet (heldPattern pattern)) p e in
+    let g = smallest-good (sheetNet sheet) (patternNet pattern) p e in
     (ReadAsFigure.pattern-figure pattern b, Chosen.placed-right sheet pattern a b p g, Chosen.placed-fill sheet pattern a b p g)

@@ -10,8 +10,8 @@ use Rattle.hyperlmntal.specs.Hypergraph.{Node, Label, Cell, portNodes, mapCell}
 use Rattle.hyperlmntal.specs.DenotedSubstitution.{Spot}
 use Rattle.hyperlmntal.proofs.Lists.{map-agree, Each, done, more}
 use Rattle.hyperlmntal.proofs.Equivalence.{each-length}
-use Rattle.rows.specs.Format.{mostLinks, rowWidth}
-use Rattle.rows.specs.Limits.{sheetAtoms, sheetLinks, sheetMarks}
+use Rattle.rows.specs.Format.{mostLinks, rowWidth, mostNumber}
+use Rattle.rows.specs.Limits.{sheetAtoms, sheetLinks, atomRoom, markRoom}
 use Rattle.rows.specs.Packed.{padded}
 use Rattle.writing.specs.RowText.{rowBytes}
 use Rattle.rows.specs.declared.Atom.{Atom}
@@ -32,7 +32,8 @@ use Rattle.filling.specs.Glued.{Own}
 use Rattle.filling.specs.Whole.{allAtoms}
 use Rattle.filling.specs.Classes.{withLabels, linksIn, numberIn, numberedLinks, numberedAtom, markLabels, shownAtoms, shownLabels, Made}
 use Rattle.filling.proofs.Parts.{figure-within, figure-agrees, padded-any}
-use Rattle.filling.proofs.Located.{Right, filledSpots}
+use Rattle.filling.specs.Right.{Right}
+use Rattle.filling.proofs.Located.{filledSpots}
 use Rattle.filling.proofs.Labelled.{labels, label}
 use Rattle.filling.proofs.Shown.{Like, atoms-like, spotMark, shownSpots, mark-labels, shown-labels}
 use Rattle.filling.proofs.Numbered.{labels-append, labels-distinct}
@@ -104,7 +105,7 @@ module _ (figure list : List ℕ) (right : Right figure list) (own : List ℕ) (
   -- The labels that the code sees.
   pub labels-seen : length madeAtoms ≤ sheetAtoms → shownLabels list (labels figure list right own O) figureNormal ≡ take (sheetLinks + 1) (classes figure list right own O)
   labels-seen small =
-      ap (λ (l : List Atom). withLabels (withLabels [] (linksIn l)) (markLabels (labels figure list right own O) figureNormal)) (take-all (sheetAtoms + 1) madeAtoms (omega arith))
+      ap (λ (l : List Atom). withLabels (withLabels [] (linksIn l)) (markLabels (labels figure list right own O) figureNormal)) (take-all atomRoom madeAtoms (omega arith))
       ∙ sym (labels-append [] (linksIn madeAtoms) (markLabels (labels figure list right own O) figureNormal))
       ∙ labels-distinct (linksIn madeAtoms ++ markLabels (labels figure list right own O) figureNormal)
       ∙ ap (λ l. take (sheetLinks + 1) (distinct l)) (shown-labels figure list right own O)
@@ -114,7 +115,7 @@ module _ (figure list : List ℕ) (right : Right figure list) (own : List ℕ) (
     all-labels = labels-seen small ∙ take-all (sheetLinks + 1) (classes figure list right own O) (omega arith)
 
     all-atoms : shownAtoms list (labels figure list right own O) figureNormal ≡ madeAtoms
-    all-atoms = take-all (sheetAtoms + 1) madeAtoms (omega arith)
+    all-atoms = take-all atomRoom madeAtoms (omega arith)
 
     abbrev pub rowAtoms : List Atom
     rowAtoms = map (numberedAtom (classes figure list right own O)) madeAtoms
@@ -136,17 +137,17 @@ module _ (figure list : List ℕ) (right : Right figure list) (own : List ℕ) (
         ∙ rows-joined pastAtoms symbolRow (atomRow r) rowAtoms (λ k h. ap symbolRow (atom-at k h))
         ∙ ap joined (map-map symbolRow (numberedAtom (classes figure list right own O)) madeAtoms)
 
-    pub marked-are : r .marked ≡ padded (sheetMarks + 1) 0 (map (λ m. numberIn (classes figure list right own O) (label figure list right own O (spotMark figure list right own O m))) marks)
+    pub marked-are : r .marked ≡ padded markRoom 0 (map (λ m. numberIn (classes figure list right own O) (label figure list right own O (spotMark figure list right own O m))) marks)
     marked-are =
         made .marked
-        ∙ ap₂ (λ (d l : List ℕ). padded (sheetMarks + 1) 0 (map (numberIn d) l)) all-labels (mark-labels figure list right own O ∙ map-map (label figure list right own O) (spotMark figure list right own O) marks)
-        ∙ ap (padded (sheetMarks + 1) 0) (map-map (numberIn (classes figure list right own O)) (λ m. label figure list right own O (spotMark figure list right own O m)) marks)
+        ∙ ap₂ (λ (d l : List ℕ). padded markRoom 0 (map (numberIn d) l)) all-labels (mark-labels figure list right own O ∙ map-map (label figure list right own O) (spotMark figure list right own O) marks)
+        ∙ ap (padded markRoom 0) (map-map (numberIn (classes figure list right own O)) (λ m. label figure list right own O (spotMark figure list right own O m)) marks)
 
     mark-row : (k : ℕ) → k < length marks → markRow r k ≡ edgeForm (getD marks k 0)
     mark-row k h =
         ap₂ (λ (a b : ℕ). rowBytes 69 (a ∷ b ∷ []))
-        (ap (λ l. getD l k 0) marked-are ∙ mapped-at (λ m. numberIn (classes figure list right own O) (label figure list right own O (spotMark figure list right own O m))) (sheetMarks + 1) 0 marks k 0 0 h)
-        (ap (λ l. getD l k 0) (made .marks) ∙ getD-padded (sheetMarks + 1) 0 marks k 0 h)
+        (ap (λ l. getD l k 0) marked-are ∙ mapped-at (λ m. numberIn (classes figure list right own O) (label figure list right own O (spotMark figure list right own O m))) markRoom 0 marks k 0 0 h)
+        (ap (λ l. getD l k 0) (made .marks) ∙ getD-padded markRoom 0 marks k 0 h)
 
     -- What is written.
     pub rows-are : normalRows r ≡ filledText figure list
@@ -156,7 +157,7 @@ module _ (figure list : List ℕ) (right : Right figure list) (own : List ℕ) (
         let m : rowsTo (markRow r) (r .«mark_count») ≡ joined (map edgeForm marks) = ap (rowsTo (markRow r)) (made .markCount) ∙ rows-joined 0 edgeForm (markRow r) marks mark-row in
         ap₂ (λ (a b : List ℕ). a ++ b) (ap₂ (λ (a b : List ℕ). a ++ b) atom-rows c ∙ append-nil (joined (map (λ α. symbolRow (numberedAtom (classes figure list right own O) α)) madeAtoms))) m ∙ sym text-is
 
-    number-narrow : (x : ℕ) → numberIn (classes figure list right own O) x ≤ 9999
+    number-narrow : (x : ℕ) → numberIn (classes figure list right own O) x ≤ mostNumber
     number-narrow x = omega (arith, indexOf-le x (classes figure list right own O))
 
     narrow : (α : Atom) → α ∈ madeAtoms → let a = numberedAtom (classes figure list right own O) α in Narrow (a .name) (a .count) (a .links)
@@ -164,13 +165,13 @@ module _ (figure list : List ℕ) (right : Right figure list) (own : List ℕ) (
         (λ α κ l. record {
           named = omega (arith, l .range);
           counted = l .range .2;
-          linked = λ k h. padded-any (λ n. n ≤ 9999) mostLinks 0 0 (map (numberIn (classes figure list right own O)) (take (α .count) (α .links))) (omega arith) (omega arith) (mapped-narrow (take (α .count) (α .links))) k;
+          linked = λ k h. padded-any (λ n. n ≤ mostNumber) mostLinks 0 0 (map (numberIn (classes figure list right own O)) (take (α .count) (α .links))) (omega arith) (omega arith) (mapped-narrow (take (α .count) (α .links))) k;
         })
         (atoms-like figure list right own O)
       where
-        mapped-narrow : (l : List ℕ) (n : ℕ) → n ∈ map (numberIn (classes figure list right own O)) l → n ≤ 9999
+        mapped-narrow : (l : List ℕ) (n : ℕ) → n ∈ map (numberIn (classes figure list right own O)) l → n ≤ mostNumber
         mapped-narrow [] n i = absurd (List·Memᴰ·not-nil i)
-        mapped-narrow (x ∷ l) n (List·Memᴰ·head q) = subst (λ n. n ≤ 9999) (sym q) (number-narrow x)
+        mapped-narrow (x ∷ l) n (List·Memᴰ·head q) = subst (λ n. n ≤ mostNumber) (sym q) (number-narrow x)
         mapped-narrow (x ∷ l) n (List·Memᴰ·tail i) = mapped-narrow l n i
 
     pub made-writable : Writable r × ((r .«atom_count» + r .«context_count» + r .«mark_count») * rowWidth ≤ slipLength)
@@ -192,8 +193,8 @@ module _ (figure list : List ℕ) (right : Right figure list) (own : List ℕ) (
             contextNumbers = λ k h. absurd (omega arith);
             markNumbers = λ k h.
                 let n : k < length marks = omega arith in (
-                  subst (λ b. b ≤ 9999) (sym (ap (λ l. getD l k 0) marked-are ∙ mapped-at (λ m. numberIn (classes figure list right own O) (label figure list right own O (spotMark figure list right own O m))) (sheetMarks + 1) 0 marks k 0 0 n)) (number-narrow (label figure list right own O (spotMark figure list right own O (getD marks k 0)))),
-                  subst (λ l. getD l k 0 ≤ 9999) (sym (made .marks)) (w .markNumbers k n .1),
+                  subst (λ b. b ≤ mostNumber) (sym (ap (λ l. getD l k 0) marked-are ∙ mapped-at (λ m. numberIn (classes figure list right own O) (label figure list right own O (spotMark figure list right own O m))) markRoom 0 marks k 0 0 n)) (number-narrow (label figure list right own O (spotMark figure list right own O (getD marks k 0)))),
+                  subst (λ l. getD l k 0 ≤ mostNumber) (sym (made .marks)) (w .markNumbers k n .1),
                 );
           },
           omega arith,

@@ -5,7 +5,7 @@ use mathlib.Core.List.{List, [], _∷_, _++_, map}
 use lib.ListN.{length, take}
 use Rattle.rows.specs.Pick.{pick}
 use Rattle.rows.specs.Format.{mostLinks}
-use Rattle.rows.specs.Limits.{sheetLinks, sheetMarks}
+use Rattle.rows.specs.Limits.{sheetLinks, markRoom}
 use Rattle.rows.specs.Held.{indexOf, isIn}
 use Rattle.rows.specs.Packed.{padded}
 use Rattle.rows.specs.declared.Atom.{Atom}
@@ -69,6 +69,6 @@ pub record Made (list labels : List ℕ) (figure r : Normal) : Type 0 where
   pub atomCount : r .«atom_count» ≡ length (shownAtoms list labels figure)
   pub contextCount : r .«context_count» ≡ 0
   pub marks : r .marks ≡ figure .marks
-  pub marked : r .marked ≡ padded (sheetMarks + 1) 0 (map (numberIn (shownLabels list labels figure)) (markLabels labels figure))
+  pub marked : r .marked ≡ padded markRoom 0 (map (numberIn (shownLabels list labels figure)) (markLabels labels figure))
   pub markCount : r .«mark_count» ≡ figure .«mark_count»
   pub classCount : r .«class_count» ≡ length (shownLabels list labels figure)

@@ -1,5 +1,6 @@
 pub mod Read
 pub mod Fill
+pub mod Right
 pub mod Parts
 pub mod Glued
 pub mod Whole

@@ -6,11 +6,12 @@ use mathlib.Core.List.{List, [], _∷_}
 use lib.Dec.{eqb}
 use lib.ListN.{take, getD}
 use Rattle.rows.specs.Pick.{pick}
-use Rattle.rows.specs.Format.{mostLinks}
-use Rattle.rows.specs.Limits.{sheetAtoms, figureContexts, sheetMarks, fillingLinks}
+use Rattle.rows.specs.Format.{mostLinks, contextBound}
+use Rattle.rows.specs.Limits.{sheetAtoms, figureContexts, sheetMarks, contextRoom, linkRoom}
 use Rattle.rows.specs.Held.{Held}
 use Rattle.rows.specs.TextArrays.{packed}
 use Rattle.rows.specs.declared.Context.{Context}
+use Rattle.sheet.specs.Filling.{HeadsRead}
 use Rattle.reading.specs.NormalSheet.{packedNormal}
 use Rattle.normalising.specs.NormalRows.{pastAtoms, pastContexts}
 use Rattle.rows.specs.declared.Sheet.{Sheet as Normal}
@@ -34,10 +35,9 @@ withHeads h n =
 abbrev pub partRead : List ℕ → ℕ → Normal
 partRead list number = withHeads (partHeld list number) (partNormal list number)
 
--- the H rows of a list, and the table of their port counts and 1
+-- a list that passes, with its H rows, and the table of their port counts and 1
 pub record Headed (heads : List Context) (n : ℕ) (table list : List ℕ) : Type 0 where
-  pub contexts : heads ≡ packed (listHeld list) .contexts
-  pub count : n ≡ packed (listHeld list) .«context_count»
+  pub read : HeadsRead list heads n
   pub ports : table ≡ packed (listHeld list) .ports
 
 -- the marks of a filling
@@ -60,16 +60,16 @@ firstUnported ports (c ∷ l) = pick (eqb (getD ports (c .number) 0) (suc (c .co
 -- the numbers and counts of a text's n contexts are in their ranges
 pub record Counted (contexts : List Context) (n : ℕ) : Type 0 where
   pub few : n ≤ figureContexts
-  pub number : (i : ℕ) → getD contexts i pastContexts .number < 5
+  pub number : (i : ℕ) → getD contexts i pastContexts .number < contextBound
   pub count : (i : ℕ) → getD contexts i pastContexts .count ≤ mostLinks
 
 -- the classes of one part, which are counted from 1
 abbrev pub partRoom : ℕ
-partRoom = fillingLinks + mostLinks
+partRoom = linkRoom
 
 -- the figure, and a filling for each context
 abbrev pub places : ℕ
-places = (figureContexts + 1) * partRoom
+places = contextRoom * partRoom
 
 -- a normal form whose numbers are in their ranges; past an array's end the logic reads zeros and an empty list
 pub record Low (n : Normal) : Type 0 where
@@ -79,6 +79,6 @@ pub record Low (n : Normal) : Type 0 where
   pub atomCounts : (i : ℕ) → getD (n .atoms) i pastAtoms .count ≤ mostLinks
   pub atomLinks : (i k : ℕ) → getD (getD (n .atoms) i pastAtoms .links) k 0 < partRoom
   pub contextCounts : (i : ℕ) → getD (n .contexts) i pastContexts .count ≤ mostLinks
-  pub contextNumbers : (i : ℕ) → getD (n .contexts) i pastContexts .number < 5
+  pub contextNumbers : (i : ℕ) → getD (n .contexts) i pastContexts .number < contextBound
   pub contextLinks : (i k : ℕ) → getD (getD (n .contexts) i pastContexts .links) k 0 < partRoom
   pub marked : (k : ℕ) → getD (n .marked) k 0 < partRoom

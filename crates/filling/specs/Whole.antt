@@ -4,7 +4,7 @@ use mathlib.Core.Path.{_≡_}
 use mathlib.Core.List.{List, [], _∷_, _++_, map}
 use lib.ListN.{take, getD}
 use Rattle.rows.specs.Format.{mostLinks}
-use Rattle.rows.specs.Limits.{sheetAtoms}
+use Rattle.rows.specs.Limits.{atomRoom}
 use Rattle.rows.specs.Packed.{padded}
 use Rattle.rows.specs.declared.Atom.{Atom}
 use Rattle.rows.specs.declared.Context.{Context}
@@ -51,7 +51,7 @@ allAtoms list labels figure = map (labelledAtom labels) (placedAtoms list figure
 
 -- as many as there is room for
 abbrev pub roomFor : List Atom → List Atom
-roomFor l = take (sheetAtoms + 1) l
+roomFor l = take atomRoom l
 
 abbrev pub wholeAtoms : Whole → List Atom
 wholeAtoms w = take (w .count) (w .atoms)
@@ -63,7 +63,7 @@ ownWhole n = record { atoms = n .atoms; count = n .«atom_count» }
 -- w with more atoms behind its own
 pub record Grown (w r : Whole) (more : List Atom) : Type 0 where
   pub atoms : wholeAtoms r ≡ roomFor (wholeAtoms w ++ more)
-  pub few : r .count ≤ sheetAtoms + 1
+  pub few : r .count ≤ atomRoom
 
 -- n contexts whose numbers, counts and links are in their ranges
 pub record ContextsRanged (contexts : List Context) (n : ℕ) : Type 0 where
@@ -73,5 +73,5 @@ pub record ContextsRanged (contexts : List Context) (n : ℕ) : Type 0 where
 -- w has the atoms of own and of the fillings for these contexts, and the ports of the contexts made labels one
 pub record Puts (list : List ℕ) (own : Whole) (contexts : List Context) (before after : List ℕ) (w : Whole) : Type 0 where
   pub atoms : wholeAtoms w ≡ roomFor (wholeAtoms own ++ contextAtoms list 1 contexts)
-  pub few : w .count ≤ sheetAtoms + 1
+  pub few : w .count ≤ atomRoom
   pub labels : after ≡ joinedAll before (allPairs list 1 contexts)

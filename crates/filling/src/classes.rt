@@ -9,7 +9,7 @@ ghost use mathlib.Core.List.{List, [], _∷_, _++_, map};
 ghost use Prim.Native.Nat.{ℕ, _+_, _≤_, _<_};
 ghost use lib.ListN.{length, take, drop, getD};
 ghost use Rattle.rows.specs.Format.{mostLinks};
-ghost use Rattle.rows.specs.Limits.{sheetAtoms, sheetMarks};
+ghost use Rattle.rows.specs.Limits.{sheetMarks, atomRoom, markRoom};
 ghost use Rattle.rows.specs.Packed.{padded};
 ghost use Rattle.normalising.specs.NormalRows.{pastAtoms};
 ghost use Rattle.filling.specs.Parts.{places};
@@ -67,7 +67,7 @@ pub(crate) fn numbered_atoms(
     mut atoms: [Atom; Sheet::ATOM_ROOM],
     count: usize,
 ) -> [Atom; Sheet::ATOM_ROOM]
-    requires { ⌜ LabelTable (now known) (now n) × (count ≤ sheetAtoms + 1) × ((i : ℕ) → Linked (getD (take count atoms) i pastAtoms)) ⌝ }
+    requires { ⌜ LabelTable (now known) (now n) × (count ≤ atomRoom) × ((i : ℕ) → Linked (getD (take count atoms) i pastAtoms)) ⌝ }
     ensures { λ _. ⌜ Sees (now (known .entry)) (now (n .entry)) (now (known .exit)) (now (n .exit)) (linksIn (map (labelledAtom (now (labels .entry))) (take count atoms))) ⌝ }
     ensures { λ r. ⌜ ((later : List ℕ) → r ≡ map (numberedAt (withLabels (take (now (n .exit)) (now (known .exit))) later) (now (labels .entry))) (take count atoms) ++ drop count atoms) ⌝ }
     ensures { λ _. ⌜ length (take count atoms) ≡ count ⌝ }
@@ -97,7 +97,7 @@ pub(crate) fn numbered_marks(
 ) -> [u16; Sheet::MARK_ROOM]
     requires { ⌜ LabelTable (now known) (now n) × (count ≤ sheetMarks) × ((k : ℕ) → getD marked k 0 < places) ⌝ }
     ensures { λ _. ⌜ Sees (now (known .entry)) (now (n .entry)) (now (known .exit)) (now (n .exit)) (labelsAt (now (labels .entry)) count marked) ⌝ }
-    ensures { λ r. ⌜ r ≡ padded (sheetMarks + 1) 0 (map (numberIn (take (now (n .exit)) (now (known .exit)))) (labelsAt (now (labels .entry)) count marked)) ⌝ }
+    ensures { λ r. ⌜ r ≡ padded markRoom 0 (map (numberIn (take (now (n .exit)) (now (known .exit)))) (labelsAt (now (labels .entry)) count marked)) ⌝ }
 {
     let mut numbered = [0u16; Sheet::MARK_ROOM];
     let mut k = 0;

@@ -13,7 +13,6 @@ ghost use mathlib.Core.Path.{_≡_};
 ghost use mathlib.Core.List.{List};
 ghost use Prim.Native.Nat.{ℕ, _≤_};
 ghost use lib.ListN.{length};
-ghost use Rattle.sheet.specs.Filling.{Passes};
 ghost use Rattle.reading.specs.NormalSheet.{packedNormal};
 ghost use Rattle.normalising.specs.NormalText.{slipLength};
 ghost use Rattle.filling.specs.Parts.{Headed};
@@ -29,7 +28,7 @@ fn fill_read(
     list: &[u8],
     out: &mut [u8],
 ) -> Done
-    requires { ⌜ ((text : List ℕ) × (figure ≡ packedNormal (figureHeld text))) × Headed heads «head_count» ports (now list) × Passes (now list) ⌝ }
+    requires { ⌜ ((text : List ℕ) × (figure ≡ packedNormal (figureHeld text))) × Headed heads «head_count» ports (now list) ⌝ }
     requires { ⌜ slipLength ≤ length (now out) ⌝ }
     ensures { λ r. ⌜ ((text : List ℕ) → figure ≡ packedNormal (figureHeld text) → r ≡ filledAnswer text (now (list .entry))) ⌝ }
     ensures { λ r. ⌜ ((text : List ℕ) → figure ≡ packedNormal (figureHeld text) → now (out .exit) ≡ slipAfter r (filledText text (now (list .entry))) (now (out .entry))) ⌝ }
@@ -40,7 +39,7 @@ fn fill_read(
         return Done::BlankClash(1, lacking);
     }
     let mut exact = [0u16; Sheet::NUMBERS];
-    let normal = normal_filled(figure, list, &mut exact);
+    let normal = normal_filled(figure, list, heads, head_count, &mut exact);
     let other = first_differing(heads, head_count, list, &exact);
     if other != 0 {
         return Done::EdgeDiffers(2, other);

@@ -12,9 +12,9 @@ ghost use mathlib.Core.Path.{_≡_};
 ghost use mathlib.Core.List.{List};
 ghost use Prim.Native.Nat.{ℕ, _+_, _<_, _≤_};
 ghost use lib.ListN.{take, getD};
-ghost use Rattle.rows.specs.Limits.{sheetAtoms, sheetMarks};
+ghost use Rattle.rows.specs.Limits.{sheetMarks, atomRoom};
 ghost use Rattle.rows.specs.declared.Sheet as form;
-ghost use Rattle.sheet.specs.Filling.{Passes};
+ghost use Rattle.sheet.specs.Filling.{HeadsRead};
 ghost use Rattle.reading.specs.NormalSheet.{packedNormal};
 ghost use Rattle.normalising.specs.NormalRows.{pastAtoms};
 ghost use Rattle.filling.specs.Read.{listHeld};
@@ -34,7 +34,7 @@ pub fn numbered_whole(
     places: [u16; Sheet::MARK_ROOM],
     m: usize,
 ) -> Sheet
-    requires { ⌜ (whole .count ≤ sheetAtoms + 1) × ((i : ℕ) → Linked (getD (wholeAtoms whole) i pastAtoms)) × (m ≤ sheetMarks) × ((k : ℕ) → getD places k 0 < partRoom) ⌝ }
+    requires { ⌜ (whole .count ≤ atomRoom) × ((i : ℕ) → Linked (getD (wholeAtoms whole) i pastAtoms)) × (m ≤ sheetMarks) × ((k : ℕ) → getD places k 0 < partRoom) ⌝ }
     ensures { λ r. ⌜ ((list own : List ℕ) (figure : form.Sheet) → figure .marks ≡ marks → figure .marked ≡ places → figure .«mark_count» ≡ m → Own own → Puts list (ownWhole figure) (take (figure .«context_count») (figure .contexts)) own (now (labels .entry)) whole → (l : List ℕ) × (Glues list figure l × Made list l figure r)) ⌝ }
 {
     let mut known = [0u16; KNOWN];
@@ -58,8 +58,14 @@ pub fn numbered_whole(
 
 // The normal form of a figure, by its own, filled from a list that passed and has a filling for each of its contexts;
 // notes of each filling read whether its marks are exact.
-pub fn normal_filled(figure: Sheet, list: &[u8], exact: &mut [u16; Sheet::NUMBERS]) -> Sheet
-    requires { ⌜ ((text : List ℕ) × (figure ≡ packedNormal (figureHeld text))) × Passes (now list) × Exacts (now list) (now exact) ⌝ }
+pub fn normal_filled(
+    figure: Sheet,
+    list: &[u8],
+    heads: [Context; Sheet::CONTEXT_ROOM],
+    head_count: usize,
+    exact: &mut [u16; Sheet::NUMBERS],
+) -> Sheet
+    requires { ⌜ ((text : List ℕ) × (figure ≡ packedNormal (figureHeld text))) × HeadsRead (now list) heads «head_count» × Exacts (now list) (now exact) ⌝ }
     ensures { λ _. ⌜ Exacts (now (list .entry)) (now (exact .exit)) ⌝ }
     ensures { λ r. ⌜ ((text : List ℕ) → figure ≡ packedNormal (figureHeld text) → firstLacking (listHeld (now (list .entry)) .contexts) (figureHeld text .contexts) ≡ 0 → firstDiffering (now (list .entry)) (listHeld (now (list .entry)) .contexts) ≡ 0 → FilledIs text (now (list .entry)) r) ⌝ }
 {
@@ -72,7 +78,16 @@ pub fn normal_filled(figure: Sheet, list: &[u8], exact: &mut [u16; Sheet::NUMBER
     };
     let contexts = figure.contexts;
     let n = figure.context_count;
-    let whole = whole_of(whole, contexts, n, list, &mut labels, exact);
+    let whole = whole_of(
+        whole,
+        contexts,
+        n,
+        list,
+        heads,
+        head_count,
+        &mut labels,
+        exact,
+    );
     let marks = figure.marks;
     let places = figure.marked;
     numbered_whole(whole, &labels, marks, places, figure.mark_count)

@@ -8,24 +8,29 @@ ghost use mathlib.Core.Path.{_≡_};
 ghost use mathlib.Core.List.{List};
 ghost use Prim.Native.Nat.{ℕ, _+_, _<_, _≤_};
 ghost use lib.ListN.{length, take};
-ghost use Rattle.rows.specs.Format.{mostLinks};
-ghost use Rattle.rows.specs.Limits.{sheetMarks};
-ghost use Rattle.sheet.specs.Filling.{Passes};
+ghost use Rattle.rows.specs.Format.{mostLinks, contextBound};
+ghost use Rattle.rows.specs.Limits.{sheetMarks, markRoom};
+ghost use Rattle.sheet.specs.Filling.{HeadsRead};
 ghost use Rattle.placing.specs.Smallest.{sameList, numbersTo};
 ghost use Rattle.filling.specs.Fill.{firstDiffering};
 ghost use Rattle.filling.specs.Parts.{partRead, partMarks, exactTo, Exacts, firstUnported, Counted};
 
 // The filling of this number, read by itself: its normal form, with its head.
-pub(crate) fn part_of(list: &[u8], number: u16) -> Reading
-    requires { ⌜ Passes (now list) ⌝ }
+pub(crate) fn part_of(
+    list: &[u8],
+    heads: [Context; Sheet::CONTEXT_ROOM],
+    count: usize,
+    number: u16,
+) -> Reading
+    requires { ⌜ HeadsRead (now list) heads count ⌝ }
     ensures { λ r. ⌜ r .normal ≡ partRead (now (list .entry)) number ⌝ }
 {
-    read_list(part_for(list, number))
+    read_list(part_for(list, heads, count, number))
 }
 
 // Whether the first `count` marks, which ascend, are exactly 1 to n.
 fn marks_exact(marks: &[u16; Sheet::MARK_ROOM], count: usize, n: u16) -> bool
-    requires { ⌜ (count ≤ sheetMarks) × (length (now marks) ≡ sheetMarks + 1) ⌝ }
+    requires { ⌜ (count ≤ sheetMarks) × (length (now marks) ≡ markRoom) ⌝ }
     ensures { λ r. ⌜ r ≡ sameList (take count (now (marks .entry))) (numbersTo n) ⌝ }
 {
     if count != n as usize {
@@ -49,7 +54,7 @@ pub(crate) fn note_exact(
     number: u16,
     n: u16,
 )
-    requires { ⌜ (count ≤ sheetMarks) × (length (now marks) ≡ sheetMarks + 1) × (number < 5) × (n ≤ mostLinks) ⌝ }
+    requires { ⌜ (count ≤ sheetMarks) × (length (now marks) ≡ markRoom) × (number < contextBound) × (n ≤ mostLinks) ⌝ }
     ensures { λ _. ⌜ ((list : List ℕ) → take count (now (marks .entry)) ≡ partMarks list number → Exacts list (now (exact .entry)) → Exacts list (now (exact .exit))) ⌝ }
 {
     if marks_exact(marks, count, n) {
@@ -58,14 +63,21 @@ pub(crate) fn note_exact(
 }
 
 // Whether the marks of the filling of this number are exactly 1 to n; one that is noted is not read.
-fn is_exact(list: &[u8], exact: &[u16; Sheet::NUMBERS], number: u16, n: u16) -> bool
-    requires { ⌜ Passes (now list) × Exacts (now list) (now exact) × (number < 5) × (n ≤ mostLinks) ⌝ }
+fn is_exact(
+    list: &[u8],
+    heads: [Context; Sheet::CONTEXT_ROOM],
+    count: usize,
+    exact: &[u16; Sheet::NUMBERS],
+    number: u16,
+    n: u16,
+) -> bool
+    requires { ⌜ HeadsRead (now list) heads count × Exacts (now list) (now exact) × (number < contextBound) × (n ≤ mostLinks) ⌝ }
     ensures { λ r. ⌜ r ≡ exactTo (now (list .entry)) number n ⌝ }
 {
     if exact[number as usize] == n + 1 {
         return true;
     }
-    let part = part_of(list, number);
+    let part = part_of(list, heads, count, number);
     marks_exact(&part.normal.marks, part.normal.mark_count, n)
 }
 
@@ -97,13 +109,13 @@ pub fn first_differing(
     list: &[u8],
     exact: &[u16; Sheet::NUMBERS],
 ) -> usize
-    requires { ⌜ Counted heads count × Passes (now list) × Exacts (now list) (now exact) ⌝ }
+    requires { ⌜ HeadsRead (now list) heads count × Exacts (now list) (now exact) ⌝ }
     ensures { λ r. ⌜ r ≡ firstDiffering (now (list .entry)) (take count heads) ⌝ }
 {
     let mut i = 0;
     while i < count {
         let head = heads[i];
-        if !is_exact(list, exact, head.number, head.count) {
+        if !is_exact(list, heads, count, exact, head.number, head.count) {
             return head.row as usize;
         }
         i += 1;

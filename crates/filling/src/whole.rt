@@ -11,8 +11,8 @@ ghost use mathlib.Core.Path.{_≡_};
 ghost use mathlib.Core.List.{map};
 ghost use Prim.Native.Nat.{ℕ, _+_, _≤_, _<_};
 ghost use lib.ListN.{take, getD};
-ghost use Rattle.rows.specs.Limits.{sheetAtoms, figureContexts};
-ghost use Rattle.sheet.specs.Filling.{Passes};
+ghost use Rattle.rows.specs.Limits.{sheetAtoms, figureContexts, atomRoom};
+ghost use Rattle.sheet.specs.Filling.{HeadsRead};
 ghost use Rattle.normalising.specs.NormalRows.{pastAtoms};
 ghost use Rattle.filling.specs.Parts.{partRoom, Exacts};
 ghost use Rattle.filling.specs.Glued.{placeOf, Own};
@@ -41,7 +41,7 @@ pub fn placed(p: usize, links: [u16; Sheet::MOST_LINKS]) -> [u16; Sheet::MOST_LI
 impl Whole {
     // The first `count` atoms of part p, as many as there is room for.
     fn with_part(mut self, p: usize, atoms: [Atom; Sheet::ATOM_ROOM], count: usize) -> Self
-        requires { ⌜ (self .count ≤ sheetAtoms + 1) × (p ≤ figureContexts) × (count ≤ sheetAtoms) × ((i k : ℕ) → getD (getD atoms i pastAtoms .links) k 0 < partRoom) ⌝ }
+        requires { ⌜ (self .count ≤ atomRoom) × (p ≤ figureContexts) × (count ≤ sheetAtoms) × ((i k : ℕ) → getD (getD atoms i pastAtoms .links) k 0 < partRoom) ⌝ }
         ensures { λ r. ⌜ Grown self r (map (placedAtom p) (take count atoms)) ⌝ }
     {
         let mut i = 0;
@@ -71,10 +71,12 @@ pub(crate) fn whole_of(
     contexts: [Context; Sheet::CONTEXT_ROOM],
     count: usize,
     list: &[u8],
+    heads: [Context; Sheet::CONTEXT_ROOM],
+    head_count: usize,
     labels: &mut [u16; PLACES],
     exact: &mut [u16; Sheet::NUMBERS],
 ) -> Whole
-    requires { ⌜ ContextsRanged contexts count × (own .count ≤ sheetAtoms + 1) × Passes (now list) × Own (now labels) × Exacts (now list) (now exact) ⌝ }
+    requires { ⌜ ContextsRanged contexts count × (own .count ≤ atomRoom) × HeadsRead (now list) heads «head_count» × Own (now labels) × Exacts (now list) (now exact) ⌝ }
     ensures { λ _. ⌜ Exacts (now (list .entry)) (now (exact .exit)) ⌝ }
     ensures { λ r. ⌜ Puts (now (list .entry)) own (take count contexts) (now (labels .entry)) (now (labels .exit)) r ⌝ }
 {
@@ -83,7 +85,7 @@ pub(crate) fn whole_of(
     while i < count {
         let context = contexts[i];
         let links = context.links;
-        let part = part_of(list, context.number);
+        let part = part_of(list, heads, head_count, context.number);
         with_ports(
             &mut *labels,
             i + 1,

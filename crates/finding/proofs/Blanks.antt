@@ -14,14 +14,13 @@ use Rattle.rows.specs.declared.Context.{Context}
 use Rattle.sheet.specs.Reading.{outcomeOf, noPorts}
 use Rattle.sheet.specs.declared.kind.Kind.the-variants.{Pattern}
 use Rattle.sheet.specs.declared.answer.Answer.the-variants.{Passed}
-use Rattle.sheet.proofs.read.Ranges.{Every}
+use Rattle.sheet.specs.HeldLimits.{Every}
 use Rattle.texts.proofs.BuiltRows.{every-in}
-use Rattle.placing.specs.Net.{NetCell, normalNet}
+use Rattle.placing.specs.Net.{NetCell, blankOf}
 use Rattle.placing.specs.Fillings.{Filling, Fits}
-use Rattle.placing.proofs.NormalTexts.{netBlank, textBlank}
+use Rattle.placing.specs.TextNets.{textBlank, patternHeld, patternNet}
 use Rattle.placing.proofs.Orders.{apart-same}
 use Rattle.placing.proofs.Theorems.{pattern-net, pattern-blanks}
-use Rattle.finding.specs.Place.{patternHeld}
 
 -- A filling of this blank's number and port count.
 abbrev pub Covering : List Filling → Context → Type 0
@@ -39,8 +38,8 @@ ports-found (c ∷ l) x n e = go (eqb (c .number) x) refl e (ports-found l x n)
     go false q r ih = let t = ih r in (t .0, List·Memᴰ·tail (t .1), t .2, t .3)
 
 -- A blank of a pattern, in the pattern's net.
-blank-cell : (pattern : List ℕ) (c : Context) → c ∈ patternHeld pattern .contexts → (d : NetCell) × (d ∈ normalNet (patternHeld pattern) .contexts) × (netBlank d ≡ textBlank c)
-blank-cell pattern c m = Memᴰ·of-map netBlank (normalNet (patternHeld pattern) .contexts) (subst (λ l. textBlank c ∈ l) (sym (pattern-blanks pattern)) (Memᴰ·map textBlank m))
+blank-cell : (pattern : List ℕ) (c : Context) → c ∈ patternHeld pattern .contexts → (d : NetCell) × (d ∈ patternNet pattern .contexts) × (blankOf d ≡ textBlank c)
+blank-cell pattern c m = Memᴰ·of-map blankOf (patternNet pattern .contexts) (subst (λ l. textBlank c ∈ l) (sym (pattern-blanks pattern)) (Memᴰ·map textBlank m))
 
 -- Blanks of a pattern with one number have one port count.
 pub one-count : (pattern : List ℕ) → outcomeOf Pattern noPorts pattern .answer ≡ Passed
@@ -48,10 +47,10 @@ pub one-count : (pattern : List ℕ) → outcomeOf Pattern noPorts pattern .answ
 one-count pattern passed c d i j e =
     let t = blank-cell pattern c i in
     let u = blank-cell pattern d j in
-    let same : t .0 ≡ u .0 = apart-same (normalNet (patternHeld pattern) .contexts) (pattern-net pattern passed .different) (t .0) (u .0) (t .1) (u .1) (ap (λ q. q .0) (t .2) ∙ e ∙ sym (ap (λ q. q .0) (u .2))) in
+    let same : t .0 ≡ u .0 = apart-same (patternNet pattern .contexts) (pattern-net pattern passed .different) (t .0) (u .0) (t .1) (u .1) (ap (λ q. q .0) (t .2) ∙ e ∙ sym (ap (λ q. q .0) (u .2))) in
     sym (ap (λ q. q .1) (t .2)) ∙ ap (λ x. length (x .1)) same ∙ ap (λ q. q .1) (u .2)
 
-module _ (pattern : List ℕ) (θ : List Filling) (fit : Fits (normalNet (patternHeld pattern)) θ) where
+module _ (pattern : List ℕ) (θ : List Filling) (fit : Fits (patternNet pattern) θ) where
   pub one-covers : (c : Context) → c ∈ patternHeld pattern .contexts → Covering θ c
   one-covers c m =
       let t = blank-cell pattern c m in

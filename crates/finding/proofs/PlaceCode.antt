@@ -23,6 +23,7 @@ use Rattle.placing.specs.Placing.{Placing, Good}
 use Rattle.placing.specs.Fillings.{Filling, normalFillingsOf}
 use Rattle.placing.specs.ListText.{listText}
 use Rattle.placing.specs.Smallest.{smallest}
+use Rattle.placing.specs.TextNets.{sheetHeld, patternHeld, sheetNet, patternNet}
 use Rattle.placing.proofs.Theorems.{pattern-net}
 use Rattle.placing.proofs.SmallestLaws.{smallest-good}
 use Rattle.network.specs.NetIn.{netIn}
@@ -34,7 +35,7 @@ use Rattle.listing.specs.Writing.{Columns, fillingsText}
 use Rattle.answers.specs.Done.{slipAfter}
 use Rattle.answers.specs.declared.outcome.Done.{Done}
 use Rattle.answers.specs.declared.outcome.Done.the-variants as done
-use Rattle.finding.specs.Place.{sheetHeld, patternHeld, fillingsIn, placedFillings, placedAnswer, placedText, placeAnswer, placeSlip, sheetNet, patternNet}
+use Rattle.finding.specs.Place.{fillingsIn, placedFillings, placedAnswer, placedText, placeAnswer, placeSlip}
 use Rattle.finding.specs.Inputs.{PlaceInputs}
 
 module _ (sheet pattern : form.Sheet) (s p : List ℕ) (I : PlaceInputs sheet pattern s p) where

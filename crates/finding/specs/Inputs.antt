@@ -4,7 +4,7 @@ use mathlib.Core.Path.{_≡_}
 use mathlib.Core.List.{List}
 use Rattle.reading.specs.NormalSheet.{packedNormal}
 use Rattle.rows.specs.declared.Sheet as form
-use Rattle.finding.specs.Place.{sheetHeld, patternHeld}
+use Rattle.placing.specs.TextNets.{sheetHeld, patternHeld}
 use Rattle.finding.specs.Passed.{PlacePassed}
 
 pub record PlaceInputs (sheet pattern : form.Sheet) (sheetText patternText : List ℕ) : Type 0 where

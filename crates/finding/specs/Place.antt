@@ -6,11 +6,11 @@ use mathlib.Core.Option.{Option, none, some}
 use lib.Dec.{ltb}
 use lib.ListN.{length}
 use Rattle.rows.specs.Pick.{pick}
-use Rattle.rows.specs.Held.{Held}
 use Rattle.normalising.specs.NormalText.{slipLength}
 use Rattle.sheet.specs.Reading.{outcomeOf, noPorts}
 use Rattle.sheet.specs.declared.kind.Kind.the-variants.{Plain, Pattern}
-use Rattle.placing.specs.Net.{Net, normalNet}
+use Rattle.placing.specs.Net.{Net}
+use Rattle.placing.specs.TextNets.{sheetNet, patternNet}
 use Rattle.placing.specs.Placing.{Placing}
 use Rattle.placing.specs.Fillings.{Filling, normalFillingsOf}
 use Rattle.placing.specs.ListText.{listText}
@@ -20,19 +20,6 @@ use Rattle.filling.specs.Fill.{unless}
 use Rattle.answers.specs.declared.outcome.Done.{Done}
 use Rattle.answers.specs.declared.outcome.Done.the-variants as done
 
-abbrev pub sheetHeld : List ℕ → Held
-sheetHeld sheet = outcomeOf Plain noPorts sheet .held
-
-abbrev pub patternHeld : List ℕ → Held
-patternHeld pattern = outcomeOf Pattern noPorts pattern .held
-
--- the normal nets of the two texts
-abbrev pub sheetNet : List ℕ → Net
-sheetNet sheet = normalNet (sheetHeld sheet)
-
-abbrev pub patternNet : List ℕ → Net
-patternNet pattern = normalNet (patternHeld pattern)
-
 -- the fillings of a placing, where there is one
 abbrev pub fillingsIn : Net → Net → Option Placing → Option (List Filling)
 fillingsIn S F none = none
@@ -41,8 +28,8 @@ fillingsIn S F (some p) = some (normalFillingsOf S p F)
 -- the fillings that are handed out: 'Of several good placings the smallest is taken'; none where no placing is good
 unfoldable pub placedFillings : List ℕ → List ℕ → Option (List Filling)
 placedFillings sheet pattern =
-    let S = normalNet (sheetHeld sheet) in
-    let F = normalNet (patternHeld pattern) in
+    let S = sheetNet sheet in
+    let F = patternNet pattern in
     fillingsIn S F (smallest S F)
 
 -- 11: 'no good placing'

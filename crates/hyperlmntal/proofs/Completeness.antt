@@ -7,14 +7,14 @@ use Rattle.hyperlmntal.specs.Link.{Link, _∈_}
 use Rattle.hyperlmntal.specs.Template.{Template, fn}
 use Rattle.hyperlmntal.specs.Congruence.{_≅_, ≅-sym, ≅-trans}
 use Rattle.hyperlmntal.specs.GraphSubstitution.{Distinct}
-use Rattle.hyperlmntal.specs.Hypergraph.{Node, Cell, Connected, portNodes, Place, flat}
+use Rattle.hyperlmntal.specs.Hypergraph.{Node, Cell, Connected, portNodes, Place, flat, On}
 use Rattle.hyperlmntal.specs.Isomorphism.{Isomorphic}
 use Rattle.hyperlmntal.specs.TermOf.{labelled}
 use Rattle.hyperlmntal.proofs.Lists.{Each, done, more, Perm, perm-sym}
 use Rattle.hyperlmntal.proofs.Permutations.{Pick, first, perm-member, pick-member, pick-at, pick-perm, each-imp-in}
 use Rattle.hyperlmntal.proofs.Relational.{Alike, Match, Iso}
 use Rattle.hyperlmntal.proofs.Equivalence.{iso-of-isomorphic}
-use Rattle.hyperlmntal.proofs.Flats.{On, on-atoms, on-fusions}
+use Rattle.hyperlmntal.proofs.Flats.{on-atoms, on-fusions}
 use Rattle.hyperlmntal.proofs.FreeNames.{fn-of-flat, flat-of-fn}
 use Rattle.hyperlmntal.proofs.CongruentNames.{Within}
 use Rattle.hyperlmntal.proofs.Soundness.{congruent-isomorphic}

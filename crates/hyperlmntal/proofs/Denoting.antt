@@ -7,11 +7,11 @@ use native.Mathlib.Omega.{arith}
 use Rattle.hyperlmntal.specs.Link.{local, free, _≟_, _∈_}
 use Rattle.hyperlmntal.specs.Template.{Template, molecule}
 use Rattle.hyperlmntal.specs.Congruence.{_≅_}
-use Rattle.hyperlmntal.specs.Hypergraph.{Node, inner, name, Label, symbol, hole, Cell, Fusion, Flat, nodes, Place, here, under, left, right, mapFlat, join, onLeft, onRight, hide, flat}
+use Rattle.hyperlmntal.specs.Hypergraph.{Node, inner, name, Label, symbol, hole, Cell, Fusion, Flat, nodes, Place, here, under, left, right, mapFlat, join, onLeft, onRight, hide, flat, On}
 use Rattle.hyperlmntal.specs.Numbered.{flatN}
 use Rattle.hyperlmntal.specs.Isomorphism.{Isomorphic}
 use Rattle.hyperlmntal.specs.TermOf.{linkOf, labelled, vertexTerms, fusionTerms, inners, bindAll, termOf, Marked}
-use Rattle.hyperlmntal.proofs.Flats.{On, flat-≡, mapFlat-mapFlat, mapFlat-idle, mapFlat-one}
+use Rattle.hyperlmntal.proofs.Flats.{flat-≡, mapFlat-mapFlat, mapFlat-idle, mapFlat-one}
 use Rattle.hyperlmntal.proofs.FreeNames.{hide-at, hide-off}
 use Rattle.hyperlmntal.proofs.Relational.{Iso}
 use Rattle.hyperlmntal.proofs.Relabel.{relabel, relabel-names}

@@ -9,13 +9,13 @@ use lib.ListN.{length}
 use Rattle.hyperlmntal.specs.Link.{Link, _≟_, select, _∈_}
 use Rattle.hyperlmntal.specs.Template.{Template, fn}
 use Rattle.hyperlmntal.specs.GraphSubstitution.{Entry, Substitution, Distinct, AllExact, substitute}
-use Rattle.hyperlmntal.specs.Hypergraph.{Node, inner, name, Cell, Flat, Place, portNodes, endNodes, mapFusion, join, flat}
+use Rattle.hyperlmntal.specs.Hypergraph.{Node, inner, name, Cell, Flat, Place, portNodes, endNodes, mapFusion, join, flat, On}
 use Rattle.hyperlmntal.specs.Numbered.{flatN}
 use Rattle.hyperlmntal.specs.Isomorphism.{Isomorphic}
 use Rattle.hyperlmntal.specs.DenotedSubstitution.{Spot, outerNode, connect, plug, fillWith, fillCells, fillFlat, denotedBy, denotedAll, denotedAllN}
 use Rattle.hyperlmntal.proofs.Lists.{unpadded, Each, done, more, all-map, each-maps, each-map₂}
 use Rattle.hyperlmntal.proofs.Links.{select-yes, select-no}
-use Rattle.hyperlmntal.proofs.Flats.{On, endNodes-map, on-map, on-of-map, on-join, on-left, on-right, on-atoms, on-fusions}
+use Rattle.hyperlmntal.proofs.Flats.{endNodes-map, on-map, on-of-map, on-join, on-left, on-right, on-atoms, on-fusions}
 use Rattle.hyperlmntal.proofs.FreeNames.{flat-names}
 use Rattle.hyperlmntal.proofs.Equivalence.{isomorphic-of-iso, isomorphic-sym, isomorphic-trans}
 use Rattle.hyperlmntal.proofs.Numbering.{numbered-isomorphic}

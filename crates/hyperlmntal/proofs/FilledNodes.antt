@@ -8,10 +8,10 @@ use native.Mathlib.Omega.{arith}
 use lib.ListN.{length}
 use Rattle.hyperlmntal.specs.Link.{Link, _≟_, select, _∈_}
 use Rattle.hyperlmntal.specs.GraphSubstitution.{Entry}
-use Rattle.hyperlmntal.specs.Hypergraph.{Node, inner, name, Cell, Flat, portNodes, endNodes, mapFusion}
+use Rattle.hyperlmntal.specs.Hypergraph.{Node, inner, name, Cell, Flat, portNodes, endNodes, mapFusion, On}
 use Rattle.hyperlmntal.specs.DenotedSubstitution.{Spot, outer, within, outerNode, connect, plug, fillWith, entryFor, fillCells, fillFlat}
 use Rattle.hyperlmntal.proofs.Lists.{unpadded}
-use Rattle.hyperlmntal.proofs.Flats.{On, endNodes-map, on-of-map, on-join}
+use Rattle.hyperlmntal.proofs.Flats.{endNodes-map, on-of-map, on-join}
 
 -- I holds of those that are the template's, and those of fillings have positions from i, below k.
 abbrev pub Filled : {P Q : Type 0} → (Node P → Type 0) → ℕ → ℕ → Node (Spot P Q) → Type 0

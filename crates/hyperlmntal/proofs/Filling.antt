@@ -8,10 +8,10 @@ use native.Mathlib.Omega.{arith}
 use lib.ListN.{length, length-map}
 use Rattle.hyperlmntal.specs.Link.{Link, _≟_, select, _∈_}
 use Rattle.hyperlmntal.specs.GraphSubstitution.{Entry, sameFunctor, lookup}
-use Rattle.hyperlmntal.specs.Hypergraph.{Node, inner, name, Label, symbol, hole, Cell, Fusion, Flat, portNodes, endNodes, mapCell, mapFusion, mapFlat, join}
+use Rattle.hyperlmntal.specs.Hypergraph.{Node, inner, name, Label, symbol, hole, Cell, Fusion, Flat, portNodes, endNodes, mapCell, mapFusion, mapFlat, join, On}
 use Rattle.hyperlmntal.specs.DenotedSubstitution.{Spot, within, outerNode, connect, plug, fillWith, entryFor, fillCells, fillFlat}
 use Rattle.hyperlmntal.proofs.Lists.{map-agree}
-use Rattle.hyperlmntal.proofs.Flats.{On, on-atoms, on-fusions, flat-≡, cell-≡, mapFlat-join, mapFlat-two, join-assoc}
+use Rattle.hyperlmntal.proofs.Flats.{on-atoms, on-fusions, flat-≡, cell-≡, mapFlat-join, mapFlat-two, join-assoc}
 use Rattle.hyperlmntal.proofs.Positions.{some-injective}
 
 -- What a found entry is.

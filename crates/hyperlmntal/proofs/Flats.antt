@@ -3,7 +3,7 @@ use mathlib.Core.Path.{_≡_, refl, ap, ap₂, sym, _∙_, subst}
 use mathlib.Core.Logic.{_⊎_, inl, inr}
 use mathlib.Core.List.{List, [], _∷_, _++_, map, List·Memᴰ·head, List·Memᴰ·tail, List·Memᴰ·append-cases, Memᴰ·append-left, Memᴰ·append-right, Memᴰ·map, Memᴰ·of-map, map-map, map-append, append-assoc}
 use Rattle.hyperlmntal.specs.Link.{_∈_}
-use Rattle.hyperlmntal.specs.Hypergraph.{Node, Cell, Fusion, Flat, portNodes, endNodes, nodes, mapCell, mapFusion, mapFlat, join}
+use Rattle.hyperlmntal.specs.Hypergraph.{Node, Cell, Fusion, Flat, portNodes, endNodes, nodes, On, mapCell, mapFusion, mapFlat, join}
 use Rattle.hyperlmntal.proofs.Lists.{map-agree, map-idle}
 
 pub flat-≡ : {P : Type 0} {F K : Flat P} → F .atoms ≡ K .atoms → F .fusions ≡ K .fusions → F ≡ K
@@ -22,9 +22,6 @@ pub join-assoc : {P : Type 0} (F K M : Flat P) → join F (join K M) ≡ join (j
 join-assoc F K M = flat-≡ (sym (append-assoc (F .atoms) (K .atoms) (M .atoms))) (sym (append-assoc (F .fusions) (K .fusions) (M .fusions)))
 
 -- Nodes of a hypergraph.
-abbrev pub On : {P : Type 0} → Node P → Flat P → Type 0
-On n F = n ∈ nodes F
-
 pub on-atoms : {P : Type 0} (F : Flat P) {n : Node P} → n ∈ portNodes (F .atoms) → On n F
 on-atoms F m = Memᴰ·append-left (endNodes (F .fusions)) m
 

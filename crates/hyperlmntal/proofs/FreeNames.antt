@@ -7,10 +7,10 @@ use native.Mathlib.Omega.{arith}
 use Rattle.hyperlmntal.specs.Link.{Link, _≟_, select, _∈_}
 use Rattle.hyperlmntal.specs.Template.{Template, null, atom, fusion, molecule, ν, context, fn}
 use Rattle.hyperlmntal.specs.LinkSubstitution.{avoid, update, rename}
-use Rattle.hyperlmntal.specs.Hypergraph.{Node, inner, name, Flat, Place, here, mapFlat, join, onLeft, onRight, hide, flat, renameNode}
+use Rattle.hyperlmntal.specs.Hypergraph.{Node, inner, name, Flat, Place, here, mapFlat, join, onLeft, onRight, hide, flat, renameNode, On}
 use Rattle.hyperlmntal.proofs.Lists.{unpadded}
 use Rattle.hyperlmntal.proofs.Links.{select-yes, select-no, without-in, without-out, update-at, update-off, avoid-not}
-use Rattle.hyperlmntal.proofs.Flats.{On, flat-≡, cell-≡, mapFlat-two, mapFlat-join, on-map, on-of-map, on-join, on-left, on-right}
+use Rattle.hyperlmntal.proofs.Flats.{flat-≡, cell-≡, mapFlat-two, mapFlat-join, on-map, on-of-map, on-join, on-left, on-right}
 
 pub name-injective : {P : Type 0} {X Y : Link} → _≡_ {A = Node P} (name X) (name Y) → X ≡ Y
 name-injective e = cc

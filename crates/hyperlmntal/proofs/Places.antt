@@ -4,9 +4,9 @@ use mathlib.Core.Logic.{_⊎_, inl, inr}
 use mathlib.Core.List.{List, [], _∷_, map, List·Memᴰ·not-nil, Memᴰ·of-map}
 use Rattle.hyperlmntal.specs.Link.{Link, _≟_, select, _∈_}
 use Rattle.hyperlmntal.specs.Template.{Template, null, atom, fusion, molecule, ν, context}
-use Rattle.hyperlmntal.specs.Hypergraph.{Node, inner, name, Place, here, under, left, right, mapFlat, onLeft, onRight, hide, flat}
+use Rattle.hyperlmntal.specs.Hypergraph.{Node, inner, name, Place, here, under, left, right, mapFlat, onLeft, onRight, hide, flat, On}
 use Rattle.hyperlmntal.proofs.Lists.{unpadded}
-use Rattle.hyperlmntal.proofs.Flats.{On, on-of-map, on-join}
+use Rattle.hyperlmntal.proofs.Flats.{on-of-map, on-join}
 
 abbrev pub PlaceOf : Template → Place → Type 0
 PlaceOf null p = ⊥

@@ -3,11 +3,11 @@ use mathlib.Core.Path.{_≡_, refl, sym, _∙_}
 use mathlib.Core.Logic.{_↔_}
 use mathlib.Core.List.{List, [], _∷_, _++_, map, Memᴰ·append-left, Memᴰ·append-right, Memᴰ·cast, Memᴰ·map}
 use Rattle.hyperlmntal.specs.Link.{Link, _∈_}
-use Rattle.hyperlmntal.specs.Hypergraph.{Node, name, Cell, Fusion, Flat, Connected, stay, along, portNodes, mapCell, mapFusion, mapFlat, join}
+use Rattle.hyperlmntal.specs.Hypergraph.{Node, name, Cell, Fusion, Flat, Connected, stay, along, portNodes, mapCell, mapFusion, mapFlat, join, On}
 use Rattle.hyperlmntal.proofs.Lists.{Each, done, more, all-map, all-append, perm-refl, perm-comm, each-map, each-maps}
 use Rattle.hyperlmntal.proofs.Connection.{connected-≡, recast}
 use Rattle.hyperlmntal.proofs.Relational.{Alike, Iso, cells-refl, iso-by}
-use Rattle.hyperlmntal.proofs.Flats.{On, on-atoms, on-fusions, ends-in, on-map, on-of-map}
+use Rattle.hyperlmntal.proofs.Flats.{on-atoms, on-fusions, ends-in, on-map, on-of-map}
 
 pub cells-maps : {P Q T : Type 0} (R : Node Q → Node T → Type 0) (f : Node P → Node Q) (g : Node P → Node T) (l : List (Cell P)) → ((n : Node P) → n ∈ portNodes l → R (f n) (g n)) → Each (Alike R) (map (mapCell f) l) (map (mapCell g) l)
 cells-maps R f g [] h = done

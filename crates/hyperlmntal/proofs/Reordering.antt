@@ -3,11 +3,11 @@ use mathlib.Core.Path.{_≡_, refl, ap, ap₂, sym, _∙_, subst}
 use mathlib.Core.Logic.{_⊎_, inl, inr}
 use mathlib.Core.List.{List, [], _∷_, _++_, map, List·Memᴰ·head, List·Memᴰ·tail, List·Memᴰ·append-cases, List·Memᴰ·cases-cons, List·Memᴰ·not-nil, Memᴰ·cast, append-assoc, append-nil}
 use Rattle.hyperlmntal.specs.Link.{_∈_}
-use Rattle.hyperlmntal.specs.Hypergraph.{Node, name, Fusion, Flat, stay, along, endNodes, portNodes, mapCell, mapFusion, mapFlat, join}
+use Rattle.hyperlmntal.specs.Hypergraph.{Node, name, Fusion, Flat, stay, along, endNodes, portNodes, mapCell, mapFusion, mapFlat, join, On}
 use Rattle.hyperlmntal.proofs.Lists.{Perm, after, perm-sym, perm-append, perm-map, perm-comm}
 use Rattle.hyperlmntal.proofs.Permutations.{perm-≡, perm-prepend, perm-member}
 use Rattle.hyperlmntal.proofs.Relational.{Match, Iso, match-refl, Via, iso-by}
-use Rattle.hyperlmntal.proofs.Flats.{On, on-atoms, on-fusions, ends-in}
+use Rattle.hyperlmntal.proofs.Flats.{on-atoms, on-fusions, ends-in}
 use Rattle.hyperlmntal.proofs.Equivalence.{SameNames}
 
 abbrev pub Reordered : {P : Type 0} → Flat P → Flat P → Type 0

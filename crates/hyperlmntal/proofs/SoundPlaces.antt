@@ -4,11 +4,11 @@ use mathlib.Core.Logic.{_⊎_, inl, inr, _≢_}
 use mathlib.Core.List.{[], List·Memᴰ·eq-of-singleton, List·Memᴰ·not-nil, Memᴰ·cast}
 use Rattle.hyperlmntal.specs.Link.{Link, _≟_, select}
 use Rattle.hyperlmntal.specs.Template.{Template, null, fusion, molecule, ν}
-use Rattle.hyperlmntal.specs.Hypergraph.{Node, inner, name, Fusion, Flat, Connected, stay, Place, here, under, left, right, mapFlat, join, onLeft, onRight, hide, flat}
+use Rattle.hyperlmntal.specs.Hypergraph.{Node, inner, name, Fusion, Flat, Connected, stay, Place, here, under, left, right, mapFlat, join, onLeft, onRight, hide, flat, On}
 use Rattle.hyperlmntal.proofs.Lists.{done, empty}
 use Rattle.hyperlmntal.proofs.Connection.{connected-≡}
 use Rattle.hyperlmntal.proofs.Relational.{Iso, iso-sym, iso-trans, iso-≡, iso-by}
-use Rattle.hyperlmntal.proofs.Flats.{On, mapFlat-mapFlat, mapFlat-join, mapFlat-one, mapFlat-three, join-assoc}
+use Rattle.hyperlmntal.proofs.Flats.{mapFlat-mapFlat, mapFlat-join, mapFlat-one, mapFlat-three, join-assoc}
 use Rattle.hyperlmntal.proofs.FreeNames.{hide-at, hide-off}
 use Rattle.hyperlmntal.proofs.Relabel.{relabel, join-comm}
 

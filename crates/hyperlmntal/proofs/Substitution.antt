@@ -10,12 +10,12 @@ use Rattle.hyperlmntal.specs.Link.{Link, _≟_, select, _∈_}
 use Rattle.hyperlmntal.specs.Template.{Template, null, atom, fusion, molecule, ν, context, fn}
 use Rattle.hyperlmntal.specs.LinkSubstitution.{avoid, same, update, assign}
 use Rattle.hyperlmntal.specs.GraphSubstitution.{Entry, Substitution, sameFunctor, lookup, fill, minus, loose, substituteBy, substitute}
-use Rattle.hyperlmntal.specs.Hypergraph.{Node, inner, name, Label, symbol, hole, Cell, Flat, Place, mapCell, mapFlat, join, onLeft, onRight, hide, flat, renameNode}
+use Rattle.hyperlmntal.specs.Hypergraph.{Node, inner, name, Label, symbol, hole, Cell, Flat, Place, mapCell, mapFlat, join, onLeft, onRight, hide, flat, renameNode, On}
 use Rattle.hyperlmntal.specs.Isomorphism.{Isomorphic}
 use Rattle.hyperlmntal.specs.DenotedSubstitution.{Spot, outerNode, connect, plug, fillWith, fillFlat, denotedBy, denotedAll}
 use Rattle.hyperlmntal.proofs.Lists.{all-map}
 use Rattle.hyperlmntal.proofs.Links.{without-in, avoid-not}
-use Rattle.hyperlmntal.proofs.Flats.{On, flat-≡, mapFlat-idle, mapFlat-one, mapFlat-two, on-of-map}
+use Rattle.hyperlmntal.proofs.Flats.{flat-≡, mapFlat-idle, mapFlat-one, mapFlat-two, on-of-map}
 use Rattle.hyperlmntal.proofs.FreeNames.{fn-of-flat, flat-rename, rename-molecule, hide-rename}
 use Rattle.hyperlmntal.proofs.Relational.{Iso, iso-sym, iso-trans}
 use Rattle.hyperlmntal.proofs.Relabel.{relabel, relabel-names}

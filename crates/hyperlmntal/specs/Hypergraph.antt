@@ -49,6 +49,10 @@ endNodes (e ∷ l) = e .0 ∷ e .1 ∷ endNodes l
 abbrev pub nodes : {P : Type 0} → Flat P → List (Node P)
 nodes F = portNodes (F .atoms) ++ endNodes (F .fusions)
 
+-- A node of a hypergraph (004, definition 2.3.1).
+abbrev pub On : {P : Type 0} → Node P → Flat P → Type 0
+On n F = n ∈ nodes F
+
 -- A map of the free link names, on nodes (004, definition 2.3.6).
 abbrev pub renameNode : {P : Type 0} → (Link → Link) → Node P → Node P
 renameNode σ (inner p) = inner p

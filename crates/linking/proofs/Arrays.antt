@@ -4,12 +4,12 @@ use mathlib.Core.Path.{_≡_, refl, _∙_, sym}
 use mathlib.Core.List.{List, [], _∷_, _++_}
 use mathlib.Core.Bool.{Bool, true, false}
 use native.Mathlib.Omega.{arith}
-use lib.Dec.{ltb}
+use lib.Dec.{eqb}
 use borrow.Author.Tests.{eq-eqb, ne-eqb}
 use lib.ListN.{length, getD, take, set, length-append}
 use Rattle.rows.specs.Pick.{pick}
-use Rattle.rows.specs.Format.{mostLinks}
-use Rattle.rows.specs.Limits.{sheetMarks, fillingLinks}
+use Rattle.rows.specs.Format.{headLetter}
+use Rattle.rows.specs.Limits.{linkRoom, markRoom}
 use Rattle.rows.specs.Held.{Wiring, indexOf, withLink, withLinks, relabelled, merged, withFusion, withMark, noWiring}
 use Rattle.linking.specs.Steps.{Distinct, countWith, Places, gone, cleared, Wired, Linked, Relinks, Marked, Tied}
 use Rattle.rows.proofs.Padding.{take-padded, set-padded, getD-padding, mapped-padded}
@@ -17,14 +17,8 @@ use Rattle.linking.proofs.Loops.{cleared-padded}
 use Rattle.rows.proofs.Lists.{mapped}
 use Rattle.linking.proofs.Wired.{link-known, link-new, link-found, link-there, link-place, mark-known, mark-new, wired-none, wired-link, wired-links}
 
-abbrev linkRoom : ℕ
-linkRoom = fillingLinks + mostLinks
-
-abbrev markRoom : ℕ
-markRoom = sheetMarks + 1
-
 pub gone-fits : (letter n : ℕ) → gone letter n ≤ n
-gone-fits letter n = go (ltb 3 letter)
+gone-fits letter n = go (eqb letter headLetter)
   where
     go : (b : Bool) → pick b n 0 ≤ n
     go true = omega arith
@@ -82,8 +76,8 @@ module _ (w : Wiring) (wired : Wired w) (links classes : List ℕ) (n : ℕ) (k 
 
   -- with a head they are gone
   pub cleared-links : (letter kept : ℕ) (links' classes' : List ℕ) → n ≤ linkRoom → kept ≡ n - gone letter n → links' ≡ cleared (gone letter n) links → classes' ≡ cleared (gone letter n) classes
-      → Wired (pick (ltb 3 letter) noWiring w) × Linked (pick (ltb 3 letter) noWiring w) links' classes' kept
-  cleared-links letter kept links' classes' room eo el ec = go (ltb 3 letter) eo el ec
+      → Wired (pick (eqb letter headLetter) noWiring w) × Linked (pick (eqb letter headLetter) noWiring w) links' classes' kept
+  cleared-links letter kept links' classes' room eo el ec = go (eqb letter headLetter) eo el ec
     where
       go : (b : Bool) → kept ≡ n - pick b n 0 → links' ≡ cleared (pick b n 0) links → classes' ≡ cleared (pick b n 0) classes → Wired (pick b noWiring w) × Linked (pick b noWiring w) links' classes' kept
       go true q p r = (

@@ -2,11 +2,9 @@
 use crate::take::index_of;
 ghost use mathlib.Core.Path.{_≡_};
 ghost use Prim.Native.Nat.{_+_, _<_, _≤_};
-ghost use lib.ListN.{length, take};
-ghost use Rattle.rows.specs.Format.{mostLinks};
-ghost use Rattle.rows.specs.Limits.{fillingLinks};
-ghost use Rattle.rows.specs.Held.{indexOf};
-ghost use Rattle.linking.specs.Steps.{Distinct, countWith, Places, hintCount, hintAt, Hinted};
+ghost use lib.ListN.{length};
+ghost use Rattle.rows.specs.Limits.{linkRoom};
+ghost use Rattle.linking.specs.Steps.{countWith, Places, hintCount, hintAt, Hinted, placeBy};
 
 // How many hints there are. A hint is 1 more than the place where a link was last found or put; links
 // whose numbers leave the same rest share one, so it may be another's. It is 0 where none was.
@@ -25,10 +23,10 @@ fn wide(b: u8) -> usize
     b as usize
 }
 
-// The place of x among the first n links, none of which stands twice, or n where it is not there or there are not so
-// many. Where its hint is 0, it is new; else the place that the hint says is tried first.
+// The place of x among the first n links, or n where it is not there or there are not so many: where no link stands
+// twice and none has the hint 0. A link with the hint 0 is new; else the place that the hint says is tried first.
 pub fn place_of(links: &[u16], n: usize, x: u16, hints: &[u8; HINTS]) -> usize
-    ensures { λ r. ⌜ (r ≤ n) × (n ≤ length (now (links .entry)) → Hinted (now (hints .entry)) (now (links .entry)) n → Distinct (take n (now (links .entry))) → r ≡ indexOf x (take n (now (links .entry)))) ⌝ }
+    ensures { λ r. ⌜ r ≡ placeBy (now (links .entry)) n x (now (hints .entry)) ⌝ }
 {
     if links.len() < n {
         return n;
@@ -54,7 +52,7 @@ pub(crate) fn place_link(
     x: u16,
     hints: &mut [u8; HINTS],
 ) -> usize
-    requires { ⌜ (n < fillingLinks + mostLinks) × (length (now links) ≡ fillingLinks + mostLinks) × (length (now classes) ≡ fillingLinks + mostLinks) × Hinted (now hints) (now links) n ⌝ }
+    requires { ⌜ (n < linkRoom) × (length (now links) ≡ linkRoom) × (length (now classes) ≡ linkRoom) × Hinted (now hints) (now links) n ⌝ }
     ensures { λ r. ⌜ (r ≤ n) × Places (now (links .entry)) (now (classes .entry)) n (now (links .exit)) (now (classes .exit)) x r × Hinted (now (hints .exit)) (now (links .exit)) (countWith n r) ⌝ }
 {
     let p = place_of(links, n, x, hints);
@@ -69,7 +67,7 @@ pub(crate) fn place_link(
 
 // How many links there are with the one at place p: one more than n where it was put behind them.
 pub(crate) fn count_with(n: usize, p: usize) -> usize
-    requires { ⌜ n < fillingLinks + mostLinks ⌝ }
+    requires { ⌜ n < linkRoom ⌝ }
     ensures { λ r. ⌜ (r ≤ n + 1) × (r ≡ countWith n p) ⌝ }
 {
     if p == n {

@@ -4,17 +4,19 @@ use crate::place::count_with;
 use crate::place::place_link;
 use rows::Sheet;
 use rows::row::Row;
+use rows::row::Rule;
+use rows::row::rules_of;
 ghost use mathlib.Core.Path.{_≡_};
 ghost use mathlib.Core.Bool.{false};
 ghost use mathlib.Core.List.{_++_, map};
 ghost use Prim.Native.Nat.{ℕ, _+_, _-_, _<_, _≤_};
-ghost use lib.Dec.{ltb};
+ghost use lib.Dec.{eqb};
 ghost use lib.ListN.{length, take, drop, getD};
 ghost use Rattle.rows.specs.Pick.{pick};
-ghost use Rattle.rows.specs.Format.{fieldCount, mostLinks};
-ghost use Rattle.rows.specs.Limits.{sheetMarks, fillingLinks};
+ghost use Rattle.rows.specs.Format.{fieldCount, mostLinks, edgeLetter, headLetter};
+ghost use Rattle.rows.specs.Limits.{sheetMarks, fillingLinks, linkRoom, markRoom};
 ghost use Rattle.rows.specs.Held.{Wiring, indexOf, relabelled, withLink, withLinks, withFusion, withMark};
-ghost use Rattle.linking.specs.Steps.{gone, cleared, Hinted, Wired, Linked, Relinks, Marked, Tied, firstLink, linkCount, linkedBy, markedBy};
+ghost use Rattle.linking.specs.Steps.{gone, cleared, Hinted, Wired, Linked, Relinks, Marked, Tied, firstLinkIn, linkCountIn, linkedBy, markedBy};
 ghost use Rattle.rows.specs.Entry.{Ranged};
 
 // Whether x is among the eight numbers from place i on. The loop has no way out, so that all are compared at once.
@@ -112,7 +114,7 @@ pub(crate) fn add_link(
     x: u16,
     hints: &mut [u8; HINTS],
 ) -> usize
-    requires { ⌜ (n < fillingLinks + mostLinks) × (length (now links) ≡ fillingLinks + mostLinks) × (length (now classes) ≡ fillingLinks + mostLinks) × Hinted (now hints) (now links) n ⌝ }
+    requires { ⌜ (n < linkRoom) × (length (now links) ≡ linkRoom) × (length (now classes) ≡ linkRoom) × Hinted (now hints) (now links) n ⌝ }
     ensures { λ r. ⌜ (r ≤ n + 1) × Relinks (now (links .entry)) (now (classes .entry)) n (now (links .exit)) (now (classes .exit)) r (λ w. withLink w x) × Hinted (now (hints .exit)) (now (links .exit)) r ⌝ }
 {
     let p = place_link(links, classes, n, x, hints);
@@ -129,7 +131,7 @@ pub(crate) fn add_links(
     count: usize,
     hints: &mut [u8; HINTS],
 ) -> usize
-    requires { ⌜ (n ≤ fillingLinks) × (count ≤ mostLinks) × (from + count ≤ fieldCount) × (length (now links) ≡ fillingLinks + mostLinks) × (length (now classes) ≡ fillingLinks + mostLinks) × Hinted (now hints) (now links) n ⌝ }
+    requires { ⌜ (n ≤ fillingLinks) × (count ≤ mostLinks) × (from + count ≤ fieldCount) × (length (now links) ≡ linkRoom) × (length (now classes) ≡ linkRoom) × Hinted (now hints) (now links) n ⌝ }
     ensures { λ r. ⌜ (r ≤ n + count) × Relinks (now (links .entry)) (now (classes .entry)) n (now (links .exit)) (now (classes .exit)) r (λ w. withLinks w (take count (drop from nums))) × Hinted (now (hints .exit)) (now (links .exit)) r ⌝ }
 {
     let mut m = n;
@@ -150,7 +152,7 @@ pub(crate) fn add_fusion(
     b: u16,
     hints: &mut [u8; HINTS],
 ) -> usize
-    requires { ⌜ (n ≤ fillingLinks) × (length (now links) ≡ fillingLinks + mostLinks) × (length (now classes) ≡ fillingLinks + mostLinks) × Hinted (now hints) (now links) n ⌝ }
+    requires { ⌜ (n ≤ fillingLinks) × (length (now links) ≡ linkRoom) × (length (now classes) ≡ linkRoom) × Hinted (now hints) (now links) n ⌝ }
     ensures { λ r. ⌜ Relinks (now (links .entry)) (now (classes .entry)) n (now (links .exit)) (now (classes .exit)) r (λ w. withFusion (withLink (withLink w a) b) a b) × Hinted (now (hints .exit)) (now (links .exit)) r ⌝ }
 {
     let i = place_link(links, classes, n, a, hints);
@@ -161,37 +163,44 @@ pub(crate) fn add_fusion(
     count
 }
 
-// The field of a row's first link.
-pub(crate) fn first_link(letter: usize) -> usize
-    ensures { λ r. ⌜ r ≡ firstLink letter ⌝ }
+// The first field that holds a link, by the rules of a letter; `FIELDS` where none does.
+pub(crate) fn first_link(own: [Rule; Sheet::FIELDS]) -> usize
+    ensures { λ r. ⌜ r ≡ firstLinkIn own ⌝ }
 {
-    if letter < 2 {
-        return 2;
+    let mut f = 0;
+    while f < Sheet::FIELDS {
+        if own[f].link {
+            return f;
+        }
+        f += 1;
     }
-    0
+    f
 }
 
-// How many links a row has.
-pub(crate) fn link_count(letter: usize, nums: [u16; Sheet::FIELDS]) -> usize
-    ensures { λ r. ⌜ r ≡ linkCount letter nums ⌝ }
+// How many links a row with this count has, by the rules of its letter.
+pub(crate) fn link_count(own: [Rule; Sheet::FIELDS], count: u16) -> usize
+    ensures { λ r. ⌜ r ≡ linkCountIn own count ⌝ }
 {
-    if letter < 2 {
-        return nums[1] as usize;
+    let mut links = 0;
+    let mut f = 0;
+    while f < Sheet::FIELDS {
+        let rule = own[f];
+        if rule.link {
+            if rule.counted {
+                return links + count as usize;
+            }
+            links += 1;
+        }
+        f += 1;
     }
-    if letter == 2 {
-        return 2;
-    }
-    if letter == 3 {
-        return 1;
-    }
-    0
+    links
 }
 
 // How many of n links or marks are gone with a row of this letter: a filling begins with none.
 pub(crate) fn gone_by(letter: usize, n: usize) -> usize
     ensures { λ r. ⌜ r ≡ gone letter n ⌝ }
 {
-    if 3 < letter {
+    if letter == Row::HEAD {
         return n;
     }
     0
@@ -216,17 +225,18 @@ pub fn add_row_links(
     row: Row,
     hints: &mut [u8; HINTS],
 ) -> usize
-    requires { ⌜ (n ≤ fillingLinks) × Ranged row × (length (now links) ≡ fillingLinks + mostLinks) × (length (now classes) ≡ fillingLinks + mostLinks) × Hinted (now hints) (now links) n ⌝ }
-    ensures { λ r. ⌜ (row .letter ≡ 3 → r ≤ n + 1) × Relinks (now (links .entry)) (now (classes .entry)) n (now (links .exit)) (now (classes .exit)) r (linkedBy row) × Hinted (now (hints .exit)) (now (links .exit)) r ⌝ }
+    requires { ⌜ (n ≤ fillingLinks) × Ranged row × (length (now links) ≡ linkRoom) × (length (now classes) ≡ linkRoom) × Hinted (now hints) (now links) n ⌝ }
+    ensures { λ r. ⌜ (row .letter ≡ edgeLetter → r ≤ n + 1) × Relinks (now (links .entry)) (now (classes .entry)) n (now (links .exit)) (now (classes .exit)) r (linkedBy row) × Hinted (now (hints .exit)) (now (links .exit)) r ⌝ }
 {
     let nums = row.nums;
     let letter = row.letter;
     let kept = clear_gone(links, classes, n, letter);
-    if letter == 2 {
-        return add_fusion(links, classes, kept, nums[0], nums[1], hints);
+    let own = rules_of(letter);
+    let from = first_link(own);
+    if letter == Row::FUSION {
+        return add_fusion(links, classes, kept, nums[from], nums[from + 1], hints);
     }
-    let from = first_link(letter);
-    let count = link_count(letter, nums);
+    let count = link_count(own, nums[1]);
     add_links(links, classes, kept, nums, from, count, hints)
 }
 
@@ -241,7 +251,7 @@ pub(crate) fn add_mark(
     a: u16,
     mark: u16,
 ) -> usize
-    requires { ⌜ (n < fillingLinks + mostLinks) × (m ≤ sheetMarks) × ((p : ℕ) → getD (now marked) p 0 < fillingLinks) × (length (now links) ≡ fillingLinks + mostLinks) × (length (now classes) ≡ fillingLinks + mostLinks) × (length (now marks) ≡ sheetMarks + 1) × (length (now marked) ≡ sheetMarks + 1) ⌝ }
+    requires { ⌜ (n < linkRoom) × (m ≤ sheetMarks) × ((p : ℕ) → getD (now marked) p 0 < fillingLinks) × (length (now links) ≡ linkRoom) × (length (now classes) ≡ linkRoom) × (length (now marks) ≡ markRoom) × (length (now marked) ≡ markRoom) ⌝ }
     ensures { λ r. ⌜ ((w : Wiring) → Wired w → Tied w (now (links .entry)) (now (classes .entry)) n (now (marks .entry)) (now (marked .entry)) m → Tied (withMark w a mark) (now (links .entry)) (now (classes .exit)) n (now (marks .exit)) (now (marked .exit)) r) ⌝ }
 {
     let i = index_of(links, n, a);
@@ -267,14 +277,15 @@ pub fn add_row_mark(
     m: usize,
     row: Row,
 ) -> usize
-    requires { ⌜ (row .letter ≡ 3 → n < fillingLinks + mostLinks) × (m ≤ sheetMarks) × ((p : ℕ) → getD (now marked) p 0 < fillingLinks) × (length (now links) ≡ fillingLinks + mostLinks) × (length (now classes) ≡ fillingLinks + mostLinks) × (length (now marks) ≡ sheetMarks + 1) × (length (now marked) ≡ sheetMarks + 1) ⌝ }
-    ensures { λ r. ⌜ ((w v : Wiring) → Wired w → Wired v → Linked w (now (links .entry)) (now (classes .entry)) n → Marked (pick (ltb 3 (row .letter)) v w) (now (marks .entry)) (now (marked .entry)) m → Tied (markedBy row w) (now (links .entry)) (now (classes .exit)) n (now (marks .exit)) (now (marked .exit)) r) ⌝ }
+    requires { ⌜ (row .letter ≡ edgeLetter → n < linkRoom) × (m ≤ sheetMarks) × ((p : ℕ) → getD (now marked) p 0 < fillingLinks) × (length (now links) ≡ linkRoom) × (length (now classes) ≡ linkRoom) × (length (now marks) ≡ markRoom) × (length (now marked) ≡ markRoom) ⌝ }
+    ensures { λ r. ⌜ ((w v : Wiring) → Wired w → Wired v → Linked w (now (links .entry)) (now (classes .entry)) n → Marked (pick (eqb (row .letter) headLetter) v w) (now (marks .entry)) (now (marked .entry)) m → Tied (markedBy row w) (now (links .entry)) (now (classes .exit)) n (now (marks .exit)) (now (marked .exit)) r) ⌝ }
 {
     let nums = row.nums;
     let letter = row.letter;
     let kept = clear_gone(marks, marked, m, letter);
-    if letter != 3 {
+    if letter != Row::EDGE {
         return kept;
     }
-    add_mark(links, classes, marks, marked, n, kept, nums[0], nums[1])
+    let from = first_link(rules_of(letter));
+    add_mark(links, classes, marks, marked, n, kept, nums[from], nums[1])
 }

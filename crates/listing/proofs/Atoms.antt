@@ -9,11 +9,11 @@ use lib.Dec.{eqb}
 use lib.ListN.{length, getD, take, length-append, length-map, length-take}
 use lib.Seq.{length-take-le}
 use Rattle.hyperlmntal.specs.Link.{_∈_}
-use Rattle.rows.specs.Format.{mostLinks, fieldCount}
+use Rattle.rows.specs.Format.{mostLinks, fieldCount, mostNumber}
 use Rattle.rows.specs.Packed.{padded}
 use Rattle.writing.specs.RowText.{rowBytes}
 use Rattle.rows.proofs.Padding.{take-padded, getD-padding}
-use Rattle.numbering.specs.Numbering.{linkRoom}
+use Rattle.numbering.specs.Numbering.{numberRoom}
 use Rattle.rows.specs.declared.Atom.{Atom}
 use Rattle.rows.specs.declared.Sheet as form
 use Rattle.placing.specs.Net.{NetCell, Range, cellLinks}
@@ -53,7 +53,7 @@ module _ (sheet : form.Sheet) (given : List ℕ) (k : ℕ) where
 
 module _ (sheet : form.Sheet) (fit : Fit sheet) (given : List ℕ) (k : ℕ) where
   -- Few links, and each has a place in the table.
-  pub atom-low : (i : ℕ) → i < sheet .«atom_count» → (j : ℕ) → j < atomAt sheet i .count → getD (atomAt sheet i .links) j 0 < linkRoom
+  pub atom-low : (i : ℕ) → i < sheet .«atom_count» → (j : ℕ) → j < atomAt sheet i .count → getD (atomAt sheet i .links) j 0 < numberRoom
   atom-low i h j q = let u = (fit .atoms i h) .numbered j q in omega (arith, u .1, fit .class-count)
 
   few-links : (i : ℕ) → i < sheet .«atom_count» → (t : Bool) → length (cellLinks (cellIf t (atomAt sheet i))) ≤ mostLinks
@@ -94,7 +94,7 @@ module _ (sheet : form.Sheet) (fit : Fit sheet) (given : List ℕ) (k : ℕ) whe
       at (inl p) f = f p
       at (inr p) f = cell-range i (omega arith) (eqb (getD given i 0) k) x p
 
-  pub below-low : (i : ℕ) → i ≤ sheet .«atom_count» → (x : ℕ) → x ∈ cellLinks (givenBelow sheet given k i) → x < linkRoom
+  pub below-low : (i : ℕ) → i ≤ sheet .«atom_count» → (x : ℕ) → x ∈ cellLinks (givenBelow sheet given k i) → x < numberRoom
   below-low i h x m = let r = below-range i h x m in omega (arith, r .1, fit .class-count)
 
 -- Numbers that are not above a bound.
@@ -105,12 +105,12 @@ mapped-low b f (x ∷ l) h (suc k) = mapped-low b f l h k
 
 -- The numbers of an S row.
 module _ (f : ℕ → ℕ) (a b : ℕ) (l nums : List ℕ) (e : nums ≡ padded fieldCount 0 (a ∷ b ∷ map f (take b l))) where
-  first-low : a ≤ 9999 → b ≤ 9999 → ((x : ℕ) → f x ≤ 9999) → (k : ℕ) → getD (a ∷ b ∷ map f (take b l)) k 0 ≤ 9999
+  first-low : a ≤ mostNumber → b ≤ mostNumber → ((x : ℕ) → f x ≤ mostNumber) → (k : ℕ) → getD (a ∷ b ∷ map f (take b l)) k 0 ≤ mostNumber
   first-low p q h zero = p
   first-low p q h (suc zero) = q
-  first-low p q h (suc (suc k)) = mapped-low 9999 f (take b l) h k
+  first-low p q h (suc (suc k)) = mapped-low mostNumber f (take b l) h k
 
-  pub row-low : a ≤ 9999 → b ≤ 9999 → ((x : ℕ) → f x ≤ 9999) → (k : ℕ) → getD nums k 0 ≤ 9999
+  pub row-low : a ≤ mostNumber → b ≤ mostNumber → ((x : ℕ) → f x ≤ mostNumber) → (k : ℕ) → getD nums k 0 ≤ mostNumber
   row-low p q h k = rw (e, getD-padding fieldCount 0 (a ∷ b ∷ map f (take b l)) k) (first-low p q h k)
 
   pub row-taken : b ≤ length l → take (b + 2) nums ≡ a ∷ b ∷ map f (take b l)

@@ -13,7 +13,7 @@ use Rattle.writing.specs.RowText.{rowBytes}
 use Rattle.rows.specs.declared.Context.{Context}
 use Rattle.rows.proofs.Lists.{getD-mapped}
 use Rattle.writing.proofs.RowBytes.{row-width, over, over-more}
-use Rattle.numbering.specs.Numbering.{Numbering, linkRoom, noNumbers, withClasses}
+use Rattle.numbering.specs.Numbering.{Numbering, numberRoom, noNumbers, withClasses}
 use Rattle.numbering.proofs.Turns.{with-classes-append}
 use Rattle.rows.specs.declared.Sheet as form
 use Rattle.normalising.proofs.normal_text.NormalWritten.{mapped-at, taken-padded}
@@ -57,26 +57,26 @@ module _ (sheet : form.Sheet) (fit : Fit sheet) (linksTo given : List ℕ) (c : 
   pub filling-size : length (fillingBytes sheet linksTo given (contextIn c)) ≡ rowWidth + length cells * rowWidth + c .count * rowWidth
   filling-size = omega (arith, filling-length sheet linksTo given (contextIn c), used-length sheetLinks (c .count) (c .links) u)
 
-  module _ (low : (k : ℕ) → k < c .count → stands (getD (c .links) k 0) < linkRoom) (p : List ℕ) (made : p ≡ padded mostLinks 0 ports) where
+  module _ (low : (k : ℕ) → k < c .count → stands (getD (c .links) k 0) < numberRoom) (p : List ℕ) (made : p ≡ padded mostLinks 0 ports) where
     pub ports-taken : take (c .count) p ≡ ports
     ports-taken = rw made (taken-padded mostLinks ports (c .count) ports-count)
 
-    pub port-low : (k : ℕ) → k < c .count → getD p k 0 < linkRoom
+    pub port-low : (k : ℕ) → k < c .count → getD p k 0 < numberRoom
     port-low k h =
         rw (made, mapped-at stands mostLinks 0 used k 0 0 (omega (arith, used-length sheetLinks (c .count) (c .links) u)), used-at sheetLinks (c .count) (c .links) u k h) (low k h)
 
-    in-ports : (x : ℕ) → x ∈ ports → x < linkRoom
+    in-ports : (x : ℕ) → x ∈ ports → x < numberRoom
     in-ports x m =
         let t = member-at ports x m in
         let h : t .0 < c .count = omega (arith, t .1, ports-count) in
         let e : stands (getD (c .links) (t .0) 0) ≡ x
         = ap stands (sym (used-at sheetLinks (c .count) (c .links) u (t .0) h)) ∙ sym (getD-mapped stands used (t .0) 0 0 (omega (arith, used-length sheetLinks (c .count) (c .links) u))) ∙ getD-of ports (t .0) 0 x (t .2) in
-        subst (λ y. y < linkRoom) e (low (t .0) h)
+        subst (λ y. y < numberRoom) e (low (t .0) h)
 
-    all-low : (x : ℕ) → x ∈ appearing cells ports → x < linkRoom
+    all-low : (x : ℕ) → x ∈ appearing cells ports → x < numberRoom
     all-low x m = at (List·Memᴰ·append-cases (cellLinks cells) m)
       where
-        at : (x ∈ cellLinks cells) ⊎ (x ∈ ports) → x < linkRoom
+        at : (x ∈ cellLinks cells) ⊎ (x ∈ ports) → x < numberRoom
         at (inl i) = below-low sheet fit given (c .number) (sheet .«atom_count») (omega arith) x i
         at (inr i) = in-ports x i
 

@@ -14,7 +14,7 @@ use Rattle.rows.specs.Pick.{pick}
 use Rattle.rows.specs.Format.{mostLinks}
 use Rattle.rows.specs.Limits.{sheetAtoms, sheetLinks}
 use Rattle.writing.proofs.RowBytes.{over, over-more}
-use Rattle.numbering.specs.Numbering.{linkRoom}
+use Rattle.numbering.specs.Numbering.{numberRoom}
 use Rattle.normalising.specs.NormalText.{slipLength}
 use Rattle.rows.specs.declared.Sheet as form
 use Rattle.placing.specs.Net.{NetCell, Apart, Range}
@@ -94,7 +94,7 @@ module _ (sheet figure : form.Sheet) (ready : Ready sheet figure) (linksTo : Lis
       let u = ready .figure-fit .contexts j h in
       record { few = u .few; width = u .width; numbered = λ k q. let r = u .numbered k q in (r .0, omega (arith, r .1, ready .figure-fit .class-count)) }
 
-  pub stands-low : (k : ℕ) → k < contextAt figure j .count → standsAt (sheet .«class_count») linksTo (getD (contextAt figure j .links) k 0) < linkRoom
+  pub stands-low : (k : ℕ) → k < contextAt figure j .count → standsAt (sheet .«class_count») linksTo (getD (contextAt figure j .links) k 0) < numberRoom
   stands-low k q = go (ltb (sheet .«class_count») (getD linksTo (x - 1) 0)) refl
     where
       x : ℕ
@@ -103,6 +103,6 @@ module _ (sheet figure : form.Sheet) (ready : Ready sheet figure) (linksTo : Lis
       r : Range (figure .«class_count») x
       r = ready .figure-fit .contexts j h .numbered k q
 
-      go : (t : Bool) → ltb (sheet .«class_count») (getD linksTo (x - 1) 0) ≡ t → pick t (sheet .«class_count» + x) (getD linksTo (x - 1) 0) < linkRoom
+      go : (t : Bool) → ltb (sheet .«class_count») (getD linksTo (x - 1) 0) ≡ t → pick t (sheet .«class_count» + x) (getD linksTo (x - 1) 0) < numberRoom
       go true e = omega (arith, r .1, ready .sheet-fit .class-count, ready .figure-fit .class-count)
       go false e = omega (arith, ltb-false (sheet .«class_count») (getD linksTo (x - 1) 0) e, ready .sheet-fit .class-count)

@@ -86,7 +86,7 @@ module _ (sheet : form.Sheet) (links given : List ℕ) where
   list-weight (c ∷ l) = length-append (fillingBytes sheet links given c) (listBytes sheet links given l) ∙ ap (λ n. length (fillingBytes sheet links given c) + n) (list-weight l)
 
   few-rows : (l : List NetCell) → ((c : NetCell) → c ∈ l → length (c .1) ≤ mostLinks)
-      → weight (λ c. length (fillingBytes sheet links given c)) l ≤ (7 * length l + weight (held (sheet .«atom_count»)) l) * rowWidth
+      → weight (λ c. length (fillingBytes sheet links given c)) l ≤ ((1 + mostLinks) * length l + weight (held (sheet .«atom_count»)) l) * rowWidth
   few-rows [] h = omega arith
   few-rows (c ∷ l) h = omega (arith, filling-length sheet links given c, h c (List·Memᴰ·head refl), few-rows l (λ d m. h d (List·Memᴰ·tail m)))
 

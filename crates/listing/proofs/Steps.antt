@@ -9,11 +9,11 @@ use lib.Dec.{ltb}
 use lib.ListN.{length, getD, take, set, length-map, length-append, length-take}
 use lib.Seq.{take-suc, length-take-le}
 use Rattle.rows.specs.Pick.{pick}
-use Rattle.rows.specs.Format.{rowWidth}
+use Rattle.rows.specs.Format.{rowWidth, mostNumber}
 use Rattle.rows.specs.Packed.{padded}
 use Rattle.rows.proofs.Padding.{set-padded}
 use Rattle.writing.proofs.RowBytes.{over, over-more}
-use Rattle.numbering.specs.Numbering.{Numbering, withClass, withClasses}
+use Rattle.numbering.specs.Numbering.{Numbering, withClass, withClasses, mostClasses}
 use Rattle.numbering.proofs.Turns.{with-class-count, with-classes-count, with-classes-append, with-classes-snoc}
 use Rattle.numbering.proofs.Kept.{number-kept, Low, low-class, low-after}
 use Rattle.rows.specs.declared.Sheet as form
@@ -35,7 +35,7 @@ pub links-few : (from n : Numbering) (l : List ℕ) (k : ℕ) → n ≡ withClas
 links-few from n l k e = omega (arith, ap (λ m. m .count) e, with-classes-count from (take k l), length-take k l)
 
 -- No number then has more than four digits.
-pub links-low : (from n : Numbering) (l : List ℕ) (k : ℕ) → Low from → n ≡ withClasses from (take k l) → from .count + k ≤ 1000 → (x : ℕ) → numberIn (withClasses n [] .numbers) x ≤ 9999
+pub links-low : (from n : Numbering) (l : List ℕ) (k : ℕ) → Low from → n ≡ withClasses from (take k l) → from .count + k ≤ mostClasses → (x : ℕ) → numberIn (withClasses n [] .numbers) x ≤ mostNumber
 unfolding withClasses
 links-low from n l k low e h x = omega (arith, low-after from n (take k l) e low x, links-few from n l k e)
 

@@ -4,6 +4,7 @@ use mathlib.Core.List.{List, [], _∷_, _++_, map}
 use mathlib.Core.Bool.{Bool}
 use lib.Dec.{eqb, ltb}
 use lib.ListN.{length, take, getD}
+use Rattle.rows.specs.Format.{mostName, mostNumber}
 use Rattle.rows.specs.Pick.{pick}
 use Rattle.rows.specs.Held.{indexOf}
 use Rattle.writing.specs.RowText.{rowBytes}
@@ -19,8 +20,8 @@ use Rattle.network.specs.NetIn.{netIn, atomIn, contextIn, atomAt, contextAt}
 
 -- a name has three digits at most and the number of a context four, so that they fit the columns of a row
 pub record Columns (sheet figure : form.Sheet) : Type 0 where
-  pub names : (i : ℕ) → i < sheet .«atom_count» → atomAt sheet i .name ≤ 999
-  pub numbers : (i : ℕ) → i < figure .«context_count» → contextAt figure i .number ≤ 9999
+  pub names : (i : ℕ) → i < sheet .«atom_count» → atomAt sheet i .name ≤ mostName
+  pub numbers : (i : ℕ) → i < figure .«context_count» → contextAt figure i .number ≤ mostNumber
 
 -- the placing whose links and contexts stand in arrays; where atoms go plays no part in its fillings
 abbrev pub placingIn : form.Sheet → form.Sheet → List ℕ → List ℕ → List ℕ → Placing

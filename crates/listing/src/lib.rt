@@ -16,8 +16,9 @@ ghost use mathlib.Core.Path.{_≡_};
 ghost use mathlib.Core.List.{List, _++_};
 ghost use Prim.Native.Nat.{ℕ, _+_, _<_, _≤_};
 ghost use lib.ListN.{length, take, drop, getD};
+ghost use Rattle.rows.specs.Format.{mostName, mostNumber};
 ghost use Rattle.rows.specs.Limits.{sheetAtoms, sheetLinks};
-ghost use Rattle.numbering.specs.Numbering.{linkRoom};
+ghost use Rattle.numbering.specs.Numbering.{numberRoom};
 ghost use Rattle.normalising.specs.NormalText.{slipLength};
 ghost use Rattle.placing.specs.Net.{Apart};
 ghost use Rattle.network.specs.NetIn.{netIn, contextIn, atomAt, Used, Fit};
@@ -33,8 +34,8 @@ fn put_filling<'a>(
     out: &mut [u8],
     at: usize,
 ) -> usize
-    requires { ⌜ Fit sheet × (length (now «links_to») ≡ sheetLinks) × (length (now given) ≡ sheetAtoms) × ((i : ℕ) → i < sheet .«atom_count» → atomAt sheet i .name ≤ 999) × Used sheetLinks (context .count) (context .links) × (context .number ≤ 9999) ⌝ }
-    requires { ⌜ ((k : ℕ) → k < context .count → standsAt (sheet .«class_count») (now «links_to») (getD (context .links) k 0) < linkRoom) ⌝ }
+    requires { ⌜ Fit sheet × (length (now «links_to») ≡ sheetLinks) × (length (now given) ≡ sheetAtoms) × ((i : ℕ) → i < sheet .«atom_count» → atomAt sheet i .name ≤ mostName) × Used sheetLinks (context .count) (context .links) × (context .number ≤ mostNumber) ⌝ }
+    requires { ⌜ ((k : ℕ) → k < context .count → standsAt (sheet .«class_count») (now «links_to») (getD (context .links) k 0) < numberRoom) ⌝ }
     requires { ⌜ at + length (fillingBytes sheet (now «links_to») (now given) (contextIn context)) ≤ length (now out) ⌝ }
     ensures { λ r. ⌜ r ≡ at + length (fillingBytes sheet (now («links_to» .entry)) (now (given .entry)) (contextIn context)) ⌝ }
     ensures { λ _. ⌜ now (out .exit) ≡ take at (now (out .entry)) ++ fillingBytes sheet (now («links_to» .entry)) (now (given .entry)) (contextIn context) ++ drop (at + length (fillingBytes sheet (now («links_to» .entry)) (now (given .entry)) (contextIn context))) (now (out .entry)) ⌝ }

@@ -8,11 +8,11 @@ ghost use mathlib.Core.Path.{_≡_};
 ghost use mathlib.Core.List.{List, [], _∷_, _++_, map};
 ghost use Prim.Native.Nat.{ℕ, _+_, _*_, _<_, _≤_};
 ghost use lib.ListN.{length, take, drop, getD};
-ghost use Rattle.rows.specs.Format.{mostLinks, fieldCount, rowWidth};
+ghost use Rattle.rows.specs.Format.{mostLinks, fieldCount, rowWidth, mostName, mostNumber};
 ghost use Rattle.rows.specs.Limits.{sheetAtoms};
 ghost use Rattle.rows.specs.Packed.{padded};
 ghost use Rattle.writing.specs.RowText.{rowBytes};
-ghost use Rattle.numbering.specs.Numbering.{linkRoom, numbering, withClasses};
+ghost use Rattle.numbering.specs.Numbering.{numberRoom, numbering, withClasses, mostClasses};
 ghost use Rattle.placing.specs.Net.{cellLinks};
 ghost use Rattle.network.specs.NetIn.{Fit, atomAt};
 ghost use Rattle.listing.specs.Writing.{numberIn, cellIf, givenCells, symbolsBytes, portsBytes};
@@ -20,7 +20,7 @@ ghost use Rattle.listing.specs.Writing.{numberIn, cellIf, givenCells, sy
 // An H row or an E row: two numbers.
 pub(crate) fn put_pair(out: &mut [u8], at: usize, letter: u8, first: u16, second: u16)
     requires { ⌜ at + rowWidth ≤ length (now out) ⌝ }
-    requires { ⌜ (first ≤ 9999) × (second ≤ 9999) ⌝ }
+    requires { ⌜ (first ≤ mostNumber) × (second ≤ mostNumber) ⌝ }
     ensures { λ _. ⌜ now (out .exit) ≡ take at (now (out .entry)) ++ rowBytes letter (first ∷ second ∷ []) ++ drop (at + rowWidth) (now (out .entry)) ⌝ }
 {
     let mut nums = [0; Sheet::FIELDS];
@@ -38,7 +38,7 @@ fn symbol_numbers(
     count: u16,
     links: [u16; Sheet::MOST_LINKS],
 ) -> [u16; Sheet::FIELDS]
-    requires { ⌜ (count ≤ mostLinks) × (now numbered + count ≤ 1000) × ((k : ℕ) → k < count → getD links k 0 < linkRoom) ⌝ }
+    requires { ⌜ (count ≤ mostLinks) × (now numbered + count ≤ mostClasses) × ((k : ℕ) → k < count → getD links k 0 < numberRoom) ⌝ }
     ensures { λ _. ⌜ numbering (now (numbers .exit)) (now (numbered .exit)) ≡ withClasses (numbering (now (numbers .entry)) (now (numbered .entry))) (take count links) ⌝ }
     ensures { λ r. ⌜ ((later : List ℕ) → r ≡ padded fieldCount 0 (name ∷ count ∷ map (numberIn (withClasses (numbering (now (numbers .exit)) (now (numbered .exit))) later .numbers)) (take count links))) ⌝ }
 {
@@ -62,8 +62,8 @@ fn put_symbol(
     out: &mut [u8],
     at: usize,
 ) -> usize
-    requires { ⌜ (atom .name ≤ 999) × (atom .count ≤ mostLinks) × (length (atom .links) ≡ mostLinks) × ((k : ℕ) → k < atom .count → getD (atom .links) k 0 < linkRoom) ⌝ }
-    requires { ⌜ (now numbered + mostLinks ≤ 1000) × ((x : ℕ) → getD (now numbers) x 0 ≤ now numbered) ⌝ }
+    requires { ⌜ (atom .name ≤ mostName) × (atom .count ≤ mostLinks) × (length (atom .links) ≡ mostLinks) × ((k : ℕ) → k < atom .count → getD (atom .links) k 0 < numberRoom) ⌝ }
+    requires { ⌜ (now numbered + mostLinks ≤ mostClasses) × ((x : ℕ) → getD (now numbers) x 0 ≤ now numbered) ⌝ }
     requires { ⌜ at + length (cellIf given atom) * rowWidth ≤ length (now out) ⌝ }
     ensures { λ r. ⌜ r ≡ at + length (cellIf given atom) * rowWidth ⌝ }
     ensures { λ _. ⌜ numbering (now (numbers .exit)) (now (numbered .exit)) ≡ withClasses (numbering (now (numbers .entry)) (now (numbered .entry))) (cellLinks (cellIf given atom)) ⌝ }
@@ -88,8 +88,8 @@ pub(crate) fn put_symbols(
     out: &mut [u8],
     at: usize,
 ) -> usize
-    requires { ⌜ Fit sheet × (length (now given) ≡ sheetAtoms) × ((i : ℕ) → i < sheet .«atom_count» → atomAt sheet i .name ≤ 999) ⌝ }
-    requires { ⌜ (now numbered + mostLinks * sheetAtoms ≤ 1000) × ((x : ℕ) → getD (now numbers) x 0 ≤ now numbered) ⌝ }
+    requires { ⌜ Fit sheet × (length (now given) ≡ sheetAtoms) × ((i : ℕ) → i < sheet .«atom_count» → atomAt sheet i .name ≤ mostName) ⌝ }
+    requires { ⌜ (now numbered + mostLinks * sheetAtoms ≤ mostClasses) × ((x : ℕ) → getD (now numbers) x 0 ≤ now numbered) ⌝ }
     requires { ⌜ at + length (givenCells sheet (now given) number) * rowWidth ≤ length (now out) ⌝ }
     ensures { λ r. ⌜ r ≡ at + length (givenCells sheet (now (given .entry)) number) * rowWidth ⌝ }
     ensures { λ _. ⌜ numbering (now (numbers .exit)) (now (numbered .exit)) ≡ withClasses (numbering (now (numbers .entry)) (now (numbered .entry))) (cellLinks (givenCells sheet (now (given .entry)) number)) ⌝ }
@@ -114,8 +114,8 @@ pub(crate) fn put_ports(
     out: &mut [u8],
     at: usize,
 ) -> usize
-    requires { ⌜ (count ≤ mostLinks) × ((k : ℕ) → k < count → getD ports k 0 < linkRoom) ⌝ }
-    requires { ⌜ (now numbered + count ≤ 1000) × ((x : ℕ) → getD (now numbers) x 0 ≤ now numbered) ⌝ }
+    requires { ⌜ (count ≤ mostLinks) × ((k : ℕ) → k < count → getD ports k 0 < numberRoom) ⌝ }
+    requires { ⌜ (now numbered + count ≤ mostClasses) × ((x : ℕ) → getD (now numbers) x 0 ≤ now numbered) ⌝ }
     requires { ⌜ at + count * rowWidth ≤ length (now out) ⌝ }
     ensures { λ r. ⌜ r ≡ at + count * rowWidth ⌝ }
     ensures { λ _. ⌜ numbering (now (numbers .exit)) (now (numbered .exit)) ≡ withClasses (numbering (now (numbers .entry)) (now (numbered .entry))) (take count ports) ⌝ }

@@ -1,12 +1,12 @@
 -- The recursive search: what it gives.
-use Prim.Native.Nat.{ℕ, suc, _<_, _≤_}
+use Prim.Native.Nat.{ℕ, suc, _+_, _<_, _≤_}
 use mathlib.Core.Path.{_≡_}
 use mathlib.Core.Logic.{_≢_}
 use mathlib.Core.List.{List, _++_}
 use mathlib.Core.Bool.{Bool, true}
 use mathlib.Core.Option.{Option, none, some}
 use lib.Dec.{eqb}
-use lib.ListN.{take, getD}
+use lib.ListN.{take, getD, set}
 use Rattle.rows.specs.Pick.{pick}
 use Rattle.rows.specs.declared.Sheet as form
 use Rattle.placing.specs.Net.{Net}
@@ -17,7 +17,12 @@ use Rattle.network.specs.Ready.{Ready, AtomsIn}
 use Rattle.candidates.specs.Sets.{Keeps}
 use Rattle.candidates.specs.Tables.{mayAtom, mayLink}
 use Rattle.candidates.specs.Words.{digit}
+use Rattle.candidates.specs.Laid.{LaidOut}
+use Rattle.candidates.specs.Frames.{whole}
+use Rattle.candidates.specs.declared.frame.Frame.{Frame}
+use Rattle.narrowing.specs.Users.{UsersIn}
 use Rattle.matching.specs.declared.search.Found.{Found}
+use Rattle.matching.specs.declared.tries.State.{State}
 
 -- what was found behind the beginning of a list
 abbrev pub behind : List ℕ → Option (List ℕ) → Option (List ℕ)
@@ -56,6 +61,32 @@ KeepsIn sheet figure pre atoms links = Keeps (netIn sheet) (netIn figure) pre (m
 pub record Kept (sheet figure : form.Sheet) (pre atoms links : List ℕ) (lost : Bool) : Type 0 where
   pub keeps : KeepsIn sheet figure pre atoms links
   pub none : lost ≡ true → ¬ Begun (netIn sheet) (netIn figure) pre
+
+-- the sheet and the figure of a search on its way, with their atoms as they are laid out
+abbrev pub sheetOf : State → List ℕ → form.Sheet
+sheetOf s laid = whole (s .sheet) laid
+
+abbrev pub figureOf : State → List ℕ → form.Sheet
+figureOf s parts = whole (s .figure) parts
+
+-- figure atom k goes to sheet atom t
+abbrev pub withAtom : Frame → Frame → (placed : List ℕ) → (k t : ℕ) → Bool → State
+withAtom sheet figure placed k t lost = record { sheet = sheet; figure = figure; chosen = set placed k (t + 1); placed = k + 1; hopeless = lost }
+
+-- what is lent is that of the sheet and the figure, and the sets keep every good placing that begins so
+pub record Stands (s : State) (users owners atoms links laid parts : List ℕ) : Type 0 where
+  pub ready : Ready (sheetOf s laid) (figureOf s parts)
+  pub within : s .placed ≤ s .figure .«atom_count»
+  pub atoms-in : AtomsIn (sheetOf s laid) (s .placed) (s .chosen)
+  pub kept : Kept (sheetOf s laid) (figureOf s parts) (take (s .placed) (s .chosen)) atoms links (s .hopeless)
+  pub sheet-laid : LaidOut (sheetOf s laid) laid (s .sheet .«atom_count»)
+  pub figure-laid : LaidOut (figureOf s parts) parts (s .figure .«atom_count»)
+  pub users-in : UsersIn laid (s .sheet .«atom_count») users
+  pub owners-in : UsersIn parts (s .figure .«atom_count») owners
+
+-- what was found is the smallest good placing that begins so
+abbrev pub FoundFrom : State → (laid parts : List ℕ) → Found → Type 0
+FoundFrom s laid parts r = foundIn (sheetOf s laid) (figureOf s parts) r ≡ searchFrom (netIn (sheetOf s laid)) (netIn (figureOf s parts)) (take (s .placed) (s .chosen))
 
 -- The first r figure atoms are placed, where k were: the sets are kept, and the smallest good placing is the same.
 pub record Onward (sheet figure : form.Sheet) (atoms links : List ℕ) (k : ℕ) (chosen : List ℕ) (r : ℕ) (placed : List ℕ) : Type 0 where

@@ -8,13 +8,13 @@ ghost use mathlib.Core.Path.{_≡_};
 ghost use mathlib.Core.Bool.{false};
 ghost use Prim.Native.Nat.{ℕ, _<_, _≤_};
 ghost use Rattle.rows.specs.Limits.{sheetAtoms};
-ghost use Rattle.candidates.specs.Words.{In};
+ghost use Rattle.candidates.specs.Words.{wordDigits, In};
 ghost use Rattle.matching.specs.Search.{mayIn, Only, Forward};
 
-// The first number from t on that is in the set; 64 where there is none.
+// The first number from t on that is in the set; `DIGITS` where there is none.
 fn first_from(s: u64, t: usize) -> usize
-    requires { ⌜ t ≤ 64 ⌝ }
-    ensures { λ r. ⌜ (t ≤ r) × (r ≤ 64) × ((u : ℕ) → t ≤ u → u < r → ¬ In s u) ⌝ }
+    requires { ⌜ t ≤ wordDigits ⌝ }
+    ensures { λ r. ⌜ (t ≤ r) × (r ≤ wordDigits) × ((u : ℕ) → t ≤ u → u < r → ¬ In s u) ⌝ }
 {
     if t >= DIGITS {
         return DIGITS;

@@ -2,3 +2,4 @@
 mod forced;
 pub mod identical;
 pub mod search;
+mod tries;

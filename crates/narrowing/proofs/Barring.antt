@@ -10,7 +10,7 @@ use lib.ListN.{getD}
 use Rattle.rows.specs.Format.{mostLinks}
 use Rattle.rows.specs.Limits.{sheetLinks}
 use Rattle.candidates.specs.Laid.{laidAtom, linkOf, Rowed}
-use Rattle.candidates.specs.Words.{In, InPair}
+use Rattle.candidates.specs.Words.{wordDigits, In, InPair}
 use Rattle.candidates.proofs.Halves.{pair-in}
 use Rattle.candidates.specs.Tables.{LinkIn}
 use Rattle.candidates.proofs.Digits.{none-in, in-or-left, in-or-right, or-in}
@@ -57,31 +57,31 @@ module _ (users : List ℕ) (at n s : ℕ) where
             go (no d) = ⊎-elim (λ r. inl (left z d r)) (λ r. inr (in-or-left all (getD users (at + y) 0) t r)) (j .has t z h m v)
 
 -- the two words of a set of links
-pub uses-only : (users : List ℕ) (k : ℕ) (set : List ℕ) (t : ℕ) → Named users (k * sheetLinks) 64 (getD set 0 0) t ⊎ Named users (k * sheetLinks + 64) 32 (getD set 1 0) t → UsesAt users k set t
+pub uses-only : (users : List ℕ) (k : ℕ) (set : List ℕ) (t : ℕ) → Named users (k * sheetLinks) wordDigits (getD set 0 0) t ⊎ Named users (k * sheetLinks + wordDigits) (sheetLinks - wordDigits) (getD set 1 0) t → UsesAt users k set t
 uses-only users k set t = ⊎-elim low high
   where
-    low : Named users (k * sheetLinks) 64 (getD set 0 0) t → UsesAt users k set t
-    low v = let y = v .0 in let a : y / 64 ≡ 0 = omega (arith, v .1) in let b : y % 64 ≡ y = omega (arith, v .1) in (y, omega (arith, v .1), rw (a, b) (v .2), v .3)
+    low : Named users (k * sheetLinks) wordDigits (getD set 0 0) t → UsesAt users k set t
+    low v = let y = v .0 in let a : y / wordDigits ≡ 0 = omega (arith, v .1) in let b : y % wordDigits ≡ y = omega (arith, v .1) in (y, omega (arith, v .1), rw (a, b) (v .2), v .3)
 
-    high : Named users (k * sheetLinks + 64) 32 (getD set 1 0) t → UsesAt users k set t
+    high : Named users (k * sheetLinks + wordDigits) (sheetLinks - wordDigits) (getD set 1 0) t → UsesAt users k set t
     high v =
         let y = v .0 in
-        let a : (64 + y) / 64 ≡ 1 = omega (arith, v .1) in
-        let b : (64 + y) % 64 ≡ y = omega (arith, v .1) in
-        let e : k * sheetLinks + 64 + y ≡ k * sheetLinks + (64 + y) = omega arith in
-        (64 + y, omega (arith, v .1), rw (a, b) (v .2), subst (λ (q : ℕ). In (getD users q 0) t) e (v .3))
+        let a : (wordDigits + y) / wordDigits ≡ 1 = omega (arith, v .1) in
+        let b : (wordDigits + y) % wordDigits ≡ y = omega (arith, v .1) in
+        let e : k * sheetLinks + wordDigits + y ≡ k * sheetLinks + (wordDigits + y) = omega arith in
+        (wordDigits + y, omega (arith, v .1), rw (a, b) (v .2), subst (λ (q : ℕ). In (getD users q 0) t) e (v .3))
 
-pub uses-has : (users : List ℕ) (k : ℕ) (set : List ℕ) (t : ℕ) → UsesAt users k set t → Named users (k * sheetLinks) 64 (getD set 0 0) t ⊎ Named users (k * sheetLinks + 64) 32 (getD set 1 0) t
-uses-has users k set t u = go (decLt (u .0) 64)
+pub uses-has : (users : List ℕ) (k : ℕ) (set : List ℕ) (t : ℕ) → UsesAt users k set t → Named users (k * sheetLinks) wordDigits (getD set 0 0) t ⊎ Named users (k * sheetLinks + wordDigits) (sheetLinks - wordDigits) (getD set 1 0) t
+uses-has users k set t u = go (decLt (u .0) wordDigits)
   where
-    go : Dec (u .0 < 64) → Named users (k * sheetLinks) 64 (getD set 0 0) t ⊎ Named users (k * sheetLinks + 64) 32 (getD set 1 0) t
-    go (yes h) = let y = u .0 in let a : y / 64 ≡ 0 = omega arith in let b : y % 64 ≡ y = omega arith in inl (y, h, rw (a, b) at (u .2), u .3)
+    go : Dec (u .0 < wordDigits) → Named users (k * sheetLinks) wordDigits (getD set 0 0) t ⊎ Named users (k * sheetLinks + wordDigits) (sheetLinks - wordDigits) (getD set 1 0) t
+    go (yes h) = let y = u .0 in let a : y / wordDigits ≡ 0 = omega arith in let b : y % wordDigits ≡ y = omega arith in inl (y, h, rw (a, b) at (u .2), u .3)
     go (no h) =
         let y = u .0 in
-        let a : y / 64 ≡ 1 = omega (arith, u .1) in
-        let b : y % 64 ≡ y - 64 = omega (arith, u .1) in
-        let e : k * sheetLinks + y ≡ k * sheetLinks + 64 + (y - 64) = omega arith in
-        inr (y - 64, omega (arith, u .1), rw (a, b) at (u .2), subst (λ (q : ℕ). In (getD users q 0) t) e (u .3))
+        let a : y / wordDigits ≡ 1 = omega (arith, u .1) in
+        let b : y % wordDigits ≡ y - wordDigits = omega (arith, u .1) in
+        let e : k * sheetLinks + y ≡ k * sheetLinks + wordDigits + (y - wordDigits) = omega arith in
+        inr (y - wordDigits, omega (arith, u .1), rw (a, b) at (u .2), subst (λ (q : ℕ). In (getD users q 0) t) e (u .3))
 
 -- what has none of the links left, and what has one that went
 module _ (users : List ℕ) (k : ℕ) (left : List ℕ) where

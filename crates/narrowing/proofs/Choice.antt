@@ -4,6 +4,7 @@ use mathlib.Core.Path.{_≡_, refl, sym, _∙_, ap, subst}
 use mathlib.Core.List.{List, [], _∷_, _++_, append-assoc}
 use native.Mathlib.Decide.{ℕ-discrete}
 use native.Mathlib.Omega.{arith}
+use lib.Bits.{bitAnd}
 use lib.ListN.{length, getD, set}
 use lib.Seq.{getD-append-seam, getD-set-other}
 use Rattle.rows.specs.Limits.{sheetAtoms}
@@ -12,7 +13,8 @@ use Rattle.placing.specs.Placing.{Placing, atomTo}
 use Rattle.network.specs.Begun.{Begins}
 use Rattle.candidates.specs.Sets.{Obeys, Keeps}
 use Rattle.candidates.specs.Tables.{mayAtom, mayLink, AtomIn, AtomsStay}
-use Rattle.candidates.specs.Words.{In}
+use Rattle.candidates.specs.Words.{In, alone}
+use Rattle.candidates.proofs.Digits.{in-and, alone-in}
 use Rattle.candidates.proofs.Staying.{atoms-put}
 
 -- A placing that begins with more begins with less
@@ -27,8 +29,8 @@ begins-next pre t p b =
 
 -- Only the set of figure atom k is cut, and t stays in it.
 module _ (a l : List ℕ) (k t v : ℕ) (small : t < sheetAtoms) (stays : AtomIn a k t → In v t) where
-  pub choose-keeps : (S F : Net) (pre : List ℕ) → length pre ≡ k → k < length (F .atoms) → Keeps S F pre (mayAtom a) (mayLink l) → Keeps S F (pre ++ ((t + 1) ∷ [])) (mayAtom (set a k v)) (mayLink l)
-  choose-keeps S F pre e h keeps p g b = record { atoms = λ i r. at i r (ℕ-discrete (i - 1) k); links = o .links }
+  cut-keeps : (S F : Net) (pre : List ℕ) → length pre ≡ k → k < length (F .atoms) → Keeps S F pre (mayAtom a) (mayLink l) → Keeps S F (pre ++ ((t + 1) ∷ [])) (mayAtom (set a k v)) (mayLink l)
+  cut-keeps S F pre e h keeps p g b = record { atoms = λ i r. at i r (ℕ-discrete (i - 1) k); links = o .links }
     where
       o : Obeys S F (mayAtom a) (mayLink l) p
       o = keeps p g (begins-before pre (t + 1) p b)
@@ -42,3 +44,8 @@ module _ (a l : List ℕ) (k t v : ℕ) (small : t < sheetAtoms) (stays : AtomIn
       at : (i : ℕ) → Range (length (F .atoms)) i → Dec (i - 1 ≡ k) → mayAtom (set a k v) i (atomTo p i)
       at i r (yes w) = let q = mine i r w in row (i - 1) (atomTo p i - 1) (omega arith) (o .atoms i r) (λ z. q)
       at i r (no d) = subst (λ (w : ℕ). In w (atomTo p i - 1)) (sym (getD-set-other a k (i - 1) v 0 d)) (o .atoms i r)
+
+-- Figure atom k may go to t alone, the next after those placed.
+pub choose-keeps : (a b : List ℕ) (k t : ℕ) → t < sheetAtoms → b ≡ set a k (bitAnd (getD a k 0) (alone t))
+    → (S F : Net) (pre l : List ℕ) → length pre ≡ k → k < length (F .atoms) → Keeps S F pre (mayAtom a) (mayLink l) → Keeps S F (pre ++ ((t + 1) ∷ [])) (mayAtom b) (mayLink l)
+choose-keeps a b k t small e S F pre l = rw e (cut-keeps a l k t (bitAnd (getD a k 0) (alone t)) small (λ m. in-and (getD a k 0) (alone t) t m (alone-in t (alone t) refl)) S F pre)

@@ -15,7 +15,7 @@ ghost use lib.ListN.{getD};
 ghost use Rattle.rows.specs.Format.{mostLinks};
 ghost use Rattle.rows.specs.Limits.{sheetLinks};
 ghost use Rattle.candidates.specs.Laid.{laidAtom, Rowed};
-ghost use Rattle.candidates.specs.Words.{In};
+ghost use Rattle.candidates.specs.Words.{wordDigits, In};
 ghost use Rattle.candidates.specs.Tables.{AtomsStay};
 ghost use Rattle.narrowing.specs.Users.{UsersIn, UsesAt};
 ghost use Rattle.narrowing.specs.Steps.{Barred, Fitting};
@@ -49,7 +49,7 @@ fn users_at(users: &[u64; PLACES], k: usize, set: [u64; 2]) -> u64
 }
 
 fn members(s: u64) -> u32
-    ensures { λ r. ⌜ r ≤ 64 ⌝ }
+    ensures { λ r. ⌜ r ≤ wordDigits ⌝ }
 {
     u64::count_ones(s)
 }

@@ -3,18 +3,17 @@ use candidates::words::minus;
 use candidates::words::one;
 use rows::Sheet;
 ghost use mathlib.Core.Path.{_≡_};
-ghost use mathlib.Core.List.{List, [], _∷_, _++_};
-ghost use Prim.Native.Nat.{ℕ, _+_, _<_};
-ghost use lib.ListN.{length};
+ghost use Prim.Native.Nat.{_<_};
+ghost use lib.Bits.{bitAnd};
+ghost use lib.ListN.{getD, set};
 ghost use Rattle.rows.specs.Limits.{sheetAtoms};
-ghost use Rattle.placing.specs.Net.{Net};
-ghost use Rattle.candidates.specs.Sets.{Keeps};
-ghost use Rattle.candidates.specs.Tables.{mayAtom, mayLink};
+ghost use Rattle.candidates.specs.Words.{alone, fewer};
 
-// Figure atom k, the next after those placed, goes to sheet atom t alone. What it lost.
+// Figure atom k goes to sheet atom t alone, if it may go there. What it lost.
 pub fn choose(k: usize, t: usize, atoms: &mut [u64; Sheet::ATOMS]) -> u64
     requires { ⌜ (k < sheetAtoms) × (t < sheetAtoms) ⌝ }
-    ensures { λ _. ⌜ ((S F : Net) (pre l : List ℕ) → length pre ≡ k → k < length (F .atoms) → Keeps S F pre (mayAtom (now (atoms .entry))) (mayLink l) → Keeps S F (pre ++ ((t + 1) ∷ [])) (mayAtom (now (atoms .exit))) (mayLink l)) ⌝ }
+    ensures lost { λ r. ⌜ r ≡ fewer (getD (now (atoms .entry)) k 0) (alone t) ⌝ }
+    ensures left { λ _. ⌜ now (atoms .exit) ≡ set (now (atoms .entry)) k (bitAnd (getD (now (atoms .entry)) k 0) (alone t)) ⌝ }
 {
     let row = atoms[k];
     atoms[k] = row & one(t);

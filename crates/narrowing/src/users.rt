@@ -13,13 +13,13 @@ ghost use Rattle.rows.specs.Format.{mostLinks};
 ghost use Rattle.rows.specs.Limits.{sheetLinks};
 ghost use Rattle.network.specs.NetIn.{Used};
 ghost use Rattle.candidates.specs.Laid.{Rowed};
-ghost use Rattle.candidates.specs.Words.{In};
+ghost use Rattle.candidates.specs.Words.{wordDigits, In};
 ghost use Rattle.narrowing.specs.Users.{UsersIn};
 ghost use Rattle.candidates.specs.Laid.{linkOf};
 
 // Atom t at each of its places.
 fn add_users(there: Atom, t: usize, users: &mut [u64; PLACES])
-    requires { ⌜ Used sheetLinks (there .count) (there .links) × (t < 64) × (length (now users) ≡ mostLinks * sheetLinks) ⌝ }
+    requires { ⌜ Used sheetLinks (there .count) (there .links) × (t < wordDigits) × (length (now users) ≡ mostLinks * sheetLinks) ⌝ }
     ensures width { λ _. ⌜ length (now (users .exit)) ≡ mostLinks * sheetLinks ⌝ }
     ensures kept { λ _. ⌜ ((q u : ℕ) → In (getD (now (users .entry)) q 0) u → In (getD (now (users .exit)) q 0) u) ⌝ }
     ensures there { λ _. ⌜ ((k : ℕ) → k < there .count → In (getD (now (users .exit)) (k * sheetLinks + (linkOf there k - 1)) 0) t) ⌝ }

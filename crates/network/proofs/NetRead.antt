@@ -12,7 +12,7 @@ use Rattle.hyperlmntal.specs.Hypergraph.{Node, inner, portNodes, nodes}
 use Rattle.hyperlmntal.proofs.Lists.{map-agree}
 use Rattle.hyperlmntal.proofs.Flats.{on-atoms, on-fusions, ends-in}
 use Rattle.rows.specs.Format.{mostLinks}
-use Rattle.rows.specs.Limits.{sheetAtoms, sheetLinks, sheetMarks, figureContexts}
+use Rattle.rows.specs.Limits.{sheetAtoms, sheetLinks, atomRoom, contextRoom, markRoom}
 use Rattle.rows.specs.Held.{Held, indexOf}
 use Rattle.rows.specs.Packed.{padded, noAtom, noContext}
 use Rattle.rows.proofs.Padding.{length-padded, take-padded}
@@ -25,9 +25,9 @@ use Rattle.reading.specs.NormalSheet.{numberIn, normalAtom, normalContext, norm
 use Rattle.normalising.specs.NormalRows.{pastAtoms, pastContexts}
 use Rattle.sheet.specs.declared.kind.Kind.{Kind}
 use Rattle.sheet.specs.declared.kind.Kind.the-variants.{Plain, Pattern, Figure, Replacement, Fillings}
+use Rattle.sheet.specs.HeldLimits.{AtomRange, ContextRange, WithinLimits}
 use Rattle.reading.proofs.normal.Merging.{at-indexOf, getD-in}
 use Rattle.reading.proofs.normal.Distinct.{index-below, distinct-in, distinct-of, distinct-once, once-length}
-use Rattle.sheet.proofs.read.Ranges.{AtomRange, ContextRange, WithinLimits}
 use Rattle.sheet.proofs.read.HeldLimits.{held-within}
 use Rattle.sheet.proofs.read.Room.{limits-most}
 use Rattle.reading.proofs.normal.Connected.{atom-port, context-port, agrees-read}
@@ -94,7 +94,7 @@ module _ (h : Held) where
   pub marks-read : netIn (packedNormal h) .marks ≡ normalNet h .marks
   unfolding normalForm normalFormBy
   marks-read =
-      ap₂ paired (taken-padded (sheetMarks + 1) (map (λ m. numberIn h (markNode m)) (normalMarks h)) (length (normalMarks h)) (length-map (normalMarks h) _)) (take-padded (sheetMarks + 1) 0 (normalMarks h))
+      ap₂ paired (taken-padded markRoom (map (λ m. numberIn h (markNode m)) (normalMarks h)) (length (normalMarks h)) (length-map (normalMarks h) _)) (take-padded markRoom 0 (normalMarks h))
       ∙ marks-paired (normalMarks h)
 
 pub net-≡ : {a a′ c c′ : List NetCell} {m m′ : List (ℕ × ℕ)} {n n′ : ℕ} → a ≡ a′ → c ≡ c′ → m ≡ m′ → n ≡ n′
@@ -108,7 +108,7 @@ module _ (kind : Kind) (h : Held) (w : WithinLimits kind h) where
 
   atoms-read : netIn (packedNormal h) .atoms ≡ normalNet h .atoms
   atoms-read =
-      ap (map atomIn) (ap (λ k. take k (padded (sheetAtoms + 1) noAtom (map (normalAtom h) (h .atoms)))) (sym (length-map (h .atoms) (normalAtom h))) ∙ take-padded (sheetAtoms + 1) noAtom (map (normalAtom h) (h .atoms)))
+      ap (map atomIn) (ap (λ k. take k (padded atomRoom noAtom (map (normalAtom h) (h .atoms)))) (sym (length-map (h .atoms) (normalAtom h))) ∙ take-padded atomRoom noAtom (map (normalAtom h) (h .atoms)))
       ∙ map-map atomIn (normalAtom h) (h .atoms)
       ∙ map-agree (λ a. atomIn (normalAtom h a)) (atomNumbers (linkNumber h)) (h .atoms) (λ a m.
       let r = every-member AtomRange (h .atoms) a (w .ranges .atoms) m in
@@ -117,7 +117,7 @@ module _ (kind : Kind) (h : Held) (w : WithinLimits kind h) where
 
   contexts-read : netIn (packedNormal h) .contexts ≡ normalNet h .contexts
   contexts-read =
-      ap (map contextIn) (ap (λ k. take k (padded (figureContexts + 1) noContext (map (normalContext h) (h .contexts)))) (sym (length-map (h .contexts) (normalContext h))) ∙ take-padded (figureContexts + 1) noContext (map (normalContext h) (h .contexts)))
+      ap (map contextIn) (ap (λ k. take k (padded contextRoom noContext (map (normalContext h) (h .contexts)))) (sym (length-map (h .contexts) (normalContext h))) ∙ take-padded contextRoom noContext (map (normalContext h) (h .contexts)))
       ∙ map-map contextIn (normalContext h) (h .contexts)
       ∙ map-agree (λ c. contextIn (normalContext h c)) (contextNumbers (linkNumber h)) (h .contexts) (λ c m.
       let r = every-member (ContextRange kind) (h .contexts) c (w .ranges .contexts) m in
@@ -155,10 +155,10 @@ module _ (kind : Kind) (h : Held) (w : WithinLimits kind h) (A : Agrees h) (plai
         context-count = w .contexts;
         mark-count = few-marks kind h w A;
         class-count = omega (arith, text-links h (links-known kind h w A), w .links, links-most kind plain);
-        atom-room = length-padded (sheetAtoms + 1) noAtom (map (normalAtom h) (h .atoms)) (omega (arith, length-map (h .atoms) (normalAtom h)));
-        context-room = length-padded (figureContexts + 1) noContext (map (normalContext h) (h .contexts)) (omega (arith, w .contexts, length-map (h .contexts) (normalContext h)));
-        mark-room = length-padded (sheetMarks + 1) 0 (normalMarks h) (omega (arith, few-marks kind h w A));
-        marked-room = length-padded (sheetMarks + 1) 0 (map (λ m. numberIn h (markNode m)) (normalMarks h)) (omega (arith, few-marks kind h w A, length-map (normalMarks h) (λ m. numberIn h (markNode m))));
+        atom-room = length-padded atomRoom noAtom (map (normalAtom h) (h .atoms)) (omega (arith, length-map (h .atoms) (normalAtom h)));
+        context-room = length-padded contextRoom noContext (map (normalContext h) (h .contexts)) (omega (arith, w .contexts, length-map (h .contexts) (normalContext h)));
+        mark-room = length-padded markRoom 0 (normalMarks h) (omega (arith, few-marks kind h w A));
+        marked-room = length-padded markRoom 0 (map (λ m. numberIn h (markNode m)) (normalMarks h)) (omega (arith, few-marks kind h w A, length-map (normalMarks h) (λ m. numberIn h (markNode m))));
         atoms = λ k p.
             let a = getD (h .atoms) k pastAtoms in
             rw (atom-at h k p) (used-held (a .count) (a .links) (atom-range kind h w k p .count) (atom-room kind h w k p) (λ j q. atom-port h k j pastAtoms p q (omega (arith, atom-room kind h w k p))));

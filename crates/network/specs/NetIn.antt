@@ -4,7 +4,7 @@ use mathlib.Core.Path.{_≡_}
 use mathlib.Core.List.{List, [], _∷_, map}
 use lib.ListN.{length, take, getD}
 use Rattle.rows.specs.Format.{mostLinks}
-use Rattle.rows.specs.Limits.{sheetAtoms, sheetLinks, sheetMarks, figureContexts}
+use Rattle.rows.specs.Limits.{sheetAtoms, sheetLinks, sheetMarks, figureContexts, atomRoom, contextRoom, markRoom}
 use Rattle.rows.specs.declared.Atom.{Atom}
 use Rattle.rows.specs.declared.Context.{Context}
 use Rattle.rows.specs.declared.Sheet as form
@@ -54,10 +54,10 @@ pub record Fit (n : form.Sheet) : Type 0 where
   pub context-count : n .«context_count» ≤ figureContexts
   pub mark-count : n .«mark_count» ≤ sheetMarks
   pub class-count : n .«class_count» ≤ sheetLinks
-  pub atom-room : length (n .atoms) ≡ sheetAtoms + 1
-  pub context-room : length (n .contexts) ≡ figureContexts + 1
-  pub mark-room : length (n .marks) ≡ sheetMarks + 1
-  pub marked-room : length (n .marked) ≡ sheetMarks + 1
+  pub atom-room : length (n .atoms) ≡ atomRoom
+  pub context-room : length (n .contexts) ≡ contextRoom
+  pub mark-room : length (n .marks) ≡ markRoom
+  pub marked-room : length (n .marked) ≡ markRoom
   pub atoms : (i : ℕ) → i < n .«atom_count» → Used (n .«class_count») (atomAt n i .count) (atomAt n i .links)
   pub contexts : (i : ℕ) → i < n .«context_count» → Used (n .«class_count») (contextAt n i .count) (contextAt n i .links)
   pub marked : (i : ℕ) → i < n .«mark_count» → Range (n .«class_count») (getD (n .marked) i 0)
@@ -66,7 +66,7 @@ pub record Fit (n : form.Sheet) : Type 0 where
 pub record Ports (contexts : List Context) (rows links : ℕ) : Type 0 where
   pub few : rows ≤ figureContexts
   pub links-few : links ≤ sheetLinks
-  pub room : length contexts ≡ figureContexts + 1
+  pub room : length contexts ≡ contextRoom
   pub used : (i : ℕ) → i < rows → Used links (rowAt contexts i .count) (rowAt contexts i .links)
 
 -- the contexts of a net, and its count of links

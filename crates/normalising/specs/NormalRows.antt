@@ -2,7 +2,7 @@
 use Prim.Native.Nat.{ℕ, zero, suc, _<_, _≤_}
 use mathlib.Core.List.{List, [], _∷_, _++_}
 use lib.ListN.{take, getD}
-use Rattle.rows.specs.Format.{mostLinks}
+use Rattle.rows.specs.Format.{mostLinks, mostNumber}
 use Rattle.rows.specs.Limits.{sheetAtoms, figureContexts, sheetMarks}
 use Rattle.writing.specs.RowText.{rowBytes}
 use Rattle.rows.specs.declared.Atom.{Atom}
@@ -56,9 +56,9 @@ normalRows n = rowsTo (atomRow n) (n .«atom_count») ++ rowsTo (contextRow n) (
 
 -- the numbers of an S row or a B row have four digits at most
 pub record Narrow (first count : ℕ) (links : List ℕ) : Type 0 where
-  pub named : first ≤ 9999
+  pub named : first ≤ mostNumber
   pub counted : count ≤ mostLinks
-  pub linked : (k : ℕ) → k < count → getD links k 0 ≤ 9999
+  pub linked : (k : ℕ) → k < count → getD links k 0 ≤ mostNumber
 
 -- so do those of the first so many atoms, contexts or marks
 abbrev pub AtomsNarrow : List Atom → ℕ → Type 0
@@ -68,7 +68,7 @@ abbrev pub ContextsNarrow : List Context → ℕ → Type 0
 ContextsNarrow contexts n = (k : ℕ) → k < n → Narrow (getD contexts k pastContexts .number) (getD contexts k pastContexts .count) (getD contexts k pastContexts .links)
 
 abbrev pub MarksNarrow : List ℕ → List ℕ → ℕ → Type 0
-MarksNarrow marked marks n = (k : ℕ) → k < n → (getD marked k 0 ≤ 9999) × (getD marks k 0 ≤ 9999)
+MarksNarrow marked marks n = (k : ℕ) → k < n → (getD marked k 0 ≤ mostNumber) × (getD marks k 0 ≤ mostNumber)
 
 -- a normal form whose rows can be written
 pub record Writable (n : Normal) : Type 0 where

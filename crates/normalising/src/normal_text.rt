@@ -7,7 +7,7 @@ ghost use mathlib.Core.Path.{_≡_};
 ghost use mathlib.Core.List.{[], _∷_, _++_};
 ghost use Prim.Native.Nat.{_+_, _*_, _≤_};
 ghost use lib.ListN.{length, take, drop};
-ghost use Rattle.rows.specs.Format.{rowWidth};
+ghost use Rattle.rows.specs.Format.{rowWidth, mostNumber};
 ghost use Rattle.writing.specs.RowText.{rowBytes};
 ghost use Rattle.rows.specs.Limits.{sheetAtoms, figureContexts, sheetMarks};
 ghost use Rattle.normalising.specs.NormalRows.{rowsTo, linkedRow, atomRowIn, contextRowIn, markRowIn, normalRows, Narrow, AtomsNarrow, ContextsNarrow, MarksNarrow, Writable};
@@ -93,7 +93,7 @@ fn put_contexts(
 // An E row, from byte `at` on.
 fn put_mark(out: &mut [u8], at: usize, link: u16, mark: u16)
     requires { ⌜ at + rowWidth ≤ length (now out) ⌝ }
-    requires { ⌜ (link ≤ 9999) × (mark ≤ 9999) ⌝ }
+    requires { ⌜ (link ≤ mostNumber) × (mark ≤ mostNumber) ⌝ }
     ensures { λ _. ⌜ now (out .exit) ≡ take at (now (out .entry)) ++ rowBytes 69 (link ∷ mark ∷ []) ++ drop (at + rowWidth) (now (out .entry)) ⌝ }
 {
     let mut nums = [0; Sheet::FIELDS];

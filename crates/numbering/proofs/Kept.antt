@@ -12,7 +12,7 @@ use Rattle.rows.specs.Pick.{pick}
 use Rattle.rows.specs.Packed.{padded}
 use Rattle.rows.proofs.Padding.{getD-filled, stored-next}
 use Rattle.rows.proofs.Lists.{mapped, mapped-at, mapped-next}
-use Rattle.numbering.specs.Numbering.{Numbering, linkRoom, noNumbers, withClass, withClasses, linksBy}
+use Rattle.numbering.specs.Numbering.{Numbering, numberRoom, noNumbers, withClass, withClasses, linksBy}
 use Rattle.numbering.proofs.Turns.{nextClass, with-class-count, with-classes-append, classes-next}
 
 -- A class that the table has a place for has a number.
@@ -100,7 +100,7 @@ pub low-after : (from n : Numbering) (l : List ℕ) → n ≡ withClasses from l
 low-after from n l e low = rw e (low-classes from l low)
 
 pub low-none : Low noNumbers
-low-none c = omega (arith, getD-filled {A = ℕ} 0 linkRoom c)
+low-none c = omega (arith, getD-filled {A = ℕ} 0 numberRoom c)
 
 -- What is numbered after all, with what is left before that.
 pub later-all : (n all : Numbering) (rest later : List ℕ) → withClasses n rest ≡ all → withClasses n (rest ++ later) ≡ withClasses all later

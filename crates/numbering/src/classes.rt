@@ -8,7 +8,7 @@ ghost use mathlib.Core.List.{List};
 ghost use Prim.Native.Nat.{ℕ, _+_, _<_, _≤_};
 ghost use lib.ListN.{getD};
 ghost use Rattle.rows.specs.Format.{mostLinks};
-ghost use Rattle.numbering.specs.Numbering.{Labels, numbering, labelIn, linkRoom, withClass, withClasses, linkLabels, linksBy};
+ghost use Rattle.numbering.specs.Numbering.{Labels, numbering, labelIn, numberRoom, withClass, withClasses, linkLabels, linksBy, mostClasses};
 
 // The links of a sheet, and one for each figure link that goes to none; 0 is no link. The classes of a
 // text need fewer.
@@ -16,7 +16,7 @@ pub const ROOM: usize = 2 * Sheet::LINKS + 1;
 
 // The number of a class; one that has none gets the next.
 pub fn number_class(numbers: &mut [u16; ROOM], count: &mut usize, label: usize) -> u16
-    requires { ⌜ (label < linkRoom) × (now count < 1000) ⌝ }
+    requires { ⌜ (label < numberRoom) × (now count < mostClasses) ⌝ }
     ensures { λ _. ⌜ numbering (now (numbers .exit)) (now (count .exit)) ≡ withClass (numbering (now (numbers .entry)) (now (count .entry))) label ⌝ }
     ensures { λ r. ⌜ r ≡ getD (now (numbers .exit)) label 0 ⌝ }
 {
@@ -39,7 +39,7 @@ pub(crate) fn number_links<'a>(
     port_count: usize,
     hints: &'a [u8; HINTS],
 ) -> [u16; Sheet::MOST_LINKS]
-    requires { ⌜ Labels (now hints) (now links) (now classes) n × («port_count» ≤ mostLinks) × (now count + «port_count» ≤ 1000) ⌝ }
+    requires { ⌜ Labels (now hints) (now links) (now classes) n × («port_count» ≤ mostLinks) × (now count + «port_count» ≤ mostClasses) ⌝ }
     ensures { λ _. ⌜ numbering (now (numbers .exit)) (now (count .exit)) ≡ withClasses (numbering (now (numbers .entry)) (now (count .entry))) (linkLabels (labelIn (now (links .entry)) (now (classes .entry)) n) «port_count» ports) ⌝ }
     ensures { λ r. ⌜ ((later : List ℕ) → r ≡ linksBy (withClasses (numbering (now (numbers .exit)) (now (count .exit))) later .numbers) (labelIn (now (links .entry)) (now (classes .entry)) n) «port_count» ports) ⌝ }
 {

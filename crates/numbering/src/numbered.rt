@@ -13,7 +13,7 @@ ghost use Prim.Native.Nat.{ℕ, _+_, _*_, _≤_};
 ghost use lib.ListN.{length, take, drop, getD};
 ghost use Rattle.rows.specs.Format.{mostLinks};
 ghost use Rattle.rows.specs.Limits.{sheetAtoms, figureContexts, sheetMarks};
-ghost use Rattle.numbering.specs.Numbering.{Labels, MarkLabels, numbering, labelIn, markLabelIn, withClasses, atomLabels, contextLabels, atomNumbered, contextNumbered, marksBy};
+ghost use Rattle.numbering.specs.Numbering.{Labels, MarkLabels, numbering, labelIn, markLabelIn, withClasses, atomLabels, contextLabels, atomNumbered, contextNumbered, marksBy, mostClasses};
 
 pub fn numbered_atoms<'a>(
     numbers: &mut [u16; ROOM],
@@ -25,7 +25,7 @@ pub fn numbered_atoms<'a>(
     atom_count: usize,
     hints: &'a [u8; HINTS],
 ) -> [Atom; Sheet::ATOM_ROOM]
-    requires { ⌜ Labels (now hints) (now links) (now classes) n × («atom_count» ≤ sheetAtoms) × (now count + mostLinks * «atom_count» ≤ 1000) ⌝ }
+    requires { ⌜ Labels (now hints) (now links) (now classes) n × («atom_count» ≤ sheetAtoms) × (now count + mostLinks * «atom_count» ≤ mostClasses) ⌝ }
     requires { ⌜ ((i : ℕ) → getD atoms i (record { name = 0; count = 0; links = [] }) .count ≤ mostLinks) ⌝ }
     ensures { λ _. ⌜ numbering (now (numbers .exit)) (now (count .exit)) ≡ withClasses (numbering (now (numbers .entry)) (now (count .entry))) (atomLabels (labelIn (now (links .entry)) (now (classes .entry)) n) (take «atom_count» atoms)) ⌝ }
     ensures { λ _. ⌜ now (count .exit) ≤ now (count .entry) + mostLinks * «atom_count» ⌝ }
@@ -65,7 +65,7 @@ pub fn numbered_contexts<'a>(
     context_count: usize,
     hints: &'a [u8; HINTS],
 ) -> [Context; Sheet::CONTEXT_ROOM]
-    requires { ⌜ Labels (now hints) (now links) (now classes) n × («context_count» ≤ figureContexts) × (now count + mostLinks * «context_count» ≤ 1000) ⌝ }
+    requires { ⌜ Labels (now hints) (now links) (now classes) n × («context_count» ≤ figureContexts) × (now count + mostLinks * «context_count» ≤ mostClasses) ⌝ }
     requires { ⌜ ((i : ℕ) → getD contexts i (record { number = 0; count = 0; links = []; row = 0 }) .count ≤ mostLinks) ⌝ }
     ensures { λ _. ⌜ numbering (now (numbers .exit)) (now (count .exit)) ≡ withClasses (numbering (now (numbers .entry)) (now (count .entry))) (contextLabels (labelIn (now (links .entry)) (now (classes .entry)) n) (take «context_count» contexts)) ⌝ }
     ensures { λ _. ⌜ now (count .exit) ≤ now (count .entry) + mostLinks * «context_count» ⌝ }
@@ -106,7 +106,7 @@ pub fn numbered_marks<'a>(
     n: usize,
     ascending: &'a [u16],
 ) -> [u16; Sheet::MARK_ROOM]
-    requires { ⌜ MarkLabels (now marks) (now marked) (now classes) n × (n ≤ sheetMarks) × (n ≤ length (now ascending)) × (now count + n ≤ 1000) ⌝ }
+    requires { ⌜ MarkLabels (now marks) (now marked) (now classes) n × (n ≤ sheetMarks) × (n ≤ length (now ascending)) × (now count + n ≤ mostClasses) ⌝ }
     ensures { λ _. ⌜ numbering (now (numbers .exit)) (now (count .exit)) ≡ withClasses (numbering (now (numbers .entry)) (now (count .entry))) (map (markLabelIn (now (marks .entry)) (now (marked .entry)) (now (classes .entry)) n) (take n (now (ascending .entry)))) ⌝ }
     ensures { λ r. ⌜ r ≡ marksBy (now (numbers .exit)) (markLabelIn (now (marks .entry)) (now (marked .entry)) (now (classes .entry)) n) (take n (now (ascending .entry))) ⌝ }
 {

@@ -21,10 +21,10 @@ ghost use Rattle.normalising.specs.NormalText.{normalisedAnswer, normalisedSlip
 ghost use Rattle.answers.specs.Done.{doneNumber, doneInput, doneRow, doneBytes};
 ghost use Rattle.filling.specs.Fill.{fillAnswer, fillSlip};
 ghost use Rattle.comparing.specs.Compare.{compareAnswer};
-ghost use Rattle.answers.specs.Compared.{comparedNumber, comparedInput, comparedRow, comparedYes};
+ghost use Rattle.answers.specs.Compared.{comparedNumber, comparedInput, comparedRow, comparedBytes, comparedYes};
 ghost use Rattle.finding.specs.Place.{placeAnswer, placeSlip};
 ghost use Rattle.claiming.specs.Claim.{claimAnswer};
-ghost use Rattle.answers.specs.Claimed.{claimedNumber, claimedInput, claimedRow, claimedYes};
+ghost use Rattle.answers.specs.Claimed.{claimedNumber, claimedInput, claimedRow, claimedBytes, claimedYes};
 ghost use Rattle.swapping.specs.Swap.{swapAnswer, swapSlip};
 
 // The values of an answer, each where the caller wants it.
@@ -41,14 +41,22 @@ fn hand_out(answer: TaskAnswer, input: &mut u16, row: &mut usize, bytes: &mut us
 }
 
 // The same for a yes or no.
-fn hand_verdict(verdict: Verdict, input: &mut u16, row: &mut usize, yes: &mut bool) -> u16
+fn hand_verdict(
+    verdict: Verdict,
+    input: &mut u16,
+    row: &mut usize,
+    bytes: &mut usize,
+    yes: &mut bool,
+) -> u16
     ensures { λ r. ⌜ r ≡ verdict .number ⌝ }
     ensures { λ _. ⌜ now (input .exit) ≡ verdict .input ⌝ }
     ensures { λ _. ⌜ now (row .exit) ≡ verdict .row ⌝ }
+    ensures { λ _. ⌜ now (bytes .exit) ≡ verdict .bytes ⌝ }
     ensures { λ _. ⌜ now (yes .exit) ≡ verdict .yes ⌝ }
 {
     *input = verdict.input;
     *row = verdict.row;
+    *bytes = verdict.bytes;
     *yes = verdict.yes;
     verdict.number
 }
@@ -156,14 +164,16 @@ pub extern "C" fn placer_compare(
     b: &[u8],
     input: &mut u16,
     row: &mut usize,
+    bytes: &mut usize,
     yes: &mut bool,
 ) -> u16
     ensures { λ r. ⌜ r ≡ comparedNumber (compareAnswer (now (a .entry)) (now (b .entry))) ⌝ }
     ensures { λ _. ⌜ now (input .exit) ≡ comparedInput (compareAnswer (now (a .entry)) (now (b .entry))) ⌝ }
     ensures { λ _. ⌜ now (row .exit) ≡ comparedRow (compareAnswer (now (a .entry)) (now (b .entry))) ⌝ }
+    ensures { λ _. ⌜ now (bytes .exit) ≡ comparedBytes (compareAnswer (now (a .entry)) (now (b .entry))) ⌝ }
     ensures { λ _. ⌜ now (yes .exit) ≡ comparedYes (compareAnswer (now (a .entry)) (now (b .entry))) ⌝ }
 {
-    hand_verdict(of_compared(compare(a, b)), input, row, yes)
+    hand_verdict(of_compared(compare(a, b)), input, row, bytes, yes)
 }
 
 // Whether the figure, filled from the list, is the same as the sheet.
@@ -174,12 +184,15 @@ pub extern "C" fn placer_claim(
     list: &[u8],
     input: &mut u16,
     row: &mut usize,
+    bytes: &mut usize,
     yes: &mut bool,
 ) -> u16
     ensures { λ r. ⌜ r ≡ claimedNumber (claimAnswer (now (sheet .entry)) (now (figure .entry)) (now (list .entry))) ⌝ }
     ensures { λ _. ⌜ now (input .exit) ≡ claimedInput (claimAnswer (now (sheet .entry)) (now (figure .entry)) (now (list .entry))) ⌝ }
     ensures { λ _. ⌜ now (row .exit) ≡ claimedRow (claimAnswer (now (sheet .entry)) (now (figure .entry)) (now (list .entry))) ⌝ }
+    ensures { λ _. ⌜ now (bytes .exit) ≡ claimedBytes (claimAnswer (now (sheet .entry)) (now (figure .entry)) (now (list .entry))) ⌝ }
     ensures { λ _. ⌜ now (yes .exit) ≡ claimedYes (claimAnswer (now (sheet .entry)) (now (figure .entry)) (now (list .entry))) ⌝ }
 {
-    hand_verdict(of_claimed(claim(sheet, figure, list)), input, row, yes)
+    let claimed = claim(sheet, figure, list);
+    hand_verdict(of_claimed(claimed), input, row, bytes, yes)
 }

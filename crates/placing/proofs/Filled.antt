@@ -22,8 +22,9 @@ use Rattle.placing.specs.Placing.{numberAt}
 use Rattle.placing.specs.Fillings.{Row, pointRow, edgeRow, rowsGraph, Filling, Fits}
 use Rattle.placing.specs.Holding.{marksFrom}
 use Rattle.placing.specs.Filled.{flatEntry}
+use Rattle.placing.specs.ListFits.{symbolsIn}
 use Rattle.placing.proofs.Lists.{at-left, at-right, at-map, at-of-map, at-member}
-use Rattle.placing.proofs.Names.{symbolsIn, rows-atoms, FusionOf, of-point, of-edge, rows-fusion, fusion-rows, marks-length}
+use Rattle.placing.proofs.Names.{rows-atoms, FusionOf, of-point, of-edge, rows-fusion, fusion-rows, marks-length}
 use Rattle.placing.proofs.Reduction.{filled}
 
 -- Nodes: a figure link, link n of the filling of the vertex at position k, a mark.

@@ -15,15 +15,7 @@ use Rattle.reading.specs.Graph.{atomCell, contextCell, graphOf}
 use Rattle.reading.specs.Normal.{classOf, numberedBy, normalFormBy, normalForm}
 use Rattle.placing.specs.Fillings.{Filling}
 use Rattle.placing.specs.Filled.{flatEntry, spotNode, filledGraph, filledNormal}
-
--- What is put for a vertex: the atoms of its filling, or itself where it has none.
-abbrev pub putFor : Option (Entry (Flat ℕ)) → Cell ℕ → List (Cell ℕ)
-putFor none c = c ∷ []
-putFor (some e) c = e .body .atoms
-
-abbrev pub putForAll : List Filling → List (Cell ℕ) → List (Cell ℕ)
-putForAll θ [] = []
-putForAll θ (c ∷ l) = putFor (entryFor (map flatEntry θ) (c .label) (length (c .ports))) c ++ putForAll θ l
+use Rattle.placing.specs.FilledOrder.{putFor, putForAll}
 
 -- Renaming nodes keeps names and numbers of ports.
 functors-kept : {P Q : Type 0} (f : Node P → Node Q) (l : List (Cell P)) → map functor (map (mapCell f) l) ≡ map functor l

@@ -21,7 +21,7 @@ use Rattle.rows.specs.Held.{Held}
 use Rattle.reading.specs.Graph.{graphOf, termOfText}
 use Rattle.reading.proofs.normal.TextGraph.{graph-marked}
 use Rattle.texts.proofs.NormalIso.{normal-isomorphic, normal-marked}
-use Rattle.placing.specs.Fillings.{Filling, ExactMarks}
+use Rattle.placing.specs.Fillings.{Filling, AllExactMarks}
 use Rattle.placing.specs.Holding.{holdingTerm}
 use Rattle.placing.specs.Filled.{flatEntry, ofPart, spotNumber, spotNode, filledGraph, filledNormal}
 use Rattle.placing.proofs.Names.{exact-flat}
@@ -72,10 +72,6 @@ nodeIn l (name X) = name X
 node-in : (l : List (Node (Spot ℕ ℕ))) (n : Node (Spot ℕ ℕ)) → n ∈ l → nodeIn l (spotNode n) ≡ n
 node-in l (inner s) i = spot-in l s i
 node-in l (name X) i = refl
-
--- Every filling of the list has exactly its ports as marks.
-abbrev pub AllExactMarks : List Filling → Type 0
-AllExactMarks θ = (f : Filling) → f ∈ θ → ExactMarks (f .ports) (f .rows)
 
 module _ (F : Flat ℕ) (θ : List Filling) where
   numbered-names : SameNames (fillFlat (map flatEntry θ) F) (filledGraph F θ)

@@ -13,7 +13,7 @@ use Rattle.rows.specs.Pick.{pick}
 use Rattle.placing.specs.Net.{NetCell, Net, Range, Normal, Apart}
 use Rattle.placing.specs.Placing.{Placing, numberAt, cellAt, linkTo, Good}
 use Rattle.placing.specs.Fillings.{Row, pointRow, edgeRow, rowLinks, Filling, ExactMarks, Fits, placesOf, byNumber, symbolOf, standsOn, portRows, givenRows, fillingFor, fillingsOf}
-use Rattle.placing.proofs.Names.{symbolsIn}
+use Rattle.placing.specs.ListFits.{symbolsIn}
 use Rattle.placing.proofs.Filled.{rowsFor, found-for}
 use Rattle.placing.proofs.Standing.{atom-link, context-link, cell-in, port-in}
 use Rattle.placing.proofs.Orders.{places-out, by-number-in, by-number-out, apart-same}

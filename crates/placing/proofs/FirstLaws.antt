@@ -11,6 +11,7 @@ use native.Mathlib.Omega.{arith}
 use lib.ListN.{length}
 use Rattle.rows.specs.Pick.{pick}
 use Rattle.placing.specs.First.{Within, nothing, also, Before, here, later, after, headed, orElse, firstFrom, firstList, Least, Answer}
+use Rattle.placing.specs.Narrowed.{firstMay}
 
 pub both-ways : {A : Type 0} {b : Bool} → b ≡ true → b ≡ false → A
 both-ways p q = absurd (let z : true ≡ false = cc in let w : _≡_ {A = ℕ} 0 1 = cc in omega arith)
@@ -114,12 +115,7 @@ first-least test bs l = (λ e. subst (Answer test bs) e (first-answer test bs), 
 pub first-none : (test : List ℕ → Bool) (bs : List ℕ) → (firstList test bs ≡ none) ↔ ((m : List ℕ) → Within bs m → test m ≡ false)
 first-none test bs = (λ e. subst (Answer test bs) e (first-answer test bs), λ a. answer-only test bs _ none (first-answer test bs) a)
 
--- The search that does not look into what begins with a list that `may` turns down.
-unfoldable pub firstMay : (may test : List ℕ → Bool) → List ℕ → Option (List ℕ)
-firstMay may test [] = pick (may []) (pick (test []) (some []) none) none
-firstMay may test (b ∷ bs) = pick (may []) (firstFrom (λ v. firstMay (after v may) (after v test) bs) 0 (suc b)) none
-
--- what `may` turns down is the beginning of nothing that passes
+-- The search with `may`: what `may` turns down is the beginning of nothing that passes.
 abbrev pub Sound : (may test : List ℕ → Bool) → List ℕ → Type 0
 Sound may test bs = (k l : List ℕ) → Within bs (k ++ l) → test (k ++ l) ≡ true → may k ≡ true
 

@@ -13,7 +13,8 @@ use Rattle.hyperlmntal.proofs.Positions.{below-some}
 use Rattle.hyperlmntal.proofs.Equivalence.{partners-onward, partners-backward}
 use Rattle.placing.specs.Net.{NetCell, Net, Range, cellLinks, markLinks, netGraph}
 use Rattle.placing.specs.Placing.{Placing, cellAt, atomTo, linkTo, givenTo, Taken}
-use Rattle.placing.proofs.Lists.{member-at, getD-of, table, table-length, table-at, each-right}
+use Rattle.placing.specs.Smallest.{table}
+use Rattle.placing.proofs.Lists.{member-at, getD-of, table-length, table-at, each-right}
 use Rattle.placing.proofs.Connecting.{connected-dec, node-dec}
 use Rattle.placing.proofs.Reduction.{filled}
 use Rattle.placing.proofs.Filled.{FilledNode, figN, markN, figCell, filled-atoms, ownCells}

@@ -1,38 +1,26 @@
 -- Reading back the text of a list of fillings: it passes, and what is held has its heads and its atoms.
-use Prim.Native.Nat.{ℕ, suc, _+_, _-_, _<_, _≤_}
+use Prim.Native.Nat.{ℕ, suc, _+_, _-_, _≤_}
 use mathlib.Core.Path.{_≡_, refl, sym, ap, _∙_, subst}
 use mathlib.Core.List.{List, [], _∷_, _++_, map, map-append, append-nil, List·Memᴰ·head, List·Memᴰ·tail}
 use native.Mathlib.Omega.{arith}
 use lib.ListN.{length, length-append, length-map}
 use Rattle.hyperlmntal.specs.Link.{_∈_}
-use Rattle.rows.specs.Format.{mostLinks}
 use Rattle.rows.specs.Limits.{rowLimit, figureContexts, sheetAtoms}
 use Rattle.rows.specs.Held.{Held, nothing, withHead}
 use Rattle.rows.specs.declared.Atom.{Atom}
 use Rattle.rows.specs.declared.Context.{Context}
-use Rattle.rows.proofs.RowRange.{Within}
 use Rattle.sheet.specs.Reading.{lastNumber, passed, readFrom, outcomeOf, noPorts}
 use Rattle.sheet.specs.declared.kind.Kind.the-variants.{Fillings}
 use Rattle.sheet.specs.declared.answer.Answer.the-variants.{Passed}
 use Rattle.sheet.proofs.read.ReadingLaws.{read-none}
 use Rattle.texts.proofs.Went.{Went, went-none, went-then}
 use Rattle.texts.proofs.Few.{few-none}
-use Rattle.texts.proofs.BuiltRows.{heldAtom, Stock, headNums, heldHead, went-head, Stocked, Led, led-none, led-then}
-use Rattle.placing.specs.Net.{NetCell}
+use Rattle.texts.specs.Fitting.{Stock}
+use Rattle.texts.proofs.BuiltRows.{heldAtom, headNums, heldHead, went-head, Stocked, Led, led-none, led-then}
 use Rattle.placing.specs.Fillings.{Row, symbolRow, pointRow, edgeRow, Filling}
 use Rattle.placing.specs.ListText.{rowsText, listText}
-use Rattle.placing.proofs.Names.{symbolsIn}
-use Rattle.placing.proofs.ListRows.{RowFits, pointsIn, edgesIn, one-row}
-
--- The atoms of a list of fillings, in order.
-abbrev pub listAtoms : List Filling → List NetCell
-listAtoms [] = []
-listAtoms (f ∷ θ) = symbolsIn (f .rows) ++ listAtoms θ
-
--- How many rows it has.
-abbrev pub listRows : List Filling → ℕ
-listRows [] = 0
-listRows (f ∷ θ) = 1 + length (f .rows) + listRows θ
+use Rattle.placing.specs.ListFits.{symbolsIn, RowFits, pointsIn, edgesIn, listAtoms, listRows, Ascends, FillingFits, ListFits}
+use Rattle.placing.proofs.ListRows.{one-row}
 
 -- The head of a filling that is held: its number and port count, and its row.
 abbrev pub headOf : Filling → ℕ → Context
@@ -42,27 +30,6 @@ headOf f row = heldHead (f .number) (f .ports) row
 abbrev pub listHeads : ℕ → List Filling → List Context
 listHeads row [] = []
 listHeads row (f ∷ θ) = headOf f (row + 1) ∷ listHeads (row + (1 + length (f .rows))) θ
-
--- The numbers ascend, and are above n.
-abbrev pub Ascends : ℕ → List Filling → Type 0
-Ascends n [] = Unit {0}
-Ascends n (f ∷ θ) = (n < f .number) × Ascends (f .number) θ
-
--- A filling that can be written and read back.
-pub record FillingFits (f : Filling) : Type 0 where
-  pub number : Within 1 (f .number) 4
-  pub ports : f .ports ≤ mostLinks
-  pub links : List ℕ
-  pub marks : List ℕ
-  pub stock : Stock Fillings links marks
-  pub each : (r : Row) → r ∈ f .rows → RowFits links marks r
-
--- A list of fillings that can be written and read back.
-pub record ListFits (θ : List Filling) : Type 0 where
-  pub ascends : Ascends 0 θ
-  pub fillings : (f : Filling) → f ∈ θ → FillingFits f
-  pub few-atoms : length (listAtoms θ) ≤ sheetAtoms
-  pub few-rows : listRows θ ≤ rowLimit
 
 -- The first row's atoms, and those of the others.
 symbols-split : (r : Row) (l : List Row) → symbolsIn (r ∷ l) ≡ symbolsIn (r ∷ []) ++ symbolsIn l

@@ -15,16 +15,15 @@ use Rattle.rows.specs.Row.{rowOf}
 use Rattle.writing.specs.RowText.{rowBytes}
 use Rattle.writing.proofs.RowBytes.{row-width}
 use Rattle.sheet.specs.Filling.{fromHead, beforeHead, firstFilling, isPassed, fillingOf}
-use Rattle.sheet.specs.Reading.{Outcome, outcomeOf, noPorts}
+use Rattle.sheet.specs.Reading.{outcomeOf, noPorts}
 use Rattle.sheet.specs.declared.kind.Kind.the-variants.{Fillings}
 use Rattle.sheet.specs.declared.answer.Answer.the-variants.{Passed}
 use Rattle.texts.proofs.BuiltRows.{heldAtom}
 use Rattle.texts.proofs.RowBack.{row-first, row-after, row-byte, head-back}
 use Rattle.placing.specs.Fillings.{Row, symbolRow, pointRow, edgeRow, Filling}
 use Rattle.placing.specs.ListText.{rowText, rowsText, headText, listText}
-use Rattle.placing.proofs.Names.{symbolsIn}
-use Rattle.placing.proofs.ListRows.{pointsIn, edgesIn}
-use Rattle.placing.proofs.ListBack.{listAtoms, listRows, Ascends, FillingFits, ListFits, list-passes, list-atoms, list-points, list-edges}
+use Rattle.placing.specs.ListFits.{symbolsIn, pointsIn, edgesIn, listAtoms, listRows, Ascends, FillingFits, ListFits, partOf}
+use Rattle.placing.proofs.ListBack.{list-passes, list-atoms, list-points, list-edges}
 use Rattle.sheet.proofs.part.FillingLaws.{before-nil}
 
 -- A text that begins with a row.
@@ -91,7 +90,7 @@ module _ (f : Filling) (fits : FillingFits f) (rest : List ℕ) where
   from-head (suc n) k same h e = let q : suc n - 1 ≡ n = omega arith in rw (q, row-long 72 (f .number ∷ f .ports ∷ []) rest, row-byte 72 (f .number ∷ f .ports ∷ []) rest, number-read, e, row-after 72 (f .number ∷ f .ports ∷ []) rest)
 
 -- A filling's number is above that of those before it.
-ascends-above : (n : ℕ) (θ : List Filling) → Ascends n θ → (f : Filling) → f ∈ θ → n < f .number
+pub ascends-above : (n : ℕ) (θ : List Filling) → Ascends n θ → (f : Filling) → f ∈ θ → n < f .number
 ascends-above n [] up f m = absurd (List·Memᴰ·not-nil m)
 ascends-above n (g ∷ θ) up f m = at (List·Memᴰ·cases-cons m) (ascends-above (g .number) θ (up .1) f)
   where
@@ -131,7 +130,7 @@ unfolding rowsText
 rows-bytes [] = omega arith
 rows-bytes (r ∷ l) = let h = rows-bytes l in omega (arith, length-append (rowText r) (rowsText l), one r)
   where
-    one : (q : Row) → length (rowText q) ≡ 34
+    one : (q : Row) → length (rowText q) ≡ rowWidth
     one (symbolRow a k) = row-width 83 (a ∷ length k ∷ k)
     one (pointRow x y) = row-width 70 (x ∷ y ∷ [])
     one (edgeRow x m) = row-width 69 (x ∷ m ∷ [])
@@ -175,10 +174,6 @@ member-rows (g ∷ θ) f m = at (List·Memᴰ·cases-cons m) (member-rows θ f)
     at : (f ≡ g) ⊎ (f ∈ θ) → (f ∈ θ → 1 + length (f .rows) ≤ listRows θ) → 1 + length (f .rows) ≤ listRows (g ∷ θ)
     at (inl e) h = subst (λ z. 1 + length (z .rows) ≤ listRows (g ∷ θ)) (sym e) (omega arith)
     at (inr k) h = omega (arith, h k)
-
--- What is read of that part.
-abbrev pub partOf : List Filling → Filling → Outcome
-partOf θ f = outcomeOf Fillings noPorts (fillingOf (listText θ) (f .number))
 
 -- That part is a list of its own: it passes, and holds this filling alone.
 module _ (θ : List Filling) (fits : ListFits θ) (f : Filling) (m : f ∈ θ) where

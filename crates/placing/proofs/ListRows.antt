@@ -3,33 +3,14 @@ use Prim.Native.Nat.{ℕ, _+_, _<_, _≤_}
 use mathlib.Core.List.{List, [], _∷_, map}
 use native.Mathlib.Omega.{arith}
 use lib.ListN.{length}
-use Rattle.hyperlmntal.specs.Link.{_∈_}
 use Rattle.rows.specs.Limits.{rowLimit, figureContexts, sheetAtoms}
 use Rattle.rows.specs.Held.{Held}
 use Rattle.sheet.specs.declared.kind.Kind.the-variants.{Fillings}
-use Rattle.texts.proofs.BuiltRows.{heldAtom, Stock, Fitting, Stocked, Led, led-symbol, led-fusion, led-edge}
+use Rattle.texts.specs.Fitting.{Stock}
+use Rattle.texts.proofs.BuiltRows.{heldAtom, Stocked, Led, led-symbol, led-fusion, led-edge}
 use Rattle.placing.specs.Fillings.{Row, symbolRow, pointRow, edgeRow}
 use Rattle.placing.specs.ListText.{rowText}
-use Rattle.placing.proofs.Names.{symbolsIn}
-
--- A row of a filling that has these links and marks.
-abbrev pub RowFits : List ℕ → List ℕ → Row → Type 0
-RowFits links marks (symbolRow a l) = Fitting links 999 (a, l)
-RowFits links marks (pointRow x y) = (x ∈ links) × (y ∈ links)
-RowFits links marks (edgeRow x m) = (x ∈ links) × (m ∈ marks)
-
--- The F rows and the E rows among rows.
-abbrev pub pointsIn : List Row → List (ℕ × ℕ)
-pointsIn [] = []
-pointsIn (symbolRow a l ∷ r) = pointsIn r
-pointsIn (pointRow x y ∷ r) = (x, y) ∷ pointsIn r
-pointsIn (edgeRow x m ∷ r) = pointsIn r
-
-abbrev pub edgesIn : List Row → List (ℕ × ℕ)
-edgesIn [] = []
-edgesIn (symbolRow a l ∷ r) = edgesIn r
-edgesIn (pointRow x y ∷ r) = edgesIn r
-edgesIn (edgeRow x m ∷ r) = (x, m) ∷ edgesIn r
+use Rattle.placing.specs.ListFits.{symbolsIn, pointsIn, edgesIn, RowFits}
 
 module _ (given links marks : List ℕ) (stock : Stock Fillings links marks) (g : Held) (s : Stocked Fillings links marks g) (room : g .rows < rowLimit) (few : length (g .contexts) ≤ figureContexts) where
   pub one-row : (r : Row) → RowFits links marks r → length (g .atoms) + length (symbolsIn (r ∷ [])) ≤ sheetAtoms

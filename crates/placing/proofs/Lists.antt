@@ -9,6 +9,7 @@ use lib.ListN.{length, getD, getElem?}
 use Rattle.hyperlmntal.specs.Link.{_∈_}
 use Rattle.hyperlmntal.proofs.Lists.{Each, done, more}
 use Rattle.hyperlmntal.proofs.Positions.{some-injective}
+use Rattle.placing.specs.Smallest.{table}
 
 -- What stands at a position.
 pub at-left : {A : Type 0} (k l : List A) (i : ℕ) → i < length k → getElem? (k ++ l) i ≡ getElem? k i
@@ -53,11 +54,7 @@ member-at {A} (b ∷ l) a m = at (List·Memᴰ·cases-cons m) (λ k. member-at l
     at (inl e) f = (0, omega arith, ap some (sym e))
     at (inr k) f = let t = f k in (suc (t .0), (let h : t .0 < length l = t .1 in omega arith), t .2)
 
--- The list of the values of a function from s on.
-abbrev pub table : {A : Type 0} → (ℕ → A) → ℕ → ℕ → List A
-table g s zero = []
-table g s (suc n) = g s ∷ table g (suc s) n
-
+-- Tables of values, by position.
 pub table-length : {A : Type 0} (g : ℕ → A) (s n : ℕ) → length (table g s n) ≡ n
 table-length g s zero = refl
 table-length g s (suc n) = ap suc (table-length g (suc s) n)

@@ -18,10 +18,11 @@ use Rattle.hyperlmntal.proofs.ExactPorts.{ExactFlat}
 use Rattle.reading.specs.Graph.{fusionOf, edgeOf}
 use Rattle.reading.proofs.normal.NormalNodes.{ends-of}
 use Rattle.reading.proofs.normal.TextGraph.{port-of}
-use Rattle.placing.specs.Net.{NetCell, Net, atomVertex, contextVertex, netGraph}
+use Rattle.placing.specs.Net.{Net, atomVertex, contextVertex, netGraph}
 use Rattle.placing.specs.Fillings.{Row, symbolRow, pointRow, edgeRow, rowsGraph, Filling, ExactMarks, Fits}
 use Rattle.placing.specs.Holding.{marksFrom, entryOf, substitutionOf}
 use Rattle.placing.specs.Filled.{flatEntry}
+use Rattle.placing.specs.ListFits.{symbolsIn}
 
 -- A port of a row is no free link.
 no-name : (X : Link) (l : List ℕ) → ¬ (_∈_ {A = Node ℕ} (name X) (map inner l))
@@ -65,13 +66,7 @@ name-net N x m i = on-fusions (netGraph N) ((ends-in {e = edgeOf (x, m)} (Memᴰ
 pub net-marked : (N : Net) → Marked (netGraph N)
 net-marked N X i = let t = net-name N X i in (t .1, t .3)
 
--- The atoms among rows.
-abbrev pub symbolsIn : List Row → List NetCell
-symbolsIn [] = []
-symbolsIn (symbolRow a l ∷ r) = (a, l) ∷ symbolsIn r
-symbolsIn (pointRow x y ∷ r) = symbolsIn r
-symbolsIn (edgeRow x m ∷ r) = symbolsIn r
-
+-- The atoms of the hypergraph of rows.
 pub rows-atoms : (r : List Row) → rowsGraph r .atoms ≡ map atomVertex (symbolsIn r)
 rows-atoms [] = refl
 rows-atoms (symbolRow a l ∷ r) = ap (λ k. atomVertex (a, l) ∷ k) (rows-atoms r)

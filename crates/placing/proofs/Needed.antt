@@ -1,36 +1,25 @@
 -- Each condition is needed: with one of the wrong notions of Wrong in its place theorem D is false, by a closed sheet and figure.
 use Prim.Native.Nat.{ℕ, zero, suc, _≤_}
 use mathlib.Core.Path.{_≡_, refl, sym, subst}
-use mathlib.Core.Logic.{_↔_, _≢_, inl, inr, ⊎-elim}
+use mathlib.Core.Logic.{_≢_, inl, inr, ⊎-elim}
 use mathlib.Core.List.{List, [], _∷_, List·Memᴰ·cases-cons, List·Memᴰ·not-nil, List·Memᴰ·eq-of-singleton}
 use mathlib.Core.Bool.{true}
 use mathlib.Core.Option.{none}
 use native.Mathlib.Omega.{arith}
 use lib.Dec.{eqb}
 use lib.ListN.{length}
-use Rattle.hyperlmntal.specs.Congruence.{_≅_}
 use Rattle.rows.specs.Pick.{not}
-use Rattle.placing.specs.Net.{NetCell, Net, Range, netTerm, withLinkCount, NormalSheet, NormalPattern}
+use Rattle.placing.specs.Net.{NetCell, Net, Range, withLinkCount, NormalSheet, NormalPattern}
 use Rattle.placing.specs.Placing.{Placing, linkTo, here, Across, PortAt, Good}
-use Rattle.placing.specs.Fillings.{Filling, Fits}
-use Rattle.placing.specs.Holding.{holding}
 use Rattle.placing.specs.First.{firstFrom, firstList}
 use Rattle.placing.specs.Smallest.{numbersTo, allOf, labelsBy, acrossTest, ownLinks, smallest}
+use Rattle.placing.specs.Wrong.{Fillable, TheoremD, SharingLinked, OwnOr, SharedGood, DroppedGood, InsideAny, InnerGood}
 use Rattle.placing.proofs.Tests.{says-not, says-eq, says-all, says-all-to}
 use Rattle.placing.proofs.StepLabels.{says-linked}
 use Rattle.placing.proofs.GoodTest.{says-sending, says-across, says-marks, says-port, Own, says-own}
 use Rattle.placing.proofs.SmallestLaws.{smallest-none}
 use Rattle.placing.proofs.NormalTest.{says-pattern, sheet-by}
 use Rattle.placing.proofs.NetPlacing.{fillings-iff-placing}
-use Rattle.placing.proofs.Wrong.{SharingLinked, OwnOr, SharedGood, DroppedGood, InsideAny, InnerGood}
-
--- Somebody can write fillings of any size that turn the figure into the sheet.
-abbrev pub Fillable : Net → Net → Type 0
-Fillable S F = (θ : List Filling) × Fits F θ × (holding F θ ≅ netTerm S)
-
--- Theorem D with a notion of good placings.
-abbrev pub TheoremD : (Net → Net → Placing → Type 0) → Type 0
-TheoremD G = (S F : Net) → NormalSheet S → NormalPattern F → Fillable S F ↔ ((p : Placing) × G S F p)
 
 -- It holds of Good: this is the statement of fillings-iff-placing.
 theorem-d : TheoremD Good

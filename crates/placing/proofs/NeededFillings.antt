@@ -15,16 +15,16 @@ use Rattle.rows.specs.Held.{indexOf}
 use Rattle.reading.specs.Normal.{normalForm, normalFormBy, classOf, classesBy, numberBy, marksAmong, inserted, distinct, others}
 use Rattle.placing.specs.Net.{NetCell, Net, Range, withLinkCount, netGraph, netTerm, NormalSheet, NormalPattern}
 use Rattle.placing.specs.Placing.{Placing, Good}
-use Rattle.placing.specs.Fillings.{edgeRow, Filling, ExactMarks, Fits, placesOf, withContext, byNumber}
+use Rattle.placing.specs.Fillings.{edgeRow, Filling, ExactMarks, Fits, placesOf, withContext, byNumber, AllExactMarks}
 use Rattle.placing.specs.Holding.{holding}
 use Rattle.placing.specs.Filled.{filledNormal}
 use Rattle.placing.specs.Smallest.{labelsBy}
+use Rattle.placing.specs.Wrong.{fillingsAtMarks, fillingsSomewhere}
 use Rattle.placing.proofs.Names.{net-marked}
 use Rattle.placing.proofs.GoodTest.{says-good}
-use Rattle.placing.proofs.FilledText.{AllExactMarks, filled-congruent}
+use Rattle.placing.proofs.FilledText.{filled-congruent}
 use Rattle.placing.proofs.NormalTest.{says-pattern, sheet-by}
 use Rattle.placing.proofs.Sheets.{fits-nothing, holding-nothing}
-use Rattle.placing.proofs.Wrong.{fillingsAtMarks, fillingsSomewhere}
 use Rattle.placing.proofs.Needed.{none-fillable, emptySheet, joined, apart, joined-sheet, apart-pattern, apart-none, bothJoints}
 
 -- Sheet `S 40 1 1`, `S 41 1 1`; figure `S 40 1 1`, `S 41 1 2`, `B 1 2 1 2`.

@@ -19,7 +19,8 @@ use Rattle.texts.proofs.NormalIso.{normal-names, normal-congruent}
 use Rattle.placing.specs.Net.{NetCell, Net, Range, atomsAmong, edgeNumbers, netOf, atomVertex}
 use Rattle.placing.specs.Fillings.{Row, edgeRow, rowLinks, rowsGraph, rowsTerm, Filling, ExactMarks, Fits, symbolOf, markOf, normalRows, normalFilling}
 use Rattle.placing.specs.Holding.{substitutionOf, holdingTerm}
-use Rattle.placing.proofs.Names.{symbolsIn, rows-atoms, rows-name, name-rows, rows-marked, all-exact}
+use Rattle.placing.specs.ListFits.{symbolsIn}
+use Rattle.placing.proofs.Names.{rows-atoms, rows-name, name-rows, rows-marked, all-exact}
 use Rattle.placing.proofs.Standing.{in-cells}
 use Rattle.placing.proofs.NormalNets.{atom-nodes}
 

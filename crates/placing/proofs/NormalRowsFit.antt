@@ -8,9 +8,9 @@ use lib.ListN.{length, length-append, length-map}
 use Rattle.hyperlmntal.specs.Link.{free, _∈_}
 use Rattle.hyperlmntal.specs.Hypergraph.{Node, inner, name, Connected, along, back, then, portNodes, nodes, mapCell}
 use Rattle.hyperlmntal.proofs.Connection.{connected-≡}
-use Rattle.rows.specs.Format.{mostLinks}
+use Rattle.rows.specs.Format.{mostLinks, mostName, mostContext}
 use Rattle.rows.specs.Limits.{fillingLinks}
-use Rattle.rows.proofs.RowRange.{Within}
+use Rattle.rows.specs.Ranges.{Within}
 use Rattle.reading.specs.Normal.{classOf, markNode, marksOf, shown, numberBy, markedBy, normalFormBy, normalForm}
 use Rattle.normalising.specs.NormalText.{nodeNumber}
 use Rattle.reading.proofs.normal.Distinct.{once-length}
@@ -19,11 +19,10 @@ use Rattle.reading.proofs.normal.NormalBounds.{classCount, number-range, classe
 use Rattle.texts.proofs.NormalFits.{upTo, upTo-length, upTo-in, upTo-of}
 use Rattle.placing.specs.Net.{NetCell, Net, Range, atomsAmong, edgeNumbers, netOf, atomVertex, cellLinks}
 use Rattle.placing.specs.Fillings.{Row, symbolRow, pointRow, edgeRow, rowLinks, rowsGraph, Filling, ExactMarks, symbolOf, markOf, normalRows, normalFilling}
-use Rattle.placing.proofs.Names.{symbolsIn, rows-atoms, fusion-rows, rows-name}
+use Rattle.placing.specs.ListFits.{symbolsIn, RowFits, FillingFits}
+use Rattle.placing.proofs.Names.{rows-atoms, fusion-rows, rows-name}
 use Rattle.placing.proofs.Standing.{in-cells, of-cells}
 use Rattle.placing.proofs.NormalNets.{atom-nodes}
-use Rattle.placing.proofs.ListRows.{RowFits}
-use Rattle.placing.proofs.ListBack.{FillingFits}
 
 -- The S row of an atom among rows.
 pub symbol-row : (r : List Row) (c : NetCell) → c ∈ symbolsIn r → symbolOf c ∈ r
@@ -134,7 +133,7 @@ module _ (r : List Row) where
     Fit q = RowFits (upTo (classCount (rowsGraph r))) (upTo n) q
 
     -- Every row fits, where the names and link counts do.
-    module _ (cells : (c : NetCell) → c ∈ symbolsIn r → Within 1 (c .0) 999 × (length (c .1) ≤ mostLinks)) where
+    module _ (cells : (c : NetCell) → c ∈ symbolsIn r → Within 1 (c .0) mostName × (length (c .1) ≤ mostLinks)) where
       symbol-fits : (c : NetCell) → c ∈ symbolsIn r → Fit (symbolOf (numbered c))
       unfolding numbered
       symbol-fits c i =
@@ -167,8 +166,8 @@ module _ (r : List Row) where
               subst Fit (ap markOf (u .2) ∙ t .2) (edge-fits (u .0) (u .1))
 
 -- The filling as a whole.
-pub normal-filling-fits : (f : Filling) → Within 1 (f .number) 4 → f .ports ≤ mostLinks → ExactMarks (f .ports) (f .rows)
-    → ((c : NetCell) → c ∈ symbolsIn (f .rows) → Within 1 (c .0) 999 × (length (c .1) ≤ mostLinks))
+pub normal-filling-fits : (f : Filling) → Within 1 (f .number) mostContext → f .ports ≤ mostLinks → ExactMarks (f .ports) (f .rows)
+    → ((c : NetCell) → c ∈ symbolsIn (f .rows) → Within 1 (c .0) mostName × (length (c .1) ≤ mostLinks))
     → (l : List ℕ) → length l ≤ fillingLinks → ((q : Row) → q ∈ f .rows → (x : ℕ) → x ∈ rowLinks q → x ∈ l) → FillingFits (normalFilling f)
 normal-filling-fits f number ports exact cells l few all =
     let k = few-classes (f .rows) l all in

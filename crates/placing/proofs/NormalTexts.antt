@@ -13,7 +13,7 @@ use Rattle.hyperlmntal.specs.Hypergraph.{Node, inner}
 use Rattle.rows.specs.Pick.{pick, not}
 use Rattle.rows.specs.Held.{Held, contextOf, withRow, withAtom, withContext, withFusionRow, withEdgeRow}
 use Rattle.rows.specs.Packed.{portsOf}
-use Rattle.rows.specs.Format.{rowWidth}
+use Rattle.rows.specs.Format.{rowWidth, contextLetter, edgeLetter, headLetter}
 use Rattle.rows.specs.declared.Context.{Context}
 use Rattle.rows.proofs.Bools.{not-false}
 use Rattle.rows.proofs.RowRange.{good-letter}
@@ -22,21 +22,22 @@ use Rattle.sheet.specs.Kinds.{isList}
 use Rattle.sheet.specs.Reading.{outcomeOf, strange, clashes, clashOf}
 use Rattle.sheet.specs.declared.kind.Kind.{Kind}
 use Rattle.sheet.specs.declared.kind.Kind.the-variants.{Plain, Pattern}
+use Rattle.sheet.specs.HeldLimits.{Every, ContextRange}
 use Rattle.sheet.proofs.read.Taken.{rowAt, Taken, outcome-keeps}
-use Rattle.sheet.proofs.read.Ranges.{Every, ContextRange}
 use Rattle.sheet.proofs.read.HeldLimits.{head-list, held-within}
-use Rattle.placing.specs.Net.{NetCell, normalNet, Apart, NormalSheet, NormalPattern}
+use Rattle.placing.specs.Net.{NetCell, normalNet, Apart, NormalSheet, NormalPattern, blankOf}
+use Rattle.placing.specs.TextNets.{textBlank}
 use Rattle.texts.proofs.NormalFits.{every-member}
 use Rattle.placing.proofs.NormalNets.{contextNumbers, linkNumber, normal-contexts, normal-net}
 
 -- A sheet text holds no blanks.
-plain-context : (contexts : List Context) → strange Plain contexts 1 ≡ false → ⊥
+plain-context : (contexts : List Context) → strange Plain contexts contextLetter ≡ false → ⊥
 unfolding strange
 plain-context contexts e = true≢false e
 
-head-nowhere : (kind : Kind) (given : List ℕ) (h : Held) (text : List ℕ) → Taken kind given h text → isList kind ≡ false → 3 < rowAt text .letter → ⊥
+head-nowhere : (kind : Kind) (given : List ℕ) (h : Held) (text : List ℕ) → Taken kind given h text → isList kind ≡ false → edgeLetter < rowAt text .letter → ⊥
 head-nowhere kind given h text t l k =
-    let e : rowAt text .letter ≡ 4 = omega (arith, good-letter (take rowWidth text) (t .good)) in
+    let e : rowAt text .letter ≡ headLetter = omega (arith, good-letter (take rowWidth text) (t .good)) in
     true≢false (sym (head-list kind (h .contexts) (rw e at (t .allowed))) ∙ l)
 
 pub sheet-contexts : (given text : List ℕ) → outcomeOf Plain given text .held .contexts ≡ []
@@ -80,10 +81,10 @@ none-before (c ∷ l) k e d m q = at (eqb (c .number) k) refl e (List·Memᴰ·c
     at false b e (inl p) f = eqb-false _ _ b (sym (ap (λ x. x .number) p) ∙ q)
     at false b e (inr m) f = f e m
 
-pattern-clash : (given : List ℕ) (contexts : List Context) (text : List ℕ) → rowAt text .letter ≡ 1 → clashes Pattern given contexts (rowAt text) ≡ false → portsOf contexts (getD (rowAt text .nums) 0 0) ≡ 0
+pattern-clash : (given : List ℕ) (contexts : List Context) (text : List ℕ) → rowAt text .letter ≡ contextLetter → clashes Pattern given contexts (rowAt text) ≡ false → portsOf contexts (getD (rowAt text .nums) 0 0) ≡ 0
 unfolding clashes clashOf
 pattern-clash given contexts text l e =
-    let q : not (eqb (portsOf contexts (getD (rowAt text .nums) 0 0)) 0) ≡ false = rw (ne-eqb (rowAt text .letter) 4 (λ z. absurd (omega arith)), eq-eqb (rowAt text .letter) 1 l) at e in
+    let q : not (eqb (portsOf contexts (getD (rowAt text .nums) 0 0)) 0) ≡ false = rw (ne-eqb (rowAt text .letter) headLetter (λ z. absurd (omega arith)), eq-eqb (rowAt text .letter) contextLetter l) at e in
     eqb-true _ _ (not-false _ q)
 
 pattern-different : (given text : List ℕ) → Different (outcomeOf Pattern given text .held .contexts)
@@ -119,16 +120,10 @@ pattern-normal given text =
         subst (λ n. 1 ≤ n) (ap (λ x. x .0) (t .2)) b
 
 -- A normal text has the blanks of the text: their numbers and port counts.
-abbrev pub netBlank : NetCell → ℕ × ℕ
-netBlank c = (c .0, length (c .1))
-
-abbrev pub textBlank : Context → ℕ × ℕ
-textBlank c = (c .number, c .count)
-
-pub text-blanks : (kind : Kind) (given text : List ℕ) → map netBlank (normalNet (outcomeOf kind given text .held) .contexts) ≡ map textBlank (outcomeOf kind given text .held .contexts)
+pub text-blanks : (kind : Kind) (given text : List ℕ) → map blankOf (normalNet (outcomeOf kind given text .held) .contexts) ≡ map textBlank (outcomeOf kind given text .held .contexts)
 text-blanks kind given text =
     let h = outcomeOf kind given text .held in
-    ap (map netBlank) (normal-contexts h) ∙ each (h .contexts) (held-within kind given text .ranges .contexts)
+    ap (map blankOf) (normal-contexts h) ∙ each (h .contexts) (held-within kind given text .ranges .contexts)
   where
     f : Node ℕ → ℕ
     f = linkNumber (outcomeOf kind given text .held)
@@ -142,6 +137,6 @@ text-blanks kind given text =
         let g = r .count in
         omega arith
 
-    each : (l : List Context) → Every (ContextRange kind) l → map netBlank (map (contextNumbers f) l) ≡ map textBlank l
+    each : (l : List Context) → Every (ContextRange kind) l → map blankOf (map (contextNumbers f) l) ≡ map textBlank l
     each [] r = refl
     each (c ∷ l) r = ap₂ _∷_ (ap (λ n. (c .number, n)) (count c (r .0))) (each l (r .1))

@@ -17,7 +17,8 @@ use Rattle.rows.specs.Pick.{pick}
 use Rattle.reading.proofs.normal.Distinct.{Once}
 use Rattle.placing.specs.Net.{NetCell, Range, Apart}
 use Rattle.placing.specs.Fillings.{placesOf, withContext, byNumber}
-use Rattle.placing.proofs.Lists.{table, member-at, at-member, getD-of}
+use Rattle.placing.specs.Smallest.{table}
+use Rattle.placing.proofs.Lists.{member-at, at-member, getD-of}
 
 -- The numbers from s on.
 pub count-in : (s n j : ℕ) → s ≤ j → j < s + n → j ∈ table (λ i. i) s n

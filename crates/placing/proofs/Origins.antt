@@ -17,8 +17,8 @@ use Rattle.hyperlmntal.proofs.Equivalence.{AtPartners, partners-alike}
 use Rattle.placing.specs.Net.{NetCell, Net, Range, atomVertex, contextVertex, netGraph, Normal}
 use Rattle.placing.specs.Placing.{cellAt}
 use Rattle.placing.specs.Fillings.{Filling, Fits}
+use Rattle.placing.specs.ListFits.{symbolsIn}
 use Rattle.placing.proofs.Lists.{at-left, at-right, at-map, at-getD, at-member}
-use Rattle.placing.proofs.Names.{symbolsIn}
 use Rattle.placing.proofs.Reduction.{filled}
 use Rattle.placing.proofs.Filled.{FilledNode, figCell, ownCell, rowsFor, Slot, ownCells, filled-atoms}
 

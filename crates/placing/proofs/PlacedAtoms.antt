@@ -19,8 +19,10 @@ use Rattle.placing.specs.Net.{NetCell, Net, Range, atomVertex, contextVe
 use Rattle.placing.specs.Placing.{Placing, cellAt, atomTo, linkTo, givenTo, Taken, Across, PortAt, Inside}
 use Rattle.placing.specs.Fillings.{placesOf}
 use Rattle.placing.specs.Filled.{flatEntry}
-use Rattle.placing.proofs.Lists.{member-at, getD-of, each-by-position, table}
-use Rattle.placing.proofs.Names.{symbolsIn, net-name, name-net, all-exact-flat}
+use Rattle.placing.specs.ListFits.{symbolsIn}
+use Rattle.placing.specs.Smallest.{table}
+use Rattle.placing.proofs.Lists.{member-at, getD-of, each-by-position}
+use Rattle.placing.proofs.Names.{net-name, name-net, all-exact-flat}
 use Rattle.placing.proofs.Reduction.{filled}
 use Rattle.placing.proofs.Filled.{FilledNode, figN, ownN, figCell, ownCell, rowsFor, Slot, slot-member, ownCells, filled-atoms}
 use Rattle.placing.proofs.Standing.{atom-link, context-link, cell-in, place-link}

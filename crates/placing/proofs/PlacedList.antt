@@ -10,19 +10,18 @@ use lib.Dec.{ltb}
 use lib.ListN.{length, getD, length-append, length-map}
 use Rattle.hyperlmntal.specs.Link.{_∈_}
 use Rattle.rows.specs.Pick.{pick}
-use Rattle.rows.specs.Format.{mostLinks}
+use Rattle.rows.specs.Format.{mostLinks, mostName, mostContext}
 use Rattle.rows.specs.Limits.{sheetAtoms, sheetLinks}
-use Rattle.rows.proofs.RowRange.{Within}
+use Rattle.rows.specs.Ranges.{Within}
 use Rattle.reading.proofs.normal.Distinct.{Once, once-length}
 use Rattle.texts.proofs.NormalFits.{upTo, upTo-length, upTo-in}
 use Rattle.placing.specs.Net.{NetCell, Net, Apart, NormalSheet, NormalPattern}
 use Rattle.placing.specs.Placing.{Placing, Good, cellAt, numberAt}
 use Rattle.placing.specs.Fillings.{Row, rowLinks, Filling, ExactMarks, Fits, placesOf, withContext, byNumber, standsOn, fillingFor, fillingsOf, normalFilling, normalFillingsOf}
-use Rattle.placing.proofs.Names.{symbolsIn}
+use Rattle.placing.specs.ListFits.{symbolsIn, listAtoms, listRows, Ascends, FillingFits, ListFits}
 use Rattle.placing.proofs.Orders.{places-out, places-once, by-number-out, once-append}
 use Rattle.placing.proofs.Standing.{atom-link, cell-in, port-in}
 use Rattle.placing.proofs.FillingsFit.{RowOf, an-atom, a-port, row-of, filling-symbols, fillings-fit}
-use Rattle.placing.proofs.ListBack.{listAtoms, listRows, Ascends, FillingFits, ListFits}
 use Rattle.placing.proofs.NormalRowsFit.{normal-symbols, normal-length, normal-filling-fits}
 
 -- Contexts whose numbers ascend, and are above n.
@@ -113,8 +112,8 @@ places-few given n l r =
 pub record Small (S F : Net) : Type 0 where
   pub links : S .links ≤ sheetLinks
   pub atoms : length (S .atoms) ≤ sheetAtoms
-  pub cells : (c : NetCell) → c ∈ S .atoms → Within 1 (c .0) 999 × (length (c .1) ≤ mostLinks)
-  pub blanks : (c : NetCell) → c ∈ F .contexts → Within 1 (c .0) 4 × (length (c .1) ≤ mostLinks)
+  pub cells : (c : NetCell) → c ∈ S .atoms → Within 1 (c .0) mostName × (length (c .1) ≤ mostLinks)
+  pub blanks : (c : NetCell) → c ∈ F .contexts → Within 1 (c .0) mostContext × (length (c .1) ≤ mostLinks)
 
 module _ (S F : Net) (s : NormalSheet S) (f : NormalPattern F) (small : Small S F) (p : Placing) (good : Good S F p) where
   fit : Fits F (fillingsOf S p F)
@@ -144,10 +143,10 @@ module _ (S F : Net) (s : NormalSheet S) (f : NormalPattern F) (small : Small S 
       at (inl k) = Memᴰ·append-right (upTo (S .links)) (Memᴰ·cast k (Memᴰ·map (standsOn S p) (port-in (c .1) i h)))
       at (inr k) = absurd (List·Memᴰ·not-nil k)
 
-  filling-cells : (c d : NetCell) → d ∈ symbolsIn (fillingFor S p c .rows) → Within 1 (d .0) 999 × (length (d .1) ≤ mostLinks)
+  filling-cells : (c d : NetCell) → d ∈ symbolsIn (fillingFor S p c .rows) → Within 1 (d .0) mostName × (length (d .1) ≤ mostLinks)
   filling-cells c d m =
       let t : (j : ℕ) × (j ∈ placesOf 1 (c .0) (p .given)) × (cellAt (S .atoms) j ≡ d) = Memᴰ·of-map (cellAt (S .atoms)) (placesOf 1 (c .0) (p .given)) (subst (λ l. d ∈ l) (filling-symbols S p c) m) in
-      subst (λ z. Within 1 (z .0) 999 × (length (z .1) ≤ mostLinks)) (t .2) (small .cells (cellAt (S .atoms) (t .0)) (given-atom c (t .0) (t .1)))
+      subst (λ z. Within 1 (z .0) mostName × (length (z .1) ≤ mostLinks)) (t .2) (small .cells (cellAt (S .atoms) (t .0)) (given-atom c (t .0) (t .1)))
 
   filling-exact : (c : NetCell) → c ∈ byNumber (F .contexts) → ExactMarks (length (c .1)) (fillingFor S p c .rows)
   filling-exact c m = fit .exact (fillingFor S p c) (Memᴰ·map (fillingFor S p) m)
@@ -183,7 +182,7 @@ module _ (S F : Net) (s : NormalSheet S) (f : NormalPattern F) (small : Small S 
       let h = over-atoms l in
       omega arith
 
-  over-rows : (l : List NetCell) → ((c : NetCell) → c ∈ l → c ∈ byNumber (F .contexts)) → listRows (listOver l) ≤ 7 * length l + length (allPlaces (p .given) l)
+  over-rows : (l : List NetCell) → ((c : NetCell) → c ∈ l → c ∈ byNumber (F .contexts)) → listRows (listOver l) ≤ (1 + mostLinks) * length l + length (allPlaces (p .given) l)
   over-rows [] k = omega arith
   over-rows (c ∷ l) k =
       let m = k c (List·Memᴰ·head refl) in
@@ -203,7 +202,7 @@ module _ (S F : Net) (s : NormalSheet S) (f : NormalPattern F) (small : Small S 
       let b = good .sending .atoms-given in
       let c = over-atoms (byNumber (F .contexts)) in
       let d = over-rows (byNumber (F .contexts)) (λ z i. i) in
-      let e = rising-length 0 4 (byNumber (F .contexts)) rising (omega arith) (λ z i. small .blanks z (by-number-out (F .contexts) z i) .0 .1) in
+      let e = rising-length 0 mostContext (byNumber (F .contexts)) rising (omega arith) (λ z i. small .blanks z (by-number-out (F .contexts) z i) .0 .1) in
       record {
         ascends = over-ascends 0 (byNumber (F .contexts)) rising;
         fillings = each;

@@ -15,7 +15,8 @@ use Rattle.sheet.specs.Reading.{outcomeOf, noPorts}
 use Rattle.sheet.specs.declared.kind.Kind.the-variants.{Plain, Pattern}
 use Rattle.sheet.specs.declared.answer.Answer.{Answer}
 use Rattle.sheet.specs.declared.answer.Answer.the-variants.{Passed}
-use Rattle.texts.proofs.Texts.{symbol, context, edge, head, answerTo}
+use Rattle.texts.specs.Texts.{symbol, context, edge, head}
+use Rattle.texts.proofs.Texts.{answerTo}
 use Rattle.placing.specs.Net.{Net, normalNet}
 use Rattle.placing.specs.Placing.{Placing}
 use Rattle.placing.specs.Fillings.{placesOf, withContext, byNumber, normalFillingsOf}
@@ -23,8 +24,8 @@ use Rattle.placing.specs.Filled.{filledNormal}
 use Rattle.placing.specs.ListText.{rowsText, listText}
 use Rattle.placing.specs.First.{firstFrom}
 use Rattle.placing.specs.Smallest.{smallest, labelsBy}
-use Rattle.placing.proofs.FirstLaws.{firstMay}
-use Rattle.placing.proofs.Narrowed.{narrowed, narrowed-same}
+use Rattle.placing.specs.Narrowed.{firstMay, narrowed}
+use Rattle.placing.proofs.Narrowed.{narrowed-same}
 
 -- What placing gives: the smallest good placing, the text of the list of its fillings, each as normal text of its own, and the
 -- normal text of the pattern filled with them.

@@ -51,12 +51,16 @@ pub record ExactMarks (n : ℕ) (r : List Row) : Type 0 where
   pub within : (x m : ℕ) → edgeRow x m ∈ r → Range n m
   pub every : (m : ℕ) → Range n m → (x : ℕ) × (edgeRow x m ∈ r)
 
+-- every filling has exactly its ports as marks
+abbrev pub AllExactMarks : List Filling → Type 0
+AllExactMarks θ = (f : Filling) → f ∈ θ → ExactMarks (f .ports) (f .rows)
+
 -- 'one filling for each blank, its marks exactly that blank's ports', 'with joint numbers from 1'.
 -- A filling that no blank of the figure asks for changes nothing.
 pub record Fits (F : Net) (θ : List Filling) : Type 0 where
   pub for-each : (c : NetCell) → c ∈ F .contexts → (f : Filling) × (f ∈ θ) × (f .number ≡ c .0) × (f .ports ≡ length (c .1))
   pub one : (f g : Filling) → f ∈ θ → g ∈ θ → f .number ≡ g .number → f ≡ g
-  pub exact : (f : Filling) → f ∈ θ → ExactMarks (f .ports) (f .rows)
+  pub exact : AllExactMarks θ
   pub from-one : (f : Filling) → f ∈ θ → (r : Row) → r ∈ f .rows → (x : ℕ) → x ∈ rowLinks r → 1 ≤ x
 
 -- the places, counted from s, where k stands

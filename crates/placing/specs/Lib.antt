@@ -6,3 +6,8 @@ pub mod First
 pub mod Smallest
 pub mod Filled
 pub mod ListText
+pub mod TextNets
+pub mod ListFits
+pub mod FilledOrder
+pub mod Narrowed
+pub mod Wrong

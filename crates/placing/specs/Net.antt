@@ -3,6 +3,7 @@ use Prim.Native.Nat.{ℕ, _≤_, max}
 use mathlib.Core.Path.{_≡_}
 use mathlib.Core.Logic.{_≢_}
 use mathlib.Core.List.{List, [], _∷_, _++_, map}
+use lib.ListN.{length}
 use Rattle.hyperlmntal.specs.Link.{_∈_}
 use Rattle.hyperlmntal.specs.Template.{Template}
 use Rattle.hyperlmntal.specs.Hypergraph.{inner, Label, symbol, hole, Cell, Fusion, Flat}
@@ -15,6 +16,10 @@ use Rattle.normalising.specs.NormalText.{nodeNumber}
 -- an atom (document 01's symbol) or a context (its blank): its name or number, and its links (its joints) place by place
 abbrev pub NetCell : Type 0
 NetCell = ℕ × List ℕ
+
+-- the number and the port count of a blank
+abbrev pub blankOf : NetCell → ℕ × ℕ
+blankOf c = (c .0, length (c .1))
 
 pub record Net : Type 0 where
   -- the S rows

@@ -22,6 +22,11 @@ numbersFrom s (suc n) = s ∷ numbersFrom (suc s) n
 abbrev pub numbersTo : ℕ → List ℕ
 numbersTo n = numbersFrom 1 n
 
+-- the values of a function at the numbers from s on, n of them
+abbrev pub table : {A : Type 0} → (ℕ → A) → ℕ → ℕ → List A
+table g s zero = []
+table g s (suc n) = g s ∷ table g (suc s) n
+
 -- all, or some, of a list pass a test
 abbrev pub allOf : {A : Type 0} → (A → Bool) → List A → Bool
 allOf test [] = true

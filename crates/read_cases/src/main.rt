@@ -1,7 +1,7 @@
 // Reads texts of every kind and prints, for each, the number, input and row of the reader's answer.
 // The arguments go in pairs: a kind (sheet, pattern, figure, replacement, list), and a file. A
 // replacement is read against the pattern before it.
-use answers::refusal_number;
+use answers::of_reading;
 use libc::STDOUT_FILENO;
 use reading::read::Reading;
 use rows::Sheet;
@@ -14,24 +14,17 @@ fn print_name(file: usize) {
     io::write_all(STDOUT_FILENO, &path[..n]);
 }
 
-fn print_answer(answer: Answer) {
-    let mut number = 0;
-    let mut input = 0;
-    let mut row = 0;
-    match answer {
-        Answer::Passed => {}
-        Answer::Refused(why, at) => {
-            number = refusal_number(why) as u64;
-            input = 1;
-            row = at as u64;
-        }
-    }
+// A space, and the number.
+fn print_number(number: u64) {
     io::write_all(STDOUT_FILENO, b" ");
     io::print_decimal(STDOUT_FILENO, number);
-    io::write_all(STDOUT_FILENO, b" ");
-    io::print_decimal(STDOUT_FILENO, input);
-    io::write_all(STDOUT_FILENO, b" ");
-    io::print_decimal(STDOUT_FILENO, row);
+}
+
+fn print_answer(answer: Answer) {
+    let values = of_reading(answer, 1);
+    print_number(values.number as u64);
+    print_number(values.input as u64);
+    print_number(values.row as u64);
     io::write_all(STDOUT_FILENO, b"\n");
 }
 
@@ -50,12 +43,12 @@ fn read_as(kind: u8, ports: [u16; Sheet::NUMBERS], text: &[u8]) -> Reading {
 fn read_case(kind: usize, file: usize, ports: [u16; Sheet::NUMBERS]) -> [u16; Sheet::NUMBERS] {
     let mut word = io::buffer();
     os::arg(kind, &mut word);
-    let fd = task_files::open_input(file, b"");
-    if fd < 0 {
+    let mut text = [0u8; Sheet::TEXT];
+    let input = task_files::read_input(file, b"", &mut text);
+    if input.failed {
         return ports;
     }
-    let mut text = [0u8; Sheet::TEXT];
-    let length = task_files::read_input(fd, &mut text);
+    let length = input.bytes;
     let reading = read_as(word[0], ports, &text[..length]);
     print_name(file);
     let answer = reading.answer;

@@ -6,8 +6,7 @@ use mathlib.Core.List.{List, [], _++_, map}
 use lib.Dec.{ltb}
 use lib.ListN.{length, take, drop}
 use Rattle.rows.specs.Pick.{pick, and}
-use Rattle.rows.specs.Format.{mostLinks}
-use Rattle.rows.specs.Limits.{sheetMarks, fillingLinks}
+use Rattle.rows.specs.Limits.{linkRoom, markRoom}
 use Rattle.rows.specs.Packed.{padded, portTable}
 use Rattle.rows.specs.TextArrays.{packed, TextArrays}
 use Rattle.rows.specs.declared.Atom.{Atom}
@@ -26,10 +25,10 @@ arrays atoms a contexts c links classes n marks marked m =
 
 -- how long the arrays of links and marks are
 abbrev pub Widths : TextArrays → Type 0
-Widths s = (length (s .links) ≡ fillingLinks + mostLinks) × (length (s .classes) ≡ fillingLinks + mostLinks) × (length (s .marks) ≡ sheetMarks + 1) × (length (s .marked) ≡ sheetMarks + 1)
+Widths s = (length (s .links) ≡ linkRoom) × (length (s .classes) ≡ linkRoom) × (length (s .marks) ≡ markRoom) × (length (s .marked) ≡ markRoom)
 
 abbrev pub sortedMarks : TextArrays → List ℕ
-sortedMarks s = padded (sheetMarks + 1) 0 (sortedInto [] (take (s .«mark_count») (s .marks)))
+sortedMarks s = padded markRoom 0 (sortedInto [] (take (s .«mark_count») (s .marks)))
 
 -- the classes of the first i atoms, of the first k contexts and of the marks, numbered in this order
 abbrev pub numberingOf : ℕ → ℕ → TextArrays → Numbering

@@ -4,7 +4,7 @@ use mathlib.Core.List.{List, map}
 use lib.ListN.{length, take}
 use Rattle.hyperlmntal.specs.Hypergraph.{Node, inner}
 use Rattle.rows.specs.Format.{mostLinks}
-use Rattle.rows.specs.Limits.{sheetAtoms, figureContexts, sheetMarks}
+use Rattle.rows.specs.Limits.{atomRoom, contextRoom, markRoom}
 use Rattle.rows.specs.Held.{Held}
 use Rattle.rows.specs.Packed.{padded, noAtom, noContext}
 use Rattle.rows.specs.declared.Atom.{Atom}
@@ -32,12 +32,12 @@ normalMarks h = marksOf (graphOf h)
 abbrev pub packedNormal : Held → Normal
 packedNormal h =
     record {
-      atoms = padded (sheetAtoms + 1) noAtom (map (normalAtom h) (h .atoms));
+      atoms = padded atomRoom noAtom (map (normalAtom h) (h .atoms));
       «atom_count» = length (h .atoms);
-      contexts = padded (figureContexts + 1) noContext (map (normalContext h) (h .contexts));
+      contexts = padded contextRoom noContext (map (normalContext h) (h .contexts));
       «context_count» = length (h .contexts);
-      marks = padded (sheetMarks + 1) 0 (normalMarks h);
-      marked = padded (sheetMarks + 1) 0 (map (λ m. numberIn h (markNode m)) (normalMarks h));
+      marks = padded markRoom 0 (normalMarks h);
+      marked = padded markRoom 0 (map (λ m. numberIn h (markNode m)) (normalMarks h));
       «mark_count» = length (normalMarks h);
       «class_count» = length (classesBy (classOf (graphOf h .fusions)) (graphOf h));
     }

@@ -12,7 +12,10 @@ pub fn filling_of(list: &[u8], number: u16) -> &[u8]
     let reading = read_list(list);
     let answer = reading.answer;
     match answer {
-        Answer::Passed => part_for(list, number),
+        Answer::Passed => {
+            let heads = reading.normal.contexts;
+            part_for(list, heads, reading.normal.context_count, number)
+        }
         Answer::Refused(_, _) => &list[0..0],
     }
 }

@@ -12,6 +12,7 @@ use rows::entry::atom_of;
 use rows::entry::context_of;
 use rows::entry::is_context;
 use rows::entry::row_ports;
+use rows::row::Row;
 use sheet::answer::Answer;
 use sheet::judge::late_answer;
 use sheet::judge::next_row;
@@ -108,7 +109,7 @@ pub fn read_text(kind: Kind, pattern: [u16; Sheet::NUMBERS], text: &[u8]) -> Rea
         }
         let clash = row_clash(kind, pattern, ports, contexts[before(c)].number, row);
         atoms[a] = atom_of(row);
-        a += counted(row.letter == 0);
+        a += counted(row.letter == Row::ATOM);
         contexts[c] = context_of(row, (k + 1) as u16);
         c += counted(is_context(row.letter));
         let table = row_ports(ports, row);
@@ -121,15 +122,13 @@ pub fn read_text(kind: Kind, pattern: [u16; Sheet::NUMBERS], text: &[u8]) -> Rea
             return turned_down(answer);
         }
     }
-    let some = shown_atoms(kind, c, a);
-    let shown = shown_contexts(kind, c);
     let normal = normal_from(
         atoms,
         a,
-        some,
+        shown_atoms(kind, c, a),
         contexts,
         c,
-        shown,
+        shown_contexts(kind, c),
         &links,
         &labels,
         n,

@@ -1,9 +1,7 @@
 pub mod Bools
 pub mod RowLaws
 pub mod RowRange
-pub mod LastDigit
 pub mod Lists
 pub mod Padding
 pub mod Ports
 pub mod Rows
-pub mod ShortRow

@@ -8,21 +8,22 @@ use native.Mathlib.Numerals.{add-one}
 use lib.Dec.{eqb}
 use lib.ListN.{getD, set}
 use borrow.Author.Tests.{eq-eqb, ne-eqb, eqb-true, eqb-false}
+use Rattle.rows.specs.Format.{contextBound}
 use Rattle.rows.specs.Pick.{pick}
 use Rattle.rows.specs.Packed.{portsOf, portTable}
 use Rattle.rows.specs.declared.Context.{Context}
 
 -- a statement of each context number
-below5 : (P : ℕ → Type 0) → P 0 → P 1 → P 2 → P 3 → P 4 → (k : ℕ) → k < 5 → P k
-below5 P a b c d e zero h = a
-below5 P a b c d e (suc zero) h = b
-below5 P a b c d e (suc (suc zero)) h = c
-below5 P a b c d e (suc (suc (suc zero))) h = d
-below5 P a b c d e (suc (suc (suc (suc zero)))) h = e
-below5 P a b c d e (suc (suc (suc (suc (suc k))))) h = absurd (omega arith)
+below-bound : (P : ℕ → Type 0) → P 0 → P 1 → P 2 → P 3 → P 4 → (k : ℕ) → k < contextBound → P k
+below-bound P a b c d e zero h = a
+below-bound P a b c d e (suc zero) h = b
+below-bound P a b c d e (suc (suc zero)) h = c
+below-bound P a b c d e (suc (suc (suc zero))) h = d
+below-bound P a b c d e (suc (suc (suc (suc zero)))) h = e
+below-bound P a b c d e (suc (suc (suc (suc (suc k))))) h = absurd (omega arith)
 
-pub table-at : (l : List Context) (k : ℕ) → k < 5 → getD (portTable l) k 0 ≡ portsOf l k
-table-at l = below5 (λ k. getD (portTable l) k 0 ≡ portsOf l k) refl refl refl refl refl
+pub table-at : (l : List Context) (k : ℕ) → k < contextBound → getD (portTable l) k 0 ≡ portsOf l k
+table-at l = below-bound (λ k. getD (portTable l) k 0 ≡ portsOf l k) refl refl refl refl refl
 
 -- the ports of a number after one context more: those of an earlier context, else those of the new one
 ports-more : (l : List Context) (c : Context) (k : ℕ) → portsOf (l ++ (c ∷ [])) k ≡ pick (eqb (portsOf l k) 0) (pick (eqb (c .number) k) (suc (c .count)) 0) (portsOf l k)
@@ -62,10 +63,10 @@ module _ (l : List Context) (c : Context) where
   unfolding entries
   table-entries e k q = rw (entry e k 0 q) (rw (entry e k 1 q) (rw (entry e k 2 q) (rw (entry e k 3 q) (rw (entry e k 4 q)))))
 
-  pub table-first : c .number < 5 → portsOf l (c .number) ≡ 0 → set (portTable l) (c .number) (c .count + 1) ≡ portTable (l ++ (c ∷ []))
+  pub table-first : c .number < contextBound → portsOf l (c .number) ≡ 0 → set (portTable l) (c .number) (c .count + 1) ≡ portTable (l ++ (c ∷ []))
   unfolding entries
   table-first small e =
-      below5 (λ k. c .number ≡ k → set (portTable l) k (c .count + 1) ≡ portTable (l ++ (c ∷ []))) (λ q. table-entries e 0 q) (λ q. table-entries e 1 q) (λ q. table-entries e 2 q)
+      below-bound (λ k. c .number ≡ k → set (portTable l) k (c .count + 1) ≡ portTable (l ++ (c ∷ []))) (λ q. table-entries e 0 q) (λ q. table-entries e 1 q) (λ q. table-entries e 2 q)
       (λ q. table-entries e 3 q) (λ q. table-entries e 4 q) (c .number) small refl
 
   -- a further one

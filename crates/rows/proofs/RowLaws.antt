@@ -12,7 +12,7 @@ use lib.ListN.{length, getD, drop, take, set, replicate, drop-of-length-le, leng
 use lib.Seq.{drop-cons, getD-take, getD-drop, length-take-le}
 use borrow.Author.Tests.{eq-eqb, ne-eqb, ltb-false, eqb-true, eqb-false}
 use Rattle.rows.specs.Pick.{pick, and, or, not}
-use Rattle.rows.specs.Format.{fieldCount, letterOf, ruleOf}
+use Rattle.rows.specs.Format.{fieldWidth, fieldCount, letterOf, ruleOf}
 use Rattle.rows.specs.Row.{Field, malformed, holds, misplacedIn, isNil, fieldOf, needed, suits, rowWith, noRow, judged, fieldsOf, rowOf}
 use Rattle.rows.specs.declared.row.Rule.{Rule}
 
@@ -74,14 +74,14 @@ module _ (s : List ℕ) (at col : ℕ) (room : at + 4 ≤ length s) (h : col < 4
   head : drop col (columns s at) ≡ getD s (at + col) 0 ∷ drop (col + 1) (columns s at)
   head = drop-cons (columns s at) col 0 (rw columns-length h) ∙ simp (getD-take 4 (drop at s) col 0 h, getD-drop, add-one)
 
-  last-column : isNil (drop (col + 1) (columns s at)) ≡ eqb col 3
-  last-column = go (eqb col 3) refl
+  last-column : isNil (drop (col + 1) (columns s at)) ≡ eqb (col + 1) fieldWidth
+  last-column = go (eqb (col + 1) fieldWidth) refl
     where
-      go : (b : Bool) → eqb col 3 ≡ b → isNil (drop (col + 1) (columns s at)) ≡ b
-      go true e = rw (drop-of-length-le (columns s at) {i = col + 1} (rw columns-length (omega (arith, eqb-true col 3 e))))
-      go false e = rw (drop-cons (columns s at) (col + 1) 0 (rw columns-length (omega (arith, eqb-false col 3 e))))
+      go : (b : Bool) → eqb (col + 1) fieldWidth ≡ b → isNil (drop (col + 1) (columns s at)) ≡ b
+      go true e = rw (drop-of-length-le (columns s at) {i = col + 1} (rw columns-length (omega (arith, eqb-true (col + 1) fieldWidth e))))
+      go false e = rw (drop-cons (columns s at) (col + 1) 0 (rw columns-length (omega (arith, eqb-false (col + 1) fieldWidth e))))
 
-  pub field-column : (filled : Bool) (n : ℕ) (bad space : Bool) → misplacedIn (getD s (at + col) 0) filled (eqb col 3) ≡ bad → eqb (getD s (at + col) 0) 32 ≡ space
+  pub field-column : (filled : Bool) (n : ℕ) (bad space : Bool) → misplacedIn (getD s (at + col) 0) filled (eqb (col + 1) fieldWidth) ≡ bad → eqb (getD s (at + col) 0) 32 ≡ space
       → fieldOf filled n (drop col (columns s at))
       ≡ pick bad malformed (pick space (fieldOf filled n (drop (col + 1) (columns s at))) (fieldOf true (n * 10 + (getD s (at + col) 0 - 48)) (drop (col + 1) (columns s at))))
   unfolding fieldOf

@@ -4,7 +4,7 @@ use mathlib.Core.Path.{_≡_, refl, _∙_, sym, ap}
 use mathlib.Core.List.{List, [], _∷_}
 use mathlib.Core.Bool.{Bool, true, false, true≢false, false≢true}
 use mathlib.Core.Logic.{_⊎_, inl, inr, ⊎-elim}
-use native.Mathlib.Nat.{eq-or-lt-of-le, eq-zero-or-pos}
+use native.Mathlib.Nat.{eq-or-lt-of-le}
 use native.Mathlib.Omega.{arith}
 use borrow.Author.Tests.{lt-ltb, le-ltb, ltb-true, ltb-false, leb-true, eqb-true}
 use lib.Dec.{ltb, leb, eqb}
@@ -12,6 +12,7 @@ use lib.ListN.{length, getD, set, replicate, length-set, List·getD-eq-default}
 use lib.Seq.{getD-set-same, getD-set-other}
 use Rattle.rows.specs.Pick.{pick, and, not}
 use Rattle.rows.specs.Format.{mostLinks, fieldCount, letterOf, ruleOf}
+use Rattle.rows.specs.Ranges.{Within, Linked, AtomNums, ContextNums, FusionNums, MarkNums, HeadNums}
 use Rattle.rows.specs.Row.{Field, malformed, holds, misplacedIn, isNil, fieldOf, needed, suits, rowWith, judged, fieldsOf, rowOf}
 use Rattle.rows.specs.declared.row.Rule.{Rule}
 use Rattle.rows.specs.declared.row.Row.{Row}
@@ -151,39 +152,23 @@ alike (suc zero) h = (refl, refl)
 alike (suc (suc k)) h = absurd (omega arith)
 
 -- Every field from the third on has the third one's rule.
-pub later : (letter k : ℕ) → ruleOf letter (2 + k) ≡ ruleOf letter 2
+all-one : (rule : Rule) (k : ℕ) → k < mostLinks → (d : Rule) → getD (rule ∷ rule ∷ rule ∷ rule ∷ rule ∷ rule ∷ []) k d ≡ rule
+all-one rule zero h d = refl
+all-one rule (suc zero) h d = refl
+all-one rule (suc (suc zero)) h d = refl
+all-one rule (suc (suc (suc zero))) h d = refl
+all-one rule (suc (suc (suc (suc zero)))) h d = refl
+all-one rule (suc (suc (suc (suc (suc zero))))) h d = refl
+all-one rule (suc (suc (suc (suc (suc (suc k)))))) h d = absurd (omega arith)
+
+pub later : (letter k : ℕ) → k < mostLinks → ruleOf letter (suc (suc k)) ≡ ruleOf letter 2
 unfolding ruleOf
-later letter k = ⊎-elim (λ e. rw e) (λ h. rw (lt-ltb 2 (2 + k) (omega arith))) (eq-zero-or-pos k)
-
-abbrev pub Within : ℕ → ℕ → ℕ → Type 0
-Within low n high = (low ≤ n) × (n ≤ high)
-
--- The links of an atom or a context: as many as the count says, and no more.
-pub record Linked (nums : List ℕ) : Type 0 where
-  pub count : getD nums 1 0 ≤ mostLinks
-  pub used : (k : ℕ) → k < getD nums 1 0 → Within 1 (getD nums (2 + k) 0) 9999
-  pub unused : (k : ℕ) → getD nums 1 0 ≤ k → getD nums (2 + k) 0 ≡ 0
-
--- What each letter's fields are in a good row: S, B, F, E, H.
-pub record AtomNums (nums : List ℕ) : Type 0 where
-  pub name : Within 1 (getD nums 0 0) 999
-  pub links : Linked nums
-
-pub record ContextNums (nums : List ℕ) : Type 0 where
-  pub number : Within 1 (getD nums 0 0) 4
-  pub links : Linked nums
-
-pub record FusionNums (nums : List ℕ) : Type 0 where
-  pub first : Within 1 (getD nums 0 0) 9999
-  pub second : Within 1 (getD nums 1 0) 9999
-
-pub record MarkNums (nums : List ℕ) : Type 0 where
-  pub link : Within 1 (getD nums 0 0) 9999
-  pub mark : Within 1 (getD nums 1 0) 999
-
-pub record HeadNums (nums : List ℕ) : Type 0 where
-  pub number : Within 1 (getD nums 0 0) 4
-  pub count : getD nums 1 0 ≤ mostLinks
+later zero k h = all-one (ruleOf 0 2) k h _
+later (suc zero) k h = all-one (ruleOf 1 2) k h _
+later (suc (suc zero)) k h = all-one (ruleOf 2 2) k h _
+later (suc (suc (suc zero))) k h = all-one (ruleOf 3 2) k h _
+later (suc (suc (suc (suc zero)))) k h = all-one (ruleOf 4 2) k h _
+later (suc (suc (suc (suc (suc letter))))) k h = refl
 
 -- Of a good row.
 module _ (s : List ℕ) (good : rowOf s .good ≡ true) where
@@ -211,13 +196,13 @@ module _ (s : List ℕ) (good : rowOf s .good ≡ true) where
       let n = getD (rowOf s .nums) 1 0 in
       let e = alike (rowOf s .letter) h in
       let most = within 1 (omega arith) (ruleOf 0 1) (e .0) refl .1 in
-      let port : (k : ℕ) → ruleOf (rowOf s .letter) (2 + k) ≡ ruleOf 0 2 = λ k. later (rowOf s .letter) k ∙ e .1 in
+      let port : (k : ℕ) → k < mostLinks → ruleOf (rowOf s .letter) (2 + k) ≡ ruleOf 0 2 = λ k q. ap (ruleOf (rowOf s .letter)) (omega arith) ∙ later (rowOf s .letter) k q ∙ e .1 in
       record {
         count = most;
-        used = λ k l. within (2 + k) (omega arith) (ruleOf 0 2) (port k) (lt-ltb (2 + k) (2 + n) (omega arith));
+        used = λ k l. within (2 + k) (omega arith) (ruleOf 0 2) (port k (omega (arith, most))) (lt-ltb (2 + k) (2 + n) (omega arith));
         unused = λ k l. ⊎-elim
             (λ (q : mostLinks ≤ k). List·getD-eq-default (rowOf s .nums) 0 (rw (row-length s) (omega arith)))
-            (λ (q : k < mostLinks). idle (2 + k) (omega arith) (ruleOf 0 2) (port k) (le-ltb (2 + k) (2 + n) (omega arith)))
+            (λ (q : k < mostLinks). idle (2 + k) (omega arith) (ruleOf 0 2) (port k q) (le-ltb (2 + k) (2 + n) (omega arith)))
             (le-or-lt mostLinks k);
       }
 

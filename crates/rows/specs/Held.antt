@@ -5,6 +5,7 @@ use mathlib.Core.Bool.{Bool}
 use lib.Dec.{eqb, ltb}
 use lib.ListN.{length, take, drop, getD}
 use Rattle.rows.specs.Pick.{pick}
+use Rattle.rows.specs.Format.{atomLetter, contextLetter, fusionLetter, edgeLetter}
 use Rattle.rows.specs.declared.Atom.{Atom}
 use Rattle.rows.specs.declared.Context.{Context}
 use Rattle.rows.specs.declared.row.Row.{Row}
@@ -147,7 +148,7 @@ withHead h nums =
 -- what the text holds with one row more, by the row's letter
 unfoldable pub withRow : Held → Row → Held
 withRow h r =
-    pick (eqb (r .letter) 0) (withAtom h (r .nums))
-    (pick (eqb (r .letter) 1) (withContext h (r .nums))
-    (pick (eqb (r .letter) 2) (withFusionRow h (getD (r .nums) 0 0) (getD (r .nums) 1 0))
-    (pick (eqb (r .letter) 3) (withEdgeRow h (getD (r .nums) 0 0) (getD (r .nums) 1 0)) (withHead h (r .nums)))))
+    pick (eqb (r .letter) atomLetter) (withAtom h (r .nums))
+    (pick (eqb (r .letter) contextLetter) (withContext h (r .nums))
+    (pick (eqb (r .letter) fusionLetter) (withFusionRow h (getD (r .nums) 0 0) (getD (r .nums) 1 0))
+    (pick (eqb (r .letter) edgeLetter) (withEdgeRow h (getD (r .nums) 0 0) (getD (r .nums) 1 0)) (withHead h (r .nums)))))

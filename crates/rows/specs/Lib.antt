@@ -1,7 +1,7 @@
 pub mod Pick
 pub mod Format
+pub mod Ranges
 pub mod Row
-pub mod Short
 pub mod Limits
 pub mod Held
 pub mod Packed

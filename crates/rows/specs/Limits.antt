@@ -28,3 +28,16 @@ figureLinks = 32
 -- a list: 256 rows, 64 symbols in all, 102 joint numbers and 32 marks in each filling
 abbrev pub fillingLinks : ℕ
 fillingLinks = sheetLinks + mostLinks
+
+-- an array has room for one row more than its limit, since a row is taken in before it is judged
+abbrev pub atomRoom : ℕ
+atomRoom = sheetAtoms + 1
+
+abbrev pub contextRoom : ℕ
+contextRoom = figureContexts + 1
+
+abbrev pub linkRoom : ℕ
+linkRoom = fillingLinks + mostLinks
+
+abbrev pub markRoom : ℕ
+markRoom = sheetMarks + 1

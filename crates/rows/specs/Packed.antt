@@ -5,7 +5,7 @@ use lib.Dec.{eqb}
 use lib.ListN.{length, replicate}
 use Rattle.rows.specs.Pick.{pick}
 use Rattle.rows.specs.Format.{mostLinks}
-use Rattle.rows.specs.Limits.{sheetAtoms, figureContexts, sheetMarks}
+use Rattle.rows.specs.Limits.{atomRoom, contextRoom, markRoom}
 use Rattle.rows.specs.declared.Atom.{Atom}
 use Rattle.rows.specs.declared.Context.{Context}
 use Rattle.rows.specs.declared.Sheet.{Sheet}
@@ -23,12 +23,12 @@ noContext = record { number = 0; count = 0; links = replicate mostLinks 0; row =
 abbrev pub emptySheet : Sheet
 emptySheet =
     record {
-      atoms = replicate (sheetAtoms + 1) noAtom;
+      atoms = replicate atomRoom noAtom;
       «atom_count» = 0;
-      contexts = replicate (figureContexts + 1) noContext;
+      contexts = replicate contextRoom noContext;
       «context_count» = 0;
-      marks = replicate (sheetMarks + 1) 0;
-      marked = replicate (sheetMarks + 1) 0;
+      marks = replicate markRoom 0;
+      marked = replicate markRoom 0;
       «mark_count» = 0;
       «class_count» = 0;
     }

@@ -5,7 +5,7 @@ use mathlib.Core.Bool.{Bool, true, false}
 use lib.Dec.{ltb, leb, eqb}
 use lib.ListN.{take, drop, getD, set, replicate}
 use Rattle.rows.specs.Pick.{pick, and, or, not}
-use Rattle.rows.specs.Format.{fieldCount, letterOf, ruleOf}
+use Rattle.rows.specs.Format.{fieldWidth, fieldCount, noLetter, letterOf, ruleOf}
 use Rattle.rows.specs.declared.row.Rule.{Rule}
 use Rattle.rows.specs.declared.row.Row.{Row}
 
@@ -41,7 +41,7 @@ rowWith letter good nums = record { letter = letter; good = good; nums = nums }
 
 -- a row without a letter
 abbrev pub noRow : Row
-noRow = rowWith 5 false (replicate fieldCount 0)
+noRow = rowWith noLetter false (replicate fieldCount 0)
 
 -- a field that holds a number or nothing goes on where it suits its rule
 unfoldable pub judged : ℕ → ℕ → List ℕ → (ℕ → Row) → Field → Row
@@ -53,10 +53,10 @@ judged letter f nums rest (holds filled n) =
 unfoldable pub fieldsOf : List ℕ → ℕ → ℕ → List ℕ → ℕ → Row
 fieldsOf s letter f nums zero = rowWith letter true nums
 fieldsOf s letter f nums (suc left) =
-    judged letter f nums (λ n. fieldsOf s letter (f + 1) (set nums f n) left) (fieldOf false 0 (take 4 (drop (f * 4 + 1) s)))
+    judged letter f nums (λ n. fieldsOf s letter (f + 1) (set nums f n) left) (fieldOf false 0 (take fieldWidth (drop (f * fieldWidth + 1) s)))
 
 -- the row that these bytes are: its letter, and its numbers, 0 for an empty field
 unfoldable pub rowOf : List ℕ → Row
 rowOf s =
-    pick (eqb (letterOf (getD s 0 0)) 5) noRow
+    pick (eqb (letterOf (getD s 0 0)) noLetter) noRow
     (fieldsOf s (letterOf (getD s 0 0)) 0 (replicate fieldCount 0) fieldCount)

@@ -2,8 +2,7 @@
 use Prim.Native.Nat.{ℕ, _+_}
 use mathlib.Core.List.{List}
 use lib.ListN.{length}
-use Rattle.rows.specs.Format.{mostLinks}
-use Rattle.rows.specs.Limits.{sheetAtoms, figureContexts, sheetMarks, fillingLinks}
+use Rattle.rows.specs.Limits.{atomRoom, contextRoom, linkRoom, markRoom}
 use Rattle.rows.specs.Held.{Held}
 use Rattle.rows.specs.Packed.{padded, noAtom, noContext, portTable}
 use Rattle.rows.specs.declared.Atom.{Atom}
@@ -29,15 +28,15 @@ pub record TextArrays : Type 0 where
 abbrev pub packed : Held → TextArrays
 packed h =
     record {
-      atoms = padded (sheetAtoms + 1) noAtom (h .atoms);
+      atoms = padded atomRoom noAtom (h .atoms);
       «atom_count» = length (h .atoms);
-      contexts = padded (figureContexts + 1) noContext (h .contexts);
+      contexts = padded contextRoom noContext (h .contexts);
       «context_count» = length (h .contexts);
       ports = portTable (h .contexts);
-      links = padded (fillingLinks + mostLinks) 0 (h .wiring .links);
-      classes = padded (fillingLinks + mostLinks) 0 (h .wiring .classes);
+      links = padded linkRoom 0 (h .wiring .links);
+      classes = padded linkRoom 0 (h .wiring .classes);
       «link_count» = length (h .wiring .links);
-      marks = padded (sheetMarks + 1) 0 (h .wiring .marks);
-      marked = padded (sheetMarks + 1) 0 (h .wiring .marked);
+      marks = padded markRoom 0 (h .wiring .marks);
+      marked = padded markRoom 0 (h .wiring .marked);
       «mark_count» = length (h .wiring .marks);
     }

@@ -6,6 +6,7 @@ use crate::row::Row;
 ghost use mathlib.Core.Path.{_≡_};
 ghost use Prim.Native.Nat.{_<_};
 ghost use lib.ListN.{drop};
+ghost use Rattle.rows.specs.Format.{contextBound};
 ghost use Rattle.rows.specs.Entry.{Ranged, isContext, atomBy, contextBy, portsWith, portsBy};
 
 // The links that a symbol or blank row may have; those past its count are 0.
@@ -25,7 +26,7 @@ pub(crate) fn row_links(nums: [u16; Sheet::FIELDS]) -> [u16; Sheet::MOST_LINKS]
 pub fn atom_of(row: Row) -> Atom
     ensures { λ r. ⌜ r ≡ atomBy row ⌝ }
 {
-    if row.letter != 0 {
+    if row.letter != Row::ATOM {
         return Atom::none();
     }
     let nums = row.nums;
@@ -41,10 +42,10 @@ pub fn atom_of(row: Row) -> Atom
 pub fn is_context(letter: usize) -> bool
     ensures { λ r. ⌜ r ≡ isContext letter ⌝ }
 {
-    if letter == 1 {
+    if letter == Row::CONTEXT {
         return true;
     }
-    3 < letter
+    letter == Row::HEAD
 }
 
 // The context of a blank row or a head, which is the text's row `at`, and of any other row none.
@@ -70,7 +71,7 @@ pub(crate) fn ports_with(
     number: usize,
     count: u16,
 ) -> [u16; Sheet::NUMBERS]
-    requires { ⌜ number < 5 ⌝ }
+    requires { ⌜ number < contextBound ⌝ }
     ensures { λ r. ⌜ r ≡ portsWith ports number count ⌝ }
 {
     let mut table = ports;

@@ -68,7 +68,19 @@ impl Sheet {
 
     pub const FIELDS: usize = 2 + Sheet::MOST_LINKS;
 
-    pub const ROW: usize = 2 + 4 * Sheet::FIELDS;
+    // The columns of a field.
+    pub const FIELD: usize = 4;
+
+    pub const ROW: usize = 2 + Sheet::FIELD * Sheet::FIELDS;
+
+    // The greatest name of a symbol, and the greatest mark.
+    pub const MOST_NAME: u16 = 999;
+
+    // The greatest joint number, which is all that a field holds.
+    pub const MOST_NUMBER: u16 = 9999;
+
+    // The greatest context number.
+    pub const MOST_CONTEXT: u16 = 4;
 
     pub const ROWS: usize = 256;
 
@@ -89,8 +101,8 @@ impl Sheet {
 
     pub const FILLING_LINKS: usize = Sheet::LINKS + Sheet::MOST_LINKS;
 
-    // Context numbers are 1 to 4; 0 is none.
-    pub const NUMBERS: usize = 5;
+    // Context numbers are counted from 1; 0 is none.
+    pub const NUMBERS: usize = Sheet::MOST_CONTEXT as usize + 1;
 
     pub const ATOM_ROOM: usize = Sheet::ATOMS + 1;
 

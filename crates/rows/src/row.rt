@@ -2,17 +2,17 @@
 use crate::Sheet;
 ghost use mathlib.Core.Path.{_≡_};
 ghost use mathlib.Core.List.{[]};
-ghost use Prim.Native.Nat.{ℕ, _*_, _<_, _≤_};
-ghost use lib.ListN.{length, take, drop, getD};
-ghost use Rattle.rows.specs.Format.{mostLinks, fieldCount, rowWidth, letterOf, rules, ruleOf};
+ghost use Prim.Native.Nat.{_<_};
+ghost use lib.ListN.{length, getD};
+ghost use Rattle.rows.specs.Format.{rowWidth, noLetter, letterOf, rules};
 ghost use Rattle.rows.specs.Row.{misplacedIn, suits, noRow, rowOf};
-ghost use Rattle.rows.specs.Short.{allSpaces, mostFields, restEmpty};
 
 // What a field of a row may hold: a number from low to high where it is filled, nothing elsewhere.
-// A counted field is filled where the row's count, its second field, reaches it.
+// A counted field is filled where the row's count, its second field, reaches it. What a link field holds is a joint.
 pub struct Rule {
     pub filled: bool,
     pub counted: bool,
+    pub link: bool,
     pub low: u16,
     pub high: u16,
 }
@@ -20,6 +20,7 @@ pub struct Rule {
 const BLANK: Rule = Rule {
     filled: false,
     counted: false,
+    link: false,
     low: 0,
     high: 0,
 };
@@ -27,20 +28,23 @@ const BLANK: Rule = Rule {
 const NAME: Rule = Rule {
     filled: true,
     counted: false,
+    link: false,
     low: 1,
-    high: 999,
+    high: Sheet::MOST_NAME,
 };
 
 const NUMBER: Rule = Rule {
     filled: true,
     counted: false,
+    link: false,
     low: 1,
-    high: 4,
+    high: Sheet::MOST_CONTEXT,
 };
 
 const COUNT: Rule = Rule {
     filled: true,
     counted: false,
+    link: false,
     low: 0,
     high: Sheet::MOST_LINKS as u16,
 };
@@ -48,28 +52,30 @@ const COUNT: Rule = Rule {
 const LINK: Rule = Rule {
     filled: true,
     counted: false,
+    link: true,
     low: 1,
-    high: 9999,
+    high: Sheet::MOST_NUMBER,
 };
 
 const PORT: Rule = Rule {
     filled: false,
     counted: true,
+    link: true,
     low: 1,
-    high: 9999,
+    high: Sheet::MOST_NUMBER,
 };
 
-// For each letter, S B F E H: its first field, its second, and every further one.
-const RULES: [[Rule; 3]; 5] = [
-    [NAME, COUNT, PORT],
-    [NUMBER, COUNT, PORT],
-    [LINK, LINK, BLANK],
-    [LINK, NAME, BLANK],
-    [NUMBER, COUNT, BLANK],
+// What each field may hold, for the letters S B F E H.
+const RULES: [[Rule; Sheet::FIELDS]; Row::NO_LETTER] = [
+    [NAME, COUNT, PORT, PORT, PORT, PORT, PORT, PORT],
+    [NUMBER, COUNT, PORT, PORT, PORT, PORT, PORT, PORT],
+    [LINK, LINK, BLANK, BLANK, BLANK, BLANK, BLANK, BLANK],
+    [LINK, NAME, BLANK, BLANK, BLANK, BLANK, BLANK, BLANK],
+    [NUMBER, COUNT, BLANK, BLANK, BLANK, BLANK, BLANK, BLANK],
 ];
 
-// A row as read: the place of its letter in the table, 5 where it has none; whether every field is
-// as the table asks; and its numbers, up to the first bad field.
+// A row as read: the place of its letter in the table, or `NO_LETTER`; whether every field is as the table asks; and its
+// numbers, up to the first bad field.
 pub struct Row {
     pub letter: usize,
     pub good: bool,
@@ -77,12 +83,26 @@ pub struct Row {
 }
 
 impl Row {
+    // The letters by their places in the table: S, B, F, E and H.
+    pub const ATOM: usize = 0;
+
+    pub const CONTEXT: usize = 1;
+
+    pub const FUSION: usize = 2;
+
+    pub const EDGE: usize = 3;
+
+    pub const HEAD: usize = 4;
+
+    // Any other byte; also how many letters there are.
+    pub const NO_LETTER: usize = 5;
+
     // A row without a letter.
-    pub(crate) fn none() -> Self
+    pub fn none() -> Self
         ensures { λ r. ⌜ r ≡ noRow ⌝ }
     {
         Row {
-            letter: 5,
+            letter: Row::NO_LETTER,
             good: false,
             nums: [0; Sheet::FIELDS],
         }
@@ -93,38 +113,27 @@ pub(crate) fn letter_of(b: u8) -> usize
     ensures { λ r. ⌜ r ≡ letterOf b ⌝ }
 {
     match b {
-        b'S' => 0,
-        b'B' => 1,
-        b'F' => 2,
-        b'E' => 3,
-        b'H' => 4,
-        _ => 5,
+        b'S' => Row::ATOM,
+        b'B' => Row::CONTEXT,
+        b'F' => Row::FUSION,
+        b'E' => Row::EDGE,
+        b'H' => Row::HEAD,
+        _ => Row::NO_LETTER,
     }
 }
 
 // The table's rules for a letter. A place that is known when the program is compiled costs nothing to read.
-pub(crate) fn rules_of(letter: usize) -> [Rule; 3]
-    requires { ⌜ letter < 5 ⌝ }
+pub fn rules_of(letter: usize) -> [Rule; Sheet::FIELDS]
+    requires { ⌜ letter < noLetter ⌝ }
     ensures { λ r. ⌜ r ≡ getD rules letter [] ⌝ }
 {
     match letter {
-        0 => RULES[0],
-        1 => RULES[1],
-        2 => RULES[2],
-        3 => RULES[3],
-        _ => RULES[4],
+        Row::ATOM => RULES[Row::ATOM],
+        Row::CONTEXT => RULES[Row::CONTEXT],
+        Row::FUSION => RULES[Row::FUSION],
+        Row::EDGE => RULES[Row::EDGE],
+        _ => RULES[Row::HEAD],
     }
-}
-
-// The rule for field f, of a letter's.
-pub(crate) fn rule_of(own: [Rule; 3], f: usize) -> Rule
-    ensures { λ r. ⌜ ((letter : ℕ) → own ≡ getD rules letter [] → r ≡ ruleOf letter f) ⌝ }
-{
-    let mut column = f;
-    if 2 < f {
-        column = 2;
-    }
-    own[column]
 }
 
 // Whether field f may hold what was read there, in a row with this count.
@@ -170,66 +179,27 @@ pub(crate) fn misplaced(b: u8, filled: bool, last: bool) -> bool
     !last
 }
 
-// Whether all columns after the second field are spaces. The loop has no way out, so that many are
-// compared at once.
-pub(crate) fn is_short(row: &[u8]) -> bool
-    requires { ⌜ length (now row) ≡ rowWidth ⌝ }
-    ensures { λ r. ⌜ r ≡ allSpaces (take (4 * mostLinks) (drop 9 (now (row .entry)))) ⌝ }
-{
-    let mut short = true;
-    let mut k = 0;
-    while k < 4 * Sheet::MOST_LINKS {
-        if row[9 + k] != b' ' {
-            short = false;
-        }
-        k += 1;
-    }
-    short
-}
-
-// How many fields of a row may be filled: only a symbol or blank row has more than two.
-pub(crate) fn most_fields(letter: usize) -> usize
-    ensures { λ r. ⌜ (r ≤ fieldCount) × (r ≡ mostFields letter) ⌝ }
-{
-    if letter < 2 {
-        return Sheet::FIELDS;
-    }
-    2
-}
-
-// Whether the fields that may not be filled are empty.
-pub(crate) fn rest_empty(row: &[u8], letter: usize) -> bool
-    requires { ⌜ length (now row) ≡ rowWidth ⌝ }
-    ensures { λ r. ⌜ r ≡ restEmpty letter (now (row .entry)) ⌝ }
-{
-    if letter < 2 {
-        return true;
-    }
-    is_short(row)
-}
-
 // The row's letter and numbers. The first bad field ends the reading.
 pub fn read_row(row: &[u8]) -> Row
     requires { ⌜ length (now row) ≡ rowWidth ⌝ }
     ensures { λ r. ⌜ r ≡ rowOf (now (row .entry)) ⌝ }
 {
     let letter = letter_of(row[0]);
-    if letter == 5 {
+    if letter == Row::NO_LETTER {
         return Row::none();
     }
     let own = rules_of(letter);
-    let fields = most_fields(letter);
     let mut nums = [0u16; Sheet::FIELDS];
-    let mut good = rest_empty(row, letter);
+    let mut good = true;
     let mut f = 0;
-    'row: while f < fields {
-        let at = f * 4 + 1;
+    'row: while f < Sheet::FIELDS {
+        let at = f * Sheet::FIELD + 1;
         let mut col = 0;
         let mut n: u16 = 0;
         let mut filled = false;
-        while col < 4 {
+        while col < Sheet::FIELD {
             let b = row[at + col];
-            if misplaced(b, filled, col == 3) {
+            if misplaced(b, filled, col + 1 == Sheet::FIELD) {
                 good = false;
                 break 'row;
             }
@@ -239,8 +209,7 @@ pub fn read_row(row: &[u8]) -> Row
             }
             col += 1;
         }
-        let rule = rule_of(own, f);
-        if !field_suits(rule, f, nums[1], filled, n) {
+        if !field_suits(own[f], f, nums[1], filled, n) {
             good = false;
             break 'row;
         }

@@ -1,2 +1,2 @@
 pub mod FillingLaws
-pub mod Heads
+pub mod HeadRows

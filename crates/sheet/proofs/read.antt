@@ -1,6 +1,6 @@
 pub mod ReadingLaws
 pub mod Taken
-pub mod Ranges
+pub mod Every
 pub mod HeldLimits
 pub mod Room
 pub mod Walk

@@ -7,15 +7,22 @@ use lib.Dec.{eqb, ltb}
 use lib.ListN.{length, take, drop, getD}
 use Rattle.rows.specs.Pick.{pick, and}
 use Rattle.rows.specs.Format.{rowWidth}
+use Rattle.rows.specs.Limits.{contextRoom}
 use Rattle.rows.specs.Row.{rowOf}
+use Rattle.rows.specs.Packed.{padded, noContext}
+use Rattle.rows.specs.declared.Context.{Context}
 use Rattle.sheet.specs.Reading.{outcomeOf, noPorts}
 use Rattle.sheet.specs.declared.answer.Answer.{Answer}
 use Rattle.sheet.specs.declared.answer.Answer.the-variants.{Passed, Refused}
 use Rattle.sheet.specs.declared.kind.Kind.the-variants.{Fillings}
 
--- the text's first row is an H row: byte 72
+-- the letter H
+abbrev pub headByte : ℕ
+headByte = 72
+
+-- the text's first row is an H row
 abbrev pub headFirst : List ℕ → Bool
-headFirst text = eqb (getD text 0 0) 72
+headFirst text = eqb (getD text 0 0) headByte
 
 -- the text from the H row with this blank number on, empty where there is none; at most as many rows as the first number
 unfoldable pub fromHead : ℕ → ℕ → List ℕ → List ℕ
@@ -36,6 +43,12 @@ isPassed (Refused why row) = false
 -- no row of the list is refused
 abbrev pub Passes : List ℕ → Type 0
 Passes list = isPassed (outcomeOf Fillings noPorts list .answer) ≡ true
+
+-- a list that passes, and its n H rows in an array, as its reader hands them back
+pub record HeadsRead (list : List ℕ) (heads : List Context) (n : ℕ) : Type 0 where
+  pub passes : Passes list
+  pub contexts : heads ≡ padded contextRoom noContext (outcomeOf Fillings noPorts list .held .contexts)
+  pub count : n ≡ length (outcomeOf Fillings noPorts list .held .contexts)
 
 -- an H row and the rows up to the next one
 abbrev pub firstFilling : ℕ → List ℕ → List ℕ

@@ -1,4 +1,5 @@
 pub mod Kinds
+pub mod HeldLimits
 pub mod Reading
 pub mod Steps
 pub mod Answer

@@ -3,8 +3,7 @@ use crate::answer::Answer;
 use crate::answer::Refusal;
 use crate::kind::Kind;
 use crate::kind::is_strange;
-use crate::kind::most_atoms;
-use crate::kind::most_links;
+use crate::kind::limits_of;
 use crate::kind::ports_clash;
 use rows::Sheet;
 use rows::row::Row;
@@ -13,15 +12,14 @@ ghost use mathlib.Core.Path.{_≡_};
 ghost use mathlib.Core.List.{List};
 ghost use mathlib.Core.Bool.{false};
 ghost use Prim.Native.Nat.{_+_, _*_, _≤_};
-ghost use lib.ListN.{length, take, drop};
+ghost use lib.ListN.{length, drop};
 ghost use Rattle.rows.specs.Format.{rowWidth};
 ghost use Rattle.rows.specs.Limits.{rowLimit};
-ghost use Rattle.rows.specs.Row.{rowOf};
 ghost use Rattle.rows.specs.Packed.{portTable};
 ghost use Rattle.rows.specs.Entry.{Ranged};
 ghost use Rattle.rows.specs.declared.Context.{Context};
-ghost use Rattle.sheet.specs.Reading.{ragged, lastNumber, clashes, firstOf};
-ghost use Rattle.sheet.specs.Steps.{answerOf, earlyTests, lateTests, Looked};
+ghost use Rattle.sheet.specs.Reading.{ragged, lastNumber, clashes, firstOf, lateTests};
+ghost use Rattle.sheet.specs.Steps.{answerOf, earlyAnswer, wholeRow, nextOf};
 
 // The next row, and whether a test that asks nothing of what is held turns it down.
 pub struct Next {
@@ -37,20 +35,16 @@ fn is_ragged(text: &[u8], at: usize) -> bool
     if text.len() - at < Sheet::ROW {
         return true;
     }
-    text[at + Sheet::ROW - 1] != 10
+    text[at + Sheet::ROW - 1] != b'\n'
 }
 
 // The row at `at`; where it is cut, one without a letter.
 fn row_at(text: &[u8], at: usize, cut: bool) -> Row
     requires { ⌜ (cut ≡ false → at + rowWidth ≤ length (now text)) ⌝ }
-    ensures { λ r. ⌜ (cut ≡ false → r ≡ rowOf (take rowWidth (drop at (now (text .entry))))) ⌝ }
+    ensures { λ r. ⌜ r ≡ wholeRow cut (drop at (now (text .entry))) ⌝ }
 {
     if cut {
-        return Row {
-            letter: 5,
-            good: false,
-            nums: [0; Sheet::FIELDS],
-        };
+        return Row::none();
     }
     read_row(&text[at..at + Sheet::ROW])
 }
@@ -58,9 +52,10 @@ fn row_at(text: &[u8], at: usize, cut: bool) -> Row
 // Refusals 4, 1, 2 and 3 at the row after k rows, of which so many are heads.
 fn early_answer(kind: Kind, heads: usize, cut: bool, row: Row, k: usize) -> Answer
     requires { ⌜ k ≤ rowLimit ⌝ }
-    ensures { λ r. ⌜ r ≡ answerOf (firstOf (earlyTests kind heads k cut row)) (k + 1) ⌝ }
+    ensures { λ r. ⌜ r ≡ earlyAnswer kind heads k cut row ⌝ }
 {
-    if Sheet::ROWS <= k {
+    let limits = limits_of(kind);
+    if limits.rows <= k {
         return Answer::Refused(Refusal::Long, k + 1);
     }
     if cut {
@@ -78,7 +73,7 @@ fn early_answer(kind: Kind, heads: usize, cut: bool, row: Row, k: usize) -> Answ
 // The row after k rows, of which so many are heads, with refusals 4, 1, 2 and 3.
 pub fn next_row(kind: Kind, heads: usize, text: &[u8], k: usize) -> Next
     requires { ⌜ (k ≤ rowLimit) × (k * rowWidth ≤ length (now text)) ⌝ }
-    ensures { λ r. ⌜ Looked kind heads k (drop (k * rowWidth) (now (text .entry))) r ⌝ }
+    ensures { λ r. ⌜ r ≡ nextOf kind heads k (drop (k * rowWidth) (now (text .entry))) ⌝ }
 {
     let cut = is_ragged(text, k * Sheet::ROW);
     let row = row_at(text, k * Sheet::ROW, cut);
@@ -99,10 +94,10 @@ pub fn row_clash(
 {
     let nums = row.nums;
     let letter = row.letter;
-    if letter == 4 {
+    if letter == Row::HEAD {
         return nums[0] <= last;
     }
-    if letter == 1 {
+    if letter == Row::CONTEXT {
         let number = nums[0] as usize;
         return ports_clash(kind, ports[number], pattern[number], nums[1] + 1);
     }
@@ -121,16 +116,17 @@ pub fn late_answer(
 ) -> Answer
     ensures { λ r. ⌜ r ≡ answerOf (firstOf (lateTests kind atoms contexts links marks clash)) at ⌝ }
 {
-    if most_atoms(kind) < atoms {
+    let limits = limits_of(kind);
+    if limits.atoms < atoms {
         return Answer::Refused(Refusal::Crowded, at);
     }
-    if Sheet::FIGURE_CONTEXTS < contexts {
+    if limits.contexts < contexts {
         return Answer::Refused(Refusal::Crowded, at);
     }
-    if most_links(kind) < links {
+    if limits.links < links {
         return Answer::Refused(Refusal::Joints, at);
     }
-    if Sheet::MARKS < marks {
+    if limits.marks < marks {
         return Answer::Refused(Refusal::Marks, at);
     }
     if clash {

@@ -1,11 +1,11 @@
 // The kinds of text, with the letters and the limits of each.
 use rows::Sheet;
+use rows::row::Row;
 ghost use mathlib.Core.Path.{_≡_};
 ghost use lib.Dec.{eqb};
 ghost use Rattle.rows.specs.Pick.{and, not};
-ghost use Rattle.sheet.specs.Reading.{clashOf};
-ghost use Rattle.sheet.specs.Kinds.{isFigure, isList, atomLimit, linkLimit};
-ghost use Rattle.sheet.specs.Steps.{strangeBy};
+ghost use Rattle.sheet.specs.Reading.{strangeBy, clashOf};
+ghost use Rattle.sheet.specs.Kinds.{limitsOf, allowed, isList};
 
 // A sheet; a figure as a pattern, as a replacement, or in any other place; a list of fillings.
 pub enum Kind {
@@ -16,68 +16,91 @@ pub enum Kind {
     Fillings,
 }
 
-pub(crate) fn is_figure(kind: Kind) -> bool
-    ensures { λ r. ⌜ r ≡ isFigure kind ⌝ }
+// What a text may have: for each letter, S B F E H, whether its rows stand there; and the most rows,
+// symbols, B or H rows, joint numbers and marks.
+pub struct Limits {
+    pub letters: [bool; Row::NO_LETTER],
+    pub rows: usize,
+    pub atoms: usize,
+    pub contexts: usize,
+    pub links: usize,
+    pub marks: usize,
+}
+
+// S, F and E rows.
+const SHEET: Limits = Limits {
+    letters: [true, false, true, true, false],
+    rows: Sheet::ROWS,
+    atoms: Sheet::ATOMS,
+    contexts: Sheet::FIGURE_CONTEXTS,
+    links: Sheet::LINKS,
+    marks: Sheet::MARKS,
+};
+
+// B rows too.
+const FIGURE: Limits = Limits {
+    letters: [true, true, true, true, false],
+    rows: Sheet::ROWS,
+    atoms: Sheet::FIGURE_ATOMS,
+    contexts: Sheet::FIGURE_CONTEXTS,
+    links: Sheet::FIGURE_LINKS,
+    marks: Sheet::MARKS,
+};
+
+// S, F and E rows after H rows; links and marks are those of one filling.
+const LIST: Limits = Limits {
+    letters: [true, false, true, true, true],
+    rows: Sheet::ROWS,
+    atoms: Sheet::ATOMS,
+    contexts: Sheet::FIGURE_CONTEXTS,
+    links: Sheet::FILLING_LINKS,
+    marks: Sheet::MARKS,
+};
+
+pub(crate) fn limits_of(kind: Kind) -> Limits
+    ensures { λ r. ⌜ r ≡ limitsOf kind ⌝ }
 {
     match kind {
-        Kind::Plain => false,
-        Kind::Pattern => true,
-        Kind::Figure => true,
-        Kind::Replacement => true,
-        Kind::Fillings => false,
+        Kind::Plain => SHEET,
+        Kind::Pattern => FIGURE,
+        Kind::Figure => FIGURE,
+        Kind::Replacement => FIGURE,
+        Kind::Fillings => LIST,
     }
+}
+
+// Whether rows of this letter stand in such a text.
+pub(crate) fn allows(kind: Kind, letter: usize) -> bool
+    ensures { λ r. ⌜ r ≡ allowed kind letter ⌝ }
+{
+    if Row::NO_LETTER <= letter {
+        return false;
+    }
+    let limits = limits_of(kind);
+    let letters = limits.letters;
+    letters[letter]
 }
 
 pub fn is_list(kind: Kind) -> bool
     ensures { λ r. ⌜ r ≡ isList kind ⌝ }
 {
-    match kind {
-        Kind::Plain => false,
-        Kind::Pattern => false,
-        Kind::Figure => false,
-        Kind::Replacement => false,
-        Kind::Fillings => true,
-    }
-}
-
-pub(crate) fn most_atoms(kind: Kind) -> usize
-    ensures { λ r. ⌜ r ≡ atomLimit kind ⌝ }
-{
-    if is_figure(kind) {
-        Sheet::FIGURE_ATOMS
-    } else {
-        Sheet::ATOMS
-    }
-}
-
-pub(crate) fn most_links(kind: Kind) -> usize
-    ensures { λ r. ⌜ r ≡ linkLimit kind ⌝ }
-{
-    if is_figure(kind) {
-        return Sheet::FIGURE_LINKS;
-    }
-    if is_list(kind) {
-        return Sheet::FILLING_LINKS;
-    }
-    Sheet::LINKS
+    allows(kind, Row::HEAD)
 }
 
 // Whether a row of this letter may not stand after so many heads.
 pub(crate) fn is_strange(kind: Kind, letter: usize, heads: usize) -> bool
     ensures { λ r. ⌜ r ≡ strangeBy kind letter heads ⌝ }
 {
-    if letter == 4 {
-        return !is_list(kind);
+    if !allows(kind, letter) {
+        return true;
     }
-    if is_list(kind) {
-        if heads == 0 {
-            return true;
-        }
+    if letter == Row::HEAD {
+        return false;
     }
-    if letter == 1 {
-        return !is_figure(kind);
+    if !is_list(kind) {
+        return false;
     }
-    5 <= letter
+    heads == 0
 }
 
 // Whether an earlier B row has other ports, where 0 is none.

@@ -1,28 +1,25 @@
 // The rows of one filling, as a part of the list of fillings that holds them.
+use rows::Context;
 use rows::Sheet;
 ghost use mathlib.Core.Path.{_≡_};
 ghost use Prim.Native.Nat.{_+_, _-_, _≤_};
 ghost use lib.ListN.{length, take, drop};
-ghost use Rattle.sheet.specs.Filling.{fromHead, beforeHead, fillingOf, Passes};
+ghost use Rattle.sheet.specs.Filling.{fromHead, beforeHead, fillingOf, HeadsRead};
 
-// Where the row of the head for this number starts, in a list that passed; the list's length where there is
-// none. A head's number is one digit, in the last column of its field.
-fn head_at(list: &[u8], number: u16) -> usize
-    requires { ⌜ Passes (now list) ⌝ }
+// The letter of a head.
+const HEAD_BYTE: u8 = b'H';
+
+// Where the row of the first head with this number starts; the list's length where no head has it.
+fn head_at(list: &[u8], heads: [Context; Sheet::CONTEXT_ROOM], count: usize, number: u16) -> usize
+    requires { ⌜ HeadsRead (now list) heads count ⌝ }
     ensures { λ r. ⌜ (r ≤ length (now (list .entry))) × (drop r (now (list .entry)) ≡ fromHead (length (now (list .entry))) number (now (list .entry))) ⌝ }
 {
-    let mut at = 0;
-    while at < list.len() {
-        if list.len() - at < Sheet::ROW {
-            return list.len();
+    let mut i = 0;
+    while i < count {
+        if heads[i].number == number {
+            return (heads[i].row as usize - 1) * Sheet::ROW;
         }
-        if list[at] == b'H' {
-            let digit = list[at + 4] - b'0';
-            if digit as u16 == number {
-                return at;
-            }
-        }
-        at += Sheet::ROW;
+        i += 1;
     }
     list.len()
 }
@@ -37,7 +34,7 @@ fn rows_end(list: &[u8], from: usize) -> usize
         if list.len() - at < Sheet::ROW {
             return at;
         }
-        if list[at] == b'H' {
+        if list[at] == HEAD_BYTE {
             return at;
         }
         at += Sheet::ROW;
@@ -45,13 +42,18 @@ fn rows_end(list: &[u8], from: usize) -> usize
     at
 }
 
-// The filling of one context, its head first, as a part of a list that passed; empty where the context
-// has no filling there.
-pub fn part_for(list: &[u8], number: u16) -> &[u8]
-    requires { ⌜ Passes (now list) ⌝ }
+// The filling of one context, its head first, as a part of a list that passed, by the heads that its reader handed back;
+// empty where the context has no filling there.
+pub fn part_for(
+    list: &[u8],
+    heads: [Context; Sheet::CONTEXT_ROOM],
+    count: usize,
+    number: u16,
+) -> &[u8]
+    requires { ⌜ HeadsRead (now list) heads count ⌝ }
     ensures { λ r. ⌜ now r ≡ fillingOf (now (list .entry)) number ⌝ }
 {
-    let from = head_at(list, number);
+    let from = head_at(list, heads, count, number);
     if list.len() - from < Sheet::ROW {
         return &list[0..0];
     }

@@ -13,7 +13,9 @@ use Rattle.filling.specs.Fill.{filledAnswer, filledText}
 use Rattle.answers.specs.declared.outcome.Done.{Done}
 use Rattle.answers.specs.declared.outcome.Done.the-variants as done
 use Rattle.finding.specs.Passed.{PlacePassed}
-use Rattle.starred.specs.Case.{Verdict, Filling, Placed, Case, compares, normalises, places, nowhere, prints, bytesOf, listBytes, compareVerdict, claimVerdict, NormalFilling, Every, all, _&_, Holds}
+use Rattle.answers.specs.Values.{comparedValues, claimedValues}
+use Rattle.answers.specs.declared.Verdict.{Verdict}
+use Rattle.starred.specs.Case.{Filling, Placed, Case, compares, normalises, places, nowhere, prints, bytesOf, listBytes, NormalFilling, Every, all, _&_, Holds}
 use Rattle.starred.proofs.Ending.{normalise-ends, fill-ends}
 use Rattle.starred.proofs.Placing.{foundIn, outputOf, place-prints, nowhere-ends, place-ends, claim-holds}
 
@@ -38,7 +40,7 @@ Facts (nowhere sheet pattern) = Answer × Answer × (Done × List ℕ)
 Facts (prints sheet pattern page) = Answer × Answer × List ℕ
 
 abbrev pub computed : (c : Case) → Facts c
-computed (compares first second same) = (compareVerdict (compareAnswer (bytesOf first) (bytesOf second)), compareVerdict (compareAnswer (bytesOf second) (bytesOf first)))
+computed (compares first second same) = (comparedValues (compareAnswer (bytesOf first) (bytesOf second)), comparedValues (compareAnswer (bytesOf second) (bytesOf first)))
 computed (normalises sheet normal) = (outcomeOf Plain noPorts (bytesOf sheet) .answer, normalText Plain (bytesOf sheet))
 computed (places p) =
     let sheet = bytesOf (p .sheet) in
@@ -60,7 +62,7 @@ computed (nowhere sheet pattern) = (outcomeOf Plain noPorts (bytesOf sheet) .ans
 computed (prints sheet pattern page) = (outcomeOf Plain noPorts (bytesOf sheet) .answer, outcomeOf Pattern noPorts (bytesOf pattern) .answer, outputOf (foundIn (bytesOf sheet) (bytesOf pattern)))
 
 abbrev pub stated : (c : Case) → Facts c
-stated (compares first second same) = (record { number = 0; input = 0; row = 0; yes = same }, record { number = 0; input = 0; row = 0; yes = same })
+stated (compares first second same) = (record { number = 0; input = 0; row = 0; bytes = 0; yes = same }, record { number = 0; input = 0; row = 0; bytes = 0; yes = same })
 stated (normalises sheet normal) = (Passed, bytesOf normal)
 stated (places p) = record {
   sheet = Passed;
@@ -100,7 +102,7 @@ places-hold p e =
       normal-fillings = normal-fillings (p .fillings) (ap (λ (r : PlaceFacts). r .fillings) e);
       places = place-ends sheet pattern list ok found;
       fills = fill-ends pattern list (bytesOf (p .filled)) (ap (λ (r : PlaceFacts). r .figure) e) (ap (λ (r : PlaceFacts). r .list) e) (ap (λ (r : PlaceFacts). r .fill) e) (ap (λ (r : PlaceFacts). r .filled) e);
-      claims = ap claimVerdict (claim-holds sheet pattern list ok found);
+      claims = ap claimedValues (claim-holds sheet pattern list ok found);
     }
 
 holds : (c : Case) → computed c ≡ stated c → Holds c

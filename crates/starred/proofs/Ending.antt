@@ -9,9 +9,10 @@ use Rattle.sheet.specs.Reading.{outcomeOf, noPorts}
 use Rattle.sheet.specs.declared.kind.Kind.the-variants.{Plain, Figure, Fillings}
 use Rattle.sheet.specs.declared.answer.Answer.the-variants.{Passed}
 use Rattle.answers.specs.Done.{slipAfter}
+use Rattle.answers.specs.Values.{doneValues}
 use Rattle.filling.specs.Fill.{filledAnswer, filledText, fillAnswer, fillSlip}
 use Rattle.answers.specs.declared.outcome.Done.the-variants as done
-use Rattle.starred.specs.Case.{doneAnswer, NormaliseEnds, FillEnds}
+use Rattle.starred.specs.Case.{NormaliseEnds, FillEnds}
 
 module _ (sheet normal : List ℕ) (ok : outcomeOf Plain noPorts sheet .answer ≡ Passed) (text : normalText Plain sheet ≡ normal) where
   pub normalise-ends : NormaliseEnds sheet 0 normal
@@ -26,4 +27,4 @@ module _ (figure list filled : List ℕ) (a : outcomeOf Figure noPorts figure .a
 
   pub fill-ends : FillEnds figure list 0 filled
   unfolding fillSlip
-  fill-ends = record { answered = λ slip full. ap doneAnswer (fill-answer slip full); slip-after = λ slip full. ap₂ (λ d t. slipAfter d t slip) (fill-answer slip full) text }
+  fill-ends = record { answered = λ slip full. ap doneValues (fill-answer slip full); slip-after = λ slip full. ap₂ (λ d t. slipAfter d t slip) (fill-answer slip full) text }

@@ -11,17 +11,21 @@ use Rattle.writing.specs.RowText.{rowBytes}
 use Rattle.normalising.specs.NormalText.{slipLength}
 use Rattle.placing.specs.Fillings.{Filling}
 use Rattle.placing.specs.ListText.{listText}
-use Rattle.placing.proofs.Narrowed.{narrowed, narrowed-same}
-use Rattle.answers.specs.Done.{doneNumber, doneInput, doneRow, doneBytes, slipAfter}
+use Rattle.placing.specs.Narrowed.{narrowed}
+use Rattle.placing.specs.TextNets.{sheetNet, patternNet}
+use Rattle.placing.proofs.Narrowed.{narrowed-same}
+use Rattle.answers.specs.AnswerRow.{answerLetter, answerRow}
+use Rattle.answers.specs.Done.{doneBytes, slipAfter}
+use Rattle.answers.specs.Values.{doneValues}
 use Rattle.answers.specs.declared.outcome.Done.{Done}
 use Rattle.answers.specs.declared.outcome.Done.the-variants as done
-use Rattle.finding.specs.Place.{fillingsIn, placedFillings, placedAnswer, placedText, placeAnswer, placeSlip, sheetNet, patternNet}
+use Rattle.finding.specs.Place.{fillingsIn, placedFillings, placedAnswer, placedText, placeAnswer, placeSlip}
 use Rattle.finding.specs.Passed.{PlacePassed}
 use Rattle.claiming.specs.Claim.{claimAnswer}
 use Rattle.answers.specs.declared.outcome.Claimed.the-variants as claim
 use Rattle.tasks.specs.Demand.{placeWritten}
 use Rattle.tasks.proofs.Places.{place-answer, place-claim}
-use Rattle.starred.specs.Case.{doneAnswer, PlaceEnds, printed, Prints}
+use Rattle.starred.specs.Case.{PlaceEnds, printed, Prints}
 
 -- the answer and the text of what is placed
 abbrev endOf : Option (List Filling) → Done × List ℕ
@@ -44,24 +48,24 @@ module _ (sheet pattern : List ℕ) (ok : PlacePassed sheet pattern) (d : Done) 
 
 -- the whole output for what is found
 abbrev pub outputOf : Done × List ℕ → List ℕ
-outputOf r = rowBytes 65 (doneNumber (r .0) ∷ doneInput (r .0) ∷ doneRow (r .0) ∷ []) ++ r .1
+outputOf r = answerRow (doneValues (r .0)) ++ r .1
 
-output-of : (slip : List ℕ) (o : Option (List Filling)) → printed (doneAnswer (placedAnswer o)) (slipAfter (placedAnswer o) (placedText o) slip) ≡ outputOf (endOf o)
+output-of : (slip : List ℕ) (o : Option (List Filling)) → printed (doneValues (placedAnswer o)) (slipAfter (placedAnswer o) (placedText o) slip) ≡ outputOf (endOf o)
 output-of slip none = refl
-output-of slip (some θ) = ap (λ l. rowBytes 65 (0 ∷ 0 ∷ 0 ∷ []) ++ l) (take-at (listText θ) (drop (length (listText θ)) slip) (length (listText θ)) refl)
+output-of slip (some θ) = ap (λ l. rowBytes answerLetter (0 ∷ 0 ∷ 0 ∷ []) ++ l) (take-at (listText θ) (drop (length (listText θ)) slip) (length (listText θ)) refl)
 
 pub place-prints : (sheet pattern : List ℕ) → PlacePassed sheet pattern → Prints sheet pattern (outputOf (foundIn sheet pattern))
 place-prints sheet pattern ok slip full =
-    ap₂ (λ d s. printed (doneAnswer d) s) (answer-is sheet pattern ok _ _ refl (length slip) full) (slip-is sheet pattern ok _ _ refl slip full)
+    ap₂ (λ d s. printed (doneValues d) s) (answer-is sheet pattern ok _ _ refl (length slip) full) (slip-is sheet pattern ok _ _ refl slip full)
     ∙ output-of slip (fillingsIn (sheetNet sheet) (patternNet pattern) (narrowed (sheetNet sheet) (patternNet pattern)))
 
 module _ (sheet pattern : List ℕ) (ok : PlacePassed sheet pattern) (found : foundIn sheet pattern ≡ (done.NoPlacing, [])) where
   pub nowhere-ends : PlaceEnds sheet pattern 11 []
-  nowhere-ends = record { answered = λ slip full. ap doneAnswer (answer-is sheet pattern ok _ [] found (length slip) full); slip-after = slip-is sheet pattern ok _ [] found }
+  nowhere-ends = record { answered = λ slip full. ap doneValues (answer-is sheet pattern ok _ [] found (length slip) full); slip-after = slip-is sheet pattern ok _ [] found }
 
 module _ (sheet pattern list : List ℕ) (ok : PlacePassed sheet pattern) (found : foundIn sheet pattern ≡ (done.Written (length list), list)) where
   pub place-ends : PlaceEnds sheet pattern 0 list
-  place-ends = record { answered = λ slip full. ap doneAnswer (answer-is sheet pattern ok _ list found (length slip) full); slip-after = slip-is sheet pattern ok _ list found }
+  place-ends = record { answered = λ slip full. ap doneValues (answer-is sheet pattern ok _ list found (length slip) full); slip-after = slip-is sheet pattern ok _ list found }
 
   module _ (slip : List ℕ) (full : slipLength ≤ length slip) where
     not-nowhere : ¬ (placeAnswer sheet pattern (length slip) ≡ done.NoPlacing)

@@ -17,8 +17,7 @@ use Rattle.placing.specs.Fillings as fillings
 use Rattle.placing.specs.ListText.{rowsText, listText}
 use Rattle.placing.specs.First.{firstFrom, firstList}
 use Rattle.placing.specs.Smallest.{labelsBy, smallest}
-use Rattle.placing.proofs.FirstLaws.{firstMay}
-use Rattle.placing.proofs.Narrowed.{narrowed}
+use Rattle.placing.specs.Narrowed.{firstMay, narrowed}
 use Rattle.comparing.specs.Compare.{sameTest, compareAnswer}
 use Rattle.filling.specs.Fill.{firstLacking, firstDiffering, filledAnswer}
 use Rattle.starred.specs.Case.{Every, all, _&_, Holds}

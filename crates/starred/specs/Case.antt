@@ -8,20 +8,16 @@ use mathlib.Core.Path.{_≡_}
 use mathlib.Core.Bool.{Bool, true}
 use mathlib.Core.List.{List, [], _∷_, _++_}
 use lib.ListN.{length, take, drop, replicate}
-use Rattle.writing.specs.RowText.{rowBytes}
-use Rattle.normalising.specs.NormalText.{slipLength, normalText, normalisedAnswer, normalisedSlip, normalisedNumber, normalisedInput, normalisedRow, normalisedBytes}
+use Rattle.rows.specs.Format.{rowWidth, newline}
+use Rattle.normalising.specs.NormalText.{slipLength, normalText, normalisedAnswer, normalisedSlip}
 use Rattle.sheet.specs.declared.kind.Kind.the-variants.{Plain, Pattern}
-use Rattle.normalising.specs.declared.normalise.Normalised.{Normalised}
 use Rattle.comparing.specs.Compare.{compareAnswer}
-use Rattle.answers.specs.Compared.{comparedNumber, comparedInput, comparedRow, comparedYes}
-use Rattle.answers.specs.declared.outcome.Compared.{Compared}
-use Rattle.answers.specs.Done.{doneNumber, doneInput, doneRow, doneBytes}
-use Rattle.answers.specs.declared.outcome.Done.{Done}
+use Rattle.answers.specs.AnswerRow.{answerRow}
+use Rattle.answers.specs.Values.{normalisedValues, doneValues, comparedValues, claimedValues}
+use Rattle.answers.specs.declared.TaskAnswer.{TaskAnswer}
 use Rattle.filling.specs.Fill.{fillAnswer, fillSlip}
 use Rattle.finding.specs.Place.{placeAnswer, placeSlip}
 use Rattle.claiming.specs.Claim.{claimAnswer}
-use Rattle.answers.specs.Claimed.{claimedNumber, claimedInput, claimedRow, claimedYes}
-use Rattle.answers.specs.declared.outcome.Claimed.{Claimed}
 
 -- a filling: its H row, and its own rows
 pub record Filling : Type 0 where
@@ -51,9 +47,9 @@ abbrev pub codes : String → List ℕ
 codes text.[] = []
 codes (text._∷_ c s) = code c ∷ codes s
 
--- 'each row padded to 33 columns', and a newline
+-- 'each row padded to 33 columns', a row's width but for its newline
 abbrev pub line : String → List ℕ
-line s = codes s ++ replicate (33 - length (codes s)) 32 ++ (10 ∷ [])
+line s = codes s ++ replicate (rowWidth - 1 - length (codes s)) 32 ++ (newline ∷ [])
 
 -- the bytes of a text
 abbrev pub bytesOf : List String → List ℕ
@@ -65,56 +61,31 @@ abbrev pub listBytes : List Filling → List ℕ
 listBytes [] = []
 listBytes (f ∷ l) = bytesOf (f .head ∷ f .rows) ++ listBytes l
 
--- an answer in document 01's numbers: with the bytes written, or with yes or no
-pub record Answered : Type 0 where
-  pub number : ℕ
-  pub input : ℕ
-  pub row : ℕ
-  pub bytes : ℕ
-
-pub record Verdict : Type 0 where
-  pub number : ℕ
-  pub input : ℕ
-  pub row : ℕ
-  pub yes : Bool
-
-abbrev pub compareVerdict : Compared → Verdict
-compareVerdict c = record { number = comparedNumber c; input = comparedInput c; row = comparedRow c; yes = comparedYes c }
-
-abbrev pub claimVerdict : Claimed → Verdict
-claimVerdict c = record { number = claimedNumber c; input = claimedInput c; row = claimedRow c; yes = claimedYes c }
-
-abbrev pub normaliseAnswer : Normalised → Answered
-normaliseAnswer d = record { number = normalisedNumber d; input = normalisedInput d; row = normalisedRow d; bytes = normalisedBytes d }
-
-abbrev pub doneAnswer : Done → Answered
-doneAnswer d = record { number = doneNumber d; input = doneInput d; row = doneRow d; bytes = doneBytes d }
-
 -- With every slip of the full length a task answers this number, no input and no row, and writes this text; the rest of the slip stays.
-pub record Ends (answer : ℕ → Answered) (after : List ℕ → List ℕ) (number : ℕ) (text : List ℕ) : Type 0 where
+pub record Ends (answer : ℕ → TaskAnswer) (after : List ℕ → List ℕ) (number : ℕ) (text : List ℕ) : Type 0 where
   pub answered : (slip : List ℕ) → slipLength ≤ length slip → answer (length slip) ≡ record { number = number; input = 0; row = 0; bytes = length text }
   pub slip-after : (slip : List ℕ) → slipLength ≤ length slip → after slip ≡ text ++ drop (length text) slip
 
 abbrev pub NormaliseEnds : List ℕ → ℕ → List ℕ → Type 0
-NormaliseEnds sheet = Ends (λ n. normaliseAnswer (normalisedAnswer Plain sheet n)) (normalisedSlip Plain sheet)
+NormaliseEnds sheet = Ends (λ n. normalisedValues (normalisedAnswer Plain sheet n)) (normalisedSlip Plain sheet)
 
 abbrev pub PlaceEnds : List ℕ → List ℕ → ℕ → List ℕ → Type 0
-PlaceEnds sheet pattern = Ends (λ n. doneAnswer (placeAnswer sheet pattern n)) (placeSlip sheet pattern)
+PlaceEnds sheet pattern = Ends (λ n. doneValues (placeAnswer sheet pattern n)) (placeSlip sheet pattern)
 
 abbrev pub FillEnds : List ℕ → List ℕ → ℕ → List ℕ → Type 0
-FillEnds figure list = Ends (λ n. doneAnswer (fillAnswer figure list n)) (fillSlip figure list)
+FillEnds figure list = Ends (λ n. doneValues (fillAnswer figure list n)) (fillSlip figure list)
 
 -- 'an `A` row (number, input, row)', then the bytes that were written
-abbrev pub printed : Answered → List ℕ → List ℕ
-printed a slip = rowBytes 65 (a .number ∷ a .input ∷ a .row ∷ []) ++ take (a .bytes) slip
+abbrev pub printed : TaskAnswer → List ℕ → List ℕ
+printed a slip = answerRow a ++ take (a .bytes) slip
 
 abbrev pub Prints : List ℕ → List ℕ → List ℕ → Type 0
-Prints sheet pattern page = (slip : List ℕ) → slipLength ≤ length slip → printed (doneAnswer (placeAnswer sheet pattern (length slip))) (placeSlip sheet pattern slip) ≡ page
+Prints sheet pattern page = (slip : List ℕ) → slipLength ≤ length slip → printed (doneValues (placeAnswer sheet pattern (length slip))) (placeSlip sheet pattern slip) ≡ page
 
 -- in either order
 pub record Compares (first second : List ℕ) (same : Bool) : Type 0 where
-  pub onward : compareVerdict (compareAnswer first second) ≡ record { number = 0; input = 0; row = 0; yes = same }
-  pub back : compareVerdict (compareAnswer second first) ≡ record { number = 0; input = 0; row = 0; yes = same }
+  pub onward : comparedValues (compareAnswer first second) ≡ record { number = 0; input = 0; row = 0; bytes = 0; yes = same }
+  pub back : comparedValues (compareAnswer second first) ≡ record { number = 0; input = 0; row = 0; bytes = 0; yes = same }
 
 -- each element of a list is as P says
 infixr 60 _&_
@@ -134,7 +105,7 @@ pub record Places (sheet pattern : List ℕ) (fillings : List Filling) (filled :
   pub normal-fillings : Every NormalFilling fillings
   pub places : PlaceEnds sheet pattern 0 (listBytes fillings)
   pub fills : FillEnds pattern (listBytes fillings) 0 filled
-  pub claims : claimVerdict (claimAnswer sheet pattern (listBytes fillings)) ≡ record { number = 0; input = 0; row = 0; yes = true }
+  pub claims : claimedValues (claimAnswer sheet pattern (listBytes fillings)) ≡ record { number = 0; input = 0; row = 0; bytes = 0; yes = true }
 
 -- What a line says.
 abbrev pub Holds : Case → Type 0

@@ -8,14 +8,14 @@ use lib.ListN.{length, set, replicate}
 use lib.Seq.{getD-set-same, getD-set-other}
 use Rattle.rows.specs.Limits.{sheetLinks}
 use Rattle.rows.proofs.Padding.{getD-filled}
-use Rattle.candidates.specs.Words.{In, InPair}
+use Rattle.candidates.specs.Words.{wordDigits, In, InPair}
 use Rattle.candidates.specs.Tables.{AtomIn, LinkIn}
 use Rattle.candidates.proofs.Digits.{none-in}
 use Rattle.candidates.proofs.Halves.{stored, pair-stored, stored-other}
 
 -- no link is in two words of zeros
 pub empty-pair : (y : ℕ) → ¬ InPair (replicate 2 0) y
-empty-pair y m = none-in (y % 64) (subst (λ (w : ℕ). In w (y % 64)) (getD-filled {A = ℕ} 0 2 (y / 64)) m)
+empty-pair y m = none-in (y % wordDigits) (subst (λ (w : ℕ). In w (y % wordDigits)) (getD-filled {A = ℕ} 0 2 (y / wordDigits)) m)
 
 module _ (P : ℕ → ℕ → Type 0) (l : List ℕ) (i n : ℕ) where
   -- the word of figure atom i, after those before it

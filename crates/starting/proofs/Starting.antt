@@ -18,7 +18,7 @@ use Rattle.candidates.proofs.GoodPlaces.{decided-real, decided-link}
 use Rattle.candidates.proofs.NetRows.{atom-name}
 use Rattle.candidates.proofs.Sending.{here, there, there-index, same-count, link-sent, link-place}
 use Rattle.starting.specs.Count.{count}
-use Rattle.starting.specs.Steps.{Alike, placesOf, Enough, MarksOn, MarksBack}
+use Rattle.starting.specs.Steps.{Alike, placesOf, ClosedIn, Enough, MarksOn, MarksBack}
 use Rattle.starting.proofs.Marking.{enough-same}
 use Rattle.starting.proofs.GoodLinks.{places-among, closed-marks, closed-places}
 
@@ -32,10 +32,6 @@ pub enough-counted : (S F : NormalForm) → Fit S → Fit F → (closed wanted c
     → ((x y : ℕ) → x < F .«class_count» → y < S .«class_count» → Enough (getD closed x 0) (getD wanted x 0) (getD counts y 0) → LinkIn l x y)
     → (x y : ℕ) → x < F .«class_count» → y < S .«class_count» → Enough (getD closed x 0) (placesOf F x) (placesOf S y) → LinkIn l x y
 enough-counted S F fs ff closed wanted counts w c l f x y h k e = f x y h k (enough-same e refl (sym (w x (omega (arith, h, ff .class-count)))) (sym (c y (omega (arith, k, fs .class-count)))))
-
--- no context has a link that is 1 in the array
-abbrev pub ClosedIn : NormalForm → List ℕ → Type 0
-ClosedIn n a = (x : ℕ) → (x + 1) ∈ cellLinks ((netIn n) .contexts) → getD a x 0 ≡ 0
 
 module _ (sheet figure : NormalForm) (fs : Fit sheet) (ff : Fit figure) (NS : Normal (netIn sheet)) (NF : Normal (netIn figure)) where
   abbrev S : Net
@@ -80,7 +76,7 @@ module _ (sheet figure : NormalForm) (fs : Fit sheet) (ff : Fit figure) (NS : No
       → ((x y : ℕ) → x < figure .«class_count» → y < sheet .«class_count» → Enough (getD closed x 0) (placesOf figure x) (placesOf sheet y) → LinkIn l₁ x y)
       → LinksStay l₁ l₂ (MarksOn sheet figure)
       → LinksStay l₂ l₃ (λ x y. getD closed x 0 ≡ 1 → MarksBack sheet figure x y)
-      → Keeps S F [] (mayAtom a) (mayLink l₃)
+      → Keeps (netIn sheet) (netIn figure) [] (mayAtom a) (mayLink l₃)
   start-keeps a l₁ l₂ l₃ closed shut alike enough on back p g b = record { atoms = atoms; links = links }
     where
       atoms : (i : ℕ) → Range (length (F .atoms)) i → mayAtom a i (atomTo p i)

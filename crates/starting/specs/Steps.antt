@@ -36,6 +36,10 @@ pub record LinksNumbered (contexts : List Context) (n : ℕ) : Type 0 where
 abbrev pub PortsCleared : List Context → ℕ → List ℕ → Type 0
 PortsCleared contexts n a = (i k : ℕ) → i < n → k < rowAt contexts i .count → getD a (getD (rowAt contexts i .links) k 0 - 1) 0 ≡ 0
 
+-- no context has a link that is 1 in the array
+abbrev pub ClosedIn : NormalForm → List ℕ → Type 0
+ClosedIn n a = (x : ℕ) → (x + 1) ∈ cellLinks ((netIn n) .contexts) → getD a x 0 ≡ 0
+
 -- a count for each link, none over n
 pub record Tally (l : List ℕ) (n : ℕ) : Type 0 where
   pub width : length l ≡ sheetLinks

@@ -12,7 +12,7 @@ use Rattle.rows.specs.Limits.{sheetLinks}
 use Rattle.rows.specs.declared.Atom.{Atom}
 use Rattle.placing.specs.Net.{Net}
 use Rattle.placing.specs.Placing.{cellAt}
-use Rattle.stepping.specs.Chains.{nodeOf, NodeOn, LastOn, Chained, RowIn}
+use Rattle.stepping.specs.Chains.{nodeOf, NodeOn, LastOn, Chained, RowIn, nodeCount}
 use Rattle.rows.specs.declared.Sheet as form
 use Rattle.network.specs.NetIn.{netIn, atomAt, Fit}
 use Rattle.network.proofs.NetIn.{atoms-length}
@@ -28,19 +28,19 @@ one-link S y z v a b =
     let e : getD ((cellAt (S .atoms) (suc (b .atom))) .1) (b .place) 0 ≡ suc y = subst (λ (m : ℕ). getD ((cellAt (S .atoms) (suc (b .atom))) .1) m 0 ≡ suc y) k (subst (λ (m : ℕ). getD ((cellAt (S .atoms) (suc m)) .1) (a .place) 0 ≡ suc y) i (a .link)) in
     let d = b .link in omega arith
 
-pub chained-start : (S : Net) → Chained S (nodeOf 0 0) (replicate 480 0)
+pub chained-start : (S : Net) → Chained S (nodeOf 0 0) (replicate nodeCount 0)
 chained-start S = record {
   nodes = record {
-    within = λ v. let e = zeros 480 v in omega arith;
-    above = λ v n. absurd (n (zeros 480 v));
-    falls = λ v h. let e = zeros 480 v in omega arith;
+    within = λ v. let e = zeros nodeCount v in omega arith;
+    above = λ v n. absurd (n (zeros nodeCount v));
+    falls = λ v h. let e = zeros nodeCount v in omega arith;
   };
-  last = λ y h. record { is = λ n. absurd (n (zeros 480 y)); none = λ w a b o. omega (arith, o .node) };
+  last = λ y h. record { is = λ n. absurd (n (zeros nodeCount y)); none = λ w a b o. omega (arith, o .node) };
   next = λ y v h o. absurd (omega (arith, o .node));
 }
 
 -- One place more: its link's last node is before it, and it is the last.
-module _ (S : Net) (table : List ℕ) (n y : ℕ) (room : length table ≡ 480) (h : n < 480) (low : sheetLinks ≤ n) (hy : y < sheetLinks) (o : NodeOn S y n) (c : Chained S n table) where
+module _ (S : Net) (table : List ℕ) (n y : ℕ) (room : length table ≡ nodeCount) (h : n < nodeCount) (low : sheetLinks ≤ n) (hy : y < sheetLinks) (o : NodeOn S y n) (c : Chained S n table) where
   abbrev first : List ℕ
   first = set table n (getD table y 0)
 

@@ -5,7 +5,7 @@ use mathlib.Core.Logic.{_≢_}
 use mathlib.Core.List.{List}
 use lib.ListN.{length, getD}
 use Rattle.rows.specs.Format.{mostLinks}
-use Rattle.rows.specs.Limits.{sheetLinks}
+use Rattle.rows.specs.Limits.{sheetAtoms, sheetLinks}
 use Rattle.rows.specs.declared.Sheet as form
 use Rattle.placing.specs.Net.{Net}
 use Rattle.placing.specs.Placing.{cellAt}
@@ -14,6 +14,10 @@ use Rattle.network.specs.NetIn.{netIn}
 -- the node of place k of atom j, both from 0
 abbrev pub nodeOf : ℕ → ℕ → ℕ
 nodeOf j k = sheetLinks + (j * mostLinks + k)
+
+-- one node for each link and for each place of an atom
+abbrev pub nodeCount : ℕ
+nodeCount = nodeOf sheetAtoms 0
 
 -- Node v is that of a place on link y, from 0.
 pub record NodeOn (S : Net) (y v : ℕ) : Type 0 where

@@ -14,12 +14,12 @@ ghost use Rattle.rows.specs.declared.Sheet.{Sheet as NormalForm};
 ghost use Rattle.placing.specs.Net.{Net};
 ghost use Rattle.candidates.specs.Laid.{Rowed, LaidOut};
 ghost use Rattle.stepping.specs.Flags.{Within};
-ghost use Rattle.stepping.specs.Chains.{nodeOf, Chained, ChainsIn, RowIn};
+ghost use Rattle.stepping.specs.Chains.{nodeOf, Chained, ChainsIn, RowIn, nodeCount};
 
 // The places of atom j, after those of the atoms before it.
 fn chain(table: &mut [u16; CHAINS], j: usize, links: [u16; Sheet::MOST_LINKS], count: usize)
-    requires { ⌜ (j < sheetAtoms) × (count ≤ mostLinks) × Within sheetLinks count links × (length (now table) ≡ 480) ⌝ }
-    ensures { λ r. ⌜ (length (now (table .exit)) ≡ 480) × ((S : Net) → RowIn S j links count → Chained S (nodeOf j 0) (now (table .entry)) → Chained S (nodeOf (suc j) 0) (now (table .exit))) ⌝ }
+    requires { ⌜ (j < sheetAtoms) × (count ≤ mostLinks) × Within sheetLinks count links × (length (now table) ≡ nodeCount) ⌝ }
+    ensures { λ r. ⌜ (length (now (table .exit)) ≡ nodeCount) × ((S : Net) → RowIn S j links count → Chained S (nodeOf j 0) (now (table .entry)) → Chained S (nodeOf (suc j) 0) (now (table .exit))) ⌝ }
 {
     let mut k = 0;
     while k < count {
@@ -33,7 +33,7 @@ fn chain(table: &mut [u16; CHAINS], j: usize, links: [u16; Sheet::MOST_LINKS], c
 
 // The chains of the atoms in `laid`, from a table of zeros.
 pub fn chains(table: &mut [u16; CHAINS], laid: &[u16; LAID], atoms: usize)
-    requires { ⌜ Rowed (now laid) atoms × (now table ≡ replicate 480 0) ⌝ }
+    requires { ⌜ Rowed (now laid) atoms × (now table ≡ replicate nodeCount 0) ⌝ }
     ensures { λ r. ⌜ ((sheet : NormalForm) → LaidOut sheet (now (laid .entry)) atoms → ChainsIn sheet (now (table .exit))) ⌝ }
 {
     let mut j = 0;

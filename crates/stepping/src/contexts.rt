@@ -7,7 +7,7 @@ ghost use mathlib.Core.Path.{_≡_};
 ghost use mathlib.Core.Logic.{_↔_};
 ghost use Prim.Native.Nat.{ℕ, _+_, _*_, _<_, _≤_};
 ghost use lib.ListN.{length, getD};
-ghost use Rattle.rows.specs.Limits.{sheetLinks, figureContexts};
+ghost use Rattle.rows.specs.Limits.{sheetLinks, figureContexts, contextRoom};
 ghost use Rattle.stepping.specs.Contexts.{numberOf, Least};
 
 // What a context has after a link, by its port there and what it had.
@@ -32,8 +32,8 @@ pub fn cut_at(
     contexts: usize,
     mark: u16,
 )
-    requires { ⌜ (y < sheetLinks) × (contexts ≤ figureContexts) × (length (now cuts) ≡ figureContexts + 1) × (1 ≤ mark) ⌝ }
-    ensures { λ r. ⌜ (length (now (cuts .exit)) ≡ figureContexts + 1) × ((c : ℕ) → c < contexts → (getD (now (cuts .exit)) c 0 ≡ 0) ↔ ((getD (now (cuts .entry)) c 0 ≡ 0) × (getD (now (ports .entry)) (c * sheetLinks + y) 0 ≡ 1))) ⌝ }
+    requires { ⌜ (y < sheetLinks) × (contexts ≤ figureContexts) × (length (now cuts) ≡ contextRoom) × (1 ≤ mark) ⌝ }
+    ensures { λ r. ⌜ (length (now (cuts .exit)) ≡ contextRoom) × ((c : ℕ) → c < contexts → (getD (now (cuts .exit)) c 0 ≡ 0) ↔ ((getD (now (cuts .entry)) c 0 ≡ 0) × (getD (now (ports .entry)) (c * sheetLinks + y) 0 ≡ 1))) ⌝ }
 {
     let mut c = 0;
     while c < contexts {
@@ -44,7 +44,7 @@ pub fn cut_at(
 
 // The numbers of the first `count` contexts.
 pub fn numbers(contexts: [Context; Sheet::CONTEXT_ROOM], count: usize) -> [u16; Sheet::CONTEXT_ROOM]
-    requires { ⌜ (count ≤ figureContexts) × (length contexts ≡ figureContexts + 1) ⌝ }
+    requires { ⌜ (count ≤ figureContexts) × (length contexts ≡ contextRoom) ⌝ }
     ensures { λ r. ⌜ ((c : ℕ) → c < count → getD r c 0 ≡ numberOf contexts c) ⌝ }
 {
     let mut list = [0u16; Sheet::CONTEXT_ROOM];

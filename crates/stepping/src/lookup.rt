@@ -6,7 +6,7 @@ ghost use mathlib.Core.Path.{_≡_};
 ghost use mathlib.Core.Logic.{_↔_, _⊎_};
 ghost use Prim.Native.Nat.{ℕ, _+_, _*_, _<_, _≤_};
 ghost use lib.ListN.{length, getD, replicate};
-ghost use Rattle.rows.specs.Limits.{sheetLinks, figureContexts};
+ghost use Rattle.rows.specs.Limits.{sheetLinks, figureContexts, contextRoom};
 ghost use Rattle.network.specs.NetIn.{Ports};
 ghost use Rattle.stepping.specs.Contexts.{numberOf};
 ghost use Rattle.stepping.specs.Flags.{Within, Ported, atPort, portOfRow, portOfNumber, goesTo};
@@ -37,8 +37,8 @@ fn port_row(
     to: &[u16; Sheet::LINKS],
     none: u16,
 )
-    requires { ⌜ (c < 9) × (none ≤ sheetLinks + 1) × Ported (now to) none count ports × (length (now table) ≡ 9 * sheetLinks) ⌝ }
-    ensures { λ r. ⌜ (length (now (table .exit)) ≡ 9 * sheetLinks) × ((p : ℕ) → (getD (now (table .exit)) p 0 ≡ 1) ↔ ((getD (now (table .entry)) p 0 ≡ 1) ⊎ ((k : ℕ) × (k < count) × atPort (now (to .entry)) none ports c k p))) ⌝ }
+    requires { ⌜ (c < contextRoom) × (none ≤ sheetLinks + 1) × Ported (now to) none count ports × (length (now table) ≡ contextRoom * sheetLinks) ⌝ }
+    ensures { λ r. ⌜ (length (now (table .exit)) ≡ contextRoom * sheetLinks) × ((p : ℕ) → (getD (now (table .exit)) p 0 ≡ 1) ↔ ((getD (now (table .entry)) p 0 ≡ 1) ⊎ ((k : ℕ) × (k < count) × atPort (now (to .entry)) none ports c k p))) ⌝ }
 {
     let mut k = 0;
     while k < count {
@@ -59,8 +59,8 @@ fn port_rows(
     to: &[u16; Sheet::LINKS],
     none: u16,
 )
-    requires { ⌜ (count ≤ figureContexts) × (none ≤ sheetLinks + 1) × Ported (now to) none (row .count) (row .links) × (length (now table) ≡ 9 * sheetLinks) ⌝ }
-    ensures { λ r. ⌜ (length (now (table .exit)) ≡ 9 * sheetLinks) × ((p : ℕ) → (getD (now (table .exit)) p 0 ≡ 1) ↔ ((getD (now (table .entry)) p 0 ≡ 1) ⊎ portOfRow (now (numbers .entry)) count row (now (to .entry)) none p)) ⌝ }
+    requires { ⌜ (count ≤ figureContexts) × (none ≤ sheetLinks + 1) × Ported (now to) none (row .count) (row .links) × (length (now table) ≡ contextRoom * sheetLinks) ⌝ }
+    ensures { λ r. ⌜ (length (now (table .exit)) ≡ contextRoom * sheetLinks) × ((p : ℕ) → (getD (now (table .exit)) p 0 ≡ 1) ↔ ((getD (now (table .entry)) p 0 ≡ 1) ⊎ portOfRow (now (numbers .entry)) count row (now (to .entry)) none p)) ⌝ }
 {
     let ports = row.links;
     let mut c = 0;
@@ -82,7 +82,7 @@ pub fn port_table(
     to: &[u16; Sheet::LINKS],
     none: u16,
 )
-    requires { ⌜ (none ≤ sheetLinks + 1) × ((links : ℕ) × Ports contexts count links × Within none links (now to)) × (now table ≡ replicate 864 0) × ((c : ℕ) → c < count → getD (now numbers) c 0 ≡ numberOf contexts c) ⌝ }
+    requires { ⌜ (none ≤ sheetLinks + 1) × ((links : ℕ) × Ports contexts count links × Within none links (now to)) × (now table ≡ replicate (contextRoom * sheetLinks) 0) × ((c : ℕ) → c < count → getD (now numbers) c 0 ≡ numberOf contexts c) ⌝ }
     ensures { λ r. ⌜ ((p : ℕ) → (getD (now (table .exit)) p 0 ≡ 1) ↔ ((c : ℕ) × (c < count) × portOfNumber contexts count (now (to .entry)) none c p)) ⌝ }
 {
     let mut d = 0;

@@ -1,5 +1,5 @@
 -- The list that a placing gives holds, for each blank of the pattern, what is given to it, as arrays.
-use Prim.Native.Nat.{ℕ, _+_}
+use Prim.Native.Nat.{ℕ}
 use mathlib.Core.Path.{_≡_, refl, ap, sym, _∙_, subst}
 use mathlib.Core.List.{List, map, map-map, Memᴰ·map, Memᴰ·of-map}
 use native.Mathlib.Omega.{arith}
@@ -9,7 +9,7 @@ use Rattle.hyperlmntal.specs.Link.{_∈_}
 use Rattle.hyperlmntal.specs.Hypergraph.{inner}
 use Rattle.hyperlmntal.proofs.Lists.{map-agree}
 use Rattle.rows.specs.Format.{mostLinks}
-use Rattle.rows.specs.Limits.{sheetAtoms, sheetMarks}
+use Rattle.rows.specs.Limits.{sheetAtoms, atomRoom, markRoom}
 use Rattle.rows.specs.Held.{Held}
 use Rattle.rows.specs.Packed.{padded, noAtom}
 use Rattle.rows.specs.declared.Atom.{Atom}
@@ -21,7 +21,7 @@ use Rattle.reading.specs.Normal.{classOf, markedBy, normalFormBy, normalForm}
 use Rattle.reading.specs.NormalSheet.{normalAtom, normalMarks, packedNormal}
 use Rattle.sheet.specs.declared.kind.Kind.{Kind}
 use Rattle.sheet.specs.declared.kind.Kind.the-variants.{Fillings}
-use Rattle.sheet.proofs.read.Ranges.{AtomRange, WithinLimits}
+use Rattle.sheet.specs.HeldLimits.{AtomRange, WithinLimits}
 use Rattle.normalising.proofs.normal_text.NormalWritten.{taken-padded}
 use Rattle.texts.proofs.BuiltRows.{heldAtom}
 use Rattle.texts.proofs.NormalFits.{every-member}
@@ -30,7 +30,7 @@ use Rattle.placing.specs.Net.{NetCell, Net, edgeNumbers, netOf, normalNet}
 use Rattle.placing.specs.Placing.{Placing}
 use Rattle.placing.specs.Fillings.{Filling, rowsGraph, fillingFor, fillingsOf, normalRows, normalFilling, normalFillingsOf}
 use Rattle.placing.specs.ListText.{listText}
-use Rattle.placing.proofs.ListBack.{ListFits}
+use Rattle.placing.specs.ListFits.{ListFits, Ordered}
 use Rattle.placing.proofs.NormalFillings.{normal-rows-graph}
 use Rattle.placing.proofs.NormalNets.{atomNumbers, linkNumber, normal-atoms}
 use Rattle.placing.proofs.Orders.{by-number-in}
@@ -39,7 +39,7 @@ use Rattle.network.specs.NetIn.{netIn}
 use Rattle.network.specs.Ready.{Ready}
 use Rattle.filling.specs.Parts.{withoutHeads}
 use Rattle.filling.specs.Read.{rowsRead, partHeld, fillingRead, listHeld}
-use Rattle.filling.proofs.Back.{Ordered, net-ordered, list-back}
+use Rattle.filling.proofs.Back.{net-ordered, list-back}
 use Rattle.filling.proofs.Parts.{part-within}
 use Rattle.filling.proofs.Rows.{read-graph}
 use Rattle.listing.specs.Writing.{placingIn, fillingsText, givenCells, portLinks, standsAt}
@@ -62,14 +62,14 @@ module _ (kind : Kind) (h : Held) (w : WithinLimits kind h) where
 
   atoms-by-net : take (packedNormal h .«atom_count») (packedNormal h .atoms) ≡ map heldAtom (normalNet h .atoms)
   atoms-by-net =
-      ap (λ k. take k (packedNormal h .atoms)) (sym (length-map (h .atoms) (normalAtom h))) ∙ take-padded (sheetAtoms + 1) noAtom (map (normalAtom h) (h .atoms))
+      ap (λ k. take k (packedNormal h .atoms)) (sym (length-map (h .atoms) (normalAtom h))) ∙ take-padded atomRoom noAtom (map (normalAtom h) (h .atoms))
       ∙ map-agree (normalAtom h) (λ a. heldAtom (atomNumbers (linkNumber h) a)) (h .atoms) atom-held
       ∙ sym (map-map heldAtom (atomNumbers (linkNumber h)) (h .atoms)) ∙ ap (map heldAtom) (sym (normal-atoms h))
 
-marked-by-net : (h : Held) → padded (sheetMarks + 1) 0 (map (λ e. e .0) (normalNet h .marks)) ≡ packedNormal h .marked
+marked-by-net : (h : Held) → padded markRoom 0 (map (λ e. e .0) (normalNet h .marks)) ≡ packedNormal h .marked
 unfolding normalForm normalFormBy
 marked-by-net h =
-    ap (padded (sheetMarks + 1) 0)
+    ap (padded markRoom 0)
     (map-map (λ (e : ℕ × ℕ). e .0) edgeNumbers (map (markedBy (classOf (graphOf h .fusions)) (graphOf h)) (normalMarks h))
     ∙ map-map (λ e. edgeNumbers e .0) (markedBy (classOf (graphOf h .fusions)) (graphOf h)) (normalMarks h))
 
@@ -126,8 +126,8 @@ module _ (sheet pattern : form.Sheet) (ready : Ready sheet pattern) (atoms links
 
     given-marked : take (length (c .1)) (packedNormal h .marked) ≡ map number ports
     given-marked =
-        ap (take (length (c .1))) (sym (marked-by-net h) ∙ ap (λ N. padded (sheetMarks + 1) 0 (map (λ e. e .0) (N .marks))) net-given ∙ ap (padded (sheetMarks + 1) 0) (filling-marked cells ports))
-        ∙ taken-padded (sheetMarks + 1) (map number ports) (length (c .1)) (length-map ports number ∙ length-map (c .1) (standsAt (sheet .«class_count») links))
+        ap (take (length (c .1))) (sym (marked-by-net h) ∙ ap (λ N. padded markRoom 0 (map (λ e. e .0) (N .marks))) net-given ∙ ap (padded markRoom 0) (filling-marked cells ports))
+        ∙ taken-padded markRoom (map number ports) (length (c .1)) (length-map ports number ∙ length-map (c .1) (standsAt (sheet .«class_count») links))
 
   -- The list that a placing gives holds, for each blank of the pattern, what is given to it.
   pub given-part : (c : NetCell) → c ∈ netIn pattern .contexts → GivenPart sheet links given (fillingsText sheet pattern atoms links given) c

@@ -12,7 +12,7 @@ use Rattle.rows.specs.Packed.{padded}
 use Rattle.rows.specs.declared.Context.{Context}
 use Rattle.rows.specs.declared.Sheet as form
 use Rattle.rows.proofs.Padding.{getD-padding}
-use Rattle.numbering.specs.Numbering.{Numbering, linkRoom, noNumbers, withClasses}
+use Rattle.numbering.specs.Numbering.{Numbering, numberRoom, noNumbers, withClasses}
 use Rattle.numbering.proofs.Turns.{with-classes-count}
 use Rattle.numbering.proofs.Kept.{Low, low-after, low-none}
 use Rattle.normalising.proofs.normal_text.NormalWritten.{taken-padded}
@@ -54,7 +54,7 @@ module _ (sheet pattern : form.Sheet) (ready : Ready sheet pattern) (links given
   used : Used sheetLinks (c .count) (c .links)
   used = links-used sheet pattern ready links to j h
 
-  low : (k : ℕ) → k < c .count → standsAt (sheet .«class_count») links (getD (c .links) k 0) < linkRoom
+  low : (k : ℕ) → k < c .count → standsAt (sheet .«class_count») links (getD (c .links) k 0) < numberRoom
   low = stands-low sheet pattern ready links to j h
 
   -- The blank is one of the pattern's.
@@ -72,7 +72,7 @@ module _ (sheet pattern : form.Sheet) (ready : Ready sheet pattern) (links given
       standing : p ≡ padded mostLinks 0 ports
       standing = made ∙ ap (λ m. padded mostLinks 0 (portLinks sheet links (take m (c .links)))) (sym q)
 
-      pub ports-low : (k : ℕ) → k < n → getD p k 0 < linkRoom
+      pub ports-low : (k : ℕ) → k < n → getD p k 0 < numberRoom
       ports-low k l = port-low sheet fit links given c used low p standing k (omega (arith, q))
 
       -- The links of the atoms are numbered, then those of the ports.

@@ -9,7 +9,7 @@ use borrow.Author.Tests.{eq-eqb, ne-eqb}
 use lib.ListN.{length, getD, take}
 use lib.Seq.{length-take-le}
 use Rattle.rows.specs.Format.{mostLinks}
-use Rattle.rows.specs.Limits.{sheetAtoms, sheetLinks}
+use Rattle.rows.specs.Limits.{sheetLinks, atomRoom}
 use Rattle.rows.specs.Packed.{padded}
 use Rattle.rows.proofs.Padding.{getD-padding}
 use Rattle.rows.specs.declared.Atom.{Atom}
@@ -37,7 +37,7 @@ use Rattle.swapping.specs.Given.{placedCell}
 module _ (sheet : form.Sheet) (given : List ℕ) (k p : ℕ) where
   -- The atoms before place i that are given are behind the own ones, and their links are numbered.
   pub record GivenTo (own w : Whole) (n : Numbering) (i : ℕ) : Type 0 where
-    pub size : length (w .atoms) ≡ sheetAtoms + 1
+    pub size : length (w .atoms) ≡ atomRoom
     pub table : n ≡ withClasses noNumbers (cellLinks (givenBelow sheet given k i))
     pub grown : (later : List ℕ) → Grown own w (map (placedCell p (numberIn (withClasses n later .numbers))) (givenBelow sheet given k i))
 
@@ -83,7 +83,7 @@ module _ (sheet : form.Sheet) (given : List ℕ) (k p : ℕ) where
             rw (v [], getD-padding mostLinks 0 (map f links) j) (omega (arith, low))
 
         pub given-turn : (places : List ℕ) (r : Whole) → places ≡ map (placeOf p) numbers
-            → length (r .atoms) ≡ sheetAtoms + 1 → Grown w r (record { name = a .name; count = a .count; links = places } ∷ []) → GivenTo own r m (i + 1)
+            → length (r .atoms) ≡ atomRoom → Grown w r (record { name = a .name; count = a .count; links = places } ∷ []) → GivenTo own r m (i + 1)
         given-turn places r q z more =
             record {
               size = z;

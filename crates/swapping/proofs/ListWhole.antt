@@ -11,11 +11,11 @@ use Rattle.hyperlmntal.specs.Link.{_∈_}
 use Rattle.rows.specs.Pick.{pick}
 use Rattle.rows.specs.Packed.{portsOf}
 use Rattle.rows.specs.declared.Context.{Context}
-use Rattle.sheet.proofs.read.Ranges.{Every}
-use Rattle.placing.specs.Fillings.{Filling}
+use Rattle.sheet.specs.HeldLimits.{Every}
+use Rattle.placing.specs.Fillings.{Filling, AllExactMarks}
 use Rattle.placing.specs.ListText.{listText}
-use Rattle.placing.proofs.FilledText.{AllExactMarks}
-use Rattle.placing.proofs.ListBack.{listHeads, ListFits, list-heads}
+use Rattle.placing.specs.ListFits.{ListFits}
+use Rattle.placing.proofs.ListBack.{listHeads, list-heads}
 use Rattle.filling.specs.Read.{listHeld, fillingRead, fillingsRead}
 use Rattle.filling.specs.Fill.{firstLacking, firstDiffering, isExact}
 use Rattle.filling.proofs.Exact.{marks-exact}

@@ -8,6 +8,7 @@ use borrow.Author.Tests.{eqb-true}
 use lib.Dec.{eqb}
 use lib.ListN.{length, getD}
 use Rattle.hyperlmntal.specs.Link.{_∈_}
+use Rattle.rows.specs.Format.{contextBound}
 use Rattle.rows.specs.Pick.{and, not}
 use Rattle.rows.specs.Held.{Held}
 use Rattle.rows.specs.Packed.{portsOf, portTable}
@@ -17,7 +18,8 @@ use Rattle.rows.proofs.Bools.{or-false, not-false}
 use Rattle.rows.proofs.Ports.{table-at}
 use Rattle.sheet.specs.Reading.{clashOf}
 use Rattle.sheet.specs.declared.kind.Kind.the-variants.{Replacement}
-use Rattle.sheet.proofs.read.Ranges.{Every, every-at, ContextRange}
+use Rattle.sheet.specs.HeldLimits.{Every, ContextRange}
+use Rattle.sheet.proofs.read.Every.{every-at}
 use Rattle.sheet.proofs.read.HeldLimits.{held-within}
 use Rattle.reading.specs.NormalSheet.{normalContext, packedNormal}
 use Rattle.reading.proofs.normal.Merging.{getD-in}
@@ -26,10 +28,9 @@ use Rattle.normalising.proofs.normal_text.NormalWritten.{context-at}
 use Rattle.texts.proofs.BuiltRows.{every-in}
 use Rattle.texts.proofs.ReadBack.{portsBy, portsIn, Clear}
 use Rattle.texts.proofs.NormalFits.{every-member, sound-read}
-use Rattle.placing.specs.Net.{normalNet}
 use Rattle.placing.specs.Fillings.{Filling, Fits}
+use Rattle.placing.specs.TextNets.{patternHeld, patternNet}
 use Rattle.placing.proofs.Lists.{getD-of, member-at}
-use Rattle.finding.specs.Place.{patternHeld}
 use Rattle.finding.proofs.Blanks.{Covering, ports-found, one-count, one-covers}
 use Rattle.swapping.specs.Swap.{replacementHeld}
 use Rattle.swapping.specs.Inputs.{SwapInputs}
@@ -47,7 +48,7 @@ clear-in pattern before (b ∷ l) r c =
     let table = portTable (patternHeld pattern .contexts) in
     let n : eqb (getD table (b .number) 0) (suc (b .count)) ≡ true =
     not-false _ (or-false (and (not (eqb (portsBy before (b .number)) 0)) (not (eqb (portsBy before (b .number)) (suc (b .count))))) _ (c .0) .1) in
-    let low : b .number < 5 = omega (arith, r .0 .number .1) in
+    let low : b .number < contextBound = omega (arith, r .0 .number .1) in
     let e : portsOf (patternHeld pattern .contexts) (b .number) ≡ suc (b .count) = sym (table-at (patternHeld pattern .contexts) (b .number) low) ∙ eqb-true (getD table (b .number) 0) (suc (b .count)) n in
     (ports-found (patternHeld pattern .contexts) (b .number) (b .count) e, clear-in pattern (before ++ (portsIn b ∷ [])) l (r .1) (c .1))
 
@@ -56,7 +57,7 @@ replacement-in pattern replacement =
     let table = portTable (patternHeld pattern .contexts) in
     clear-in pattern [] (replacementHeld pattern replacement .contexts) (held-within Replacement table replacement .ranges .contexts) (sound-read Replacement table replacement refl .clear)
 
-pub replacement-covered : (pattern : List ℕ) (θ : List Filling) → Fits (normalNet (patternHeld pattern)) θ → (replacement : List ℕ) → Every (Covering θ) (replacementHeld pattern replacement .contexts)
+pub replacement-covered : (pattern : List ℕ) (θ : List Filling) → Fits (patternNet pattern) θ → (replacement : List ℕ) → Every (Covering θ) (replacementHeld pattern replacement .contexts)
 replacement-covered pattern θ fit replacement =
     every-in (Covering θ) (replacementHeld pattern replacement .contexts) (λ b i.
     let t = every-member (InPattern pattern) (replacementHeld pattern replacement .contexts) b (replacement-in pattern replacement) i in

@@ -9,11 +9,11 @@ use lib.ListN.{length, take, drop}
 use Rattle.hyperlmntal.specs.Link.{_∈_}
 use Rattle.rows.specs.Pick.{pick}
 use Rattle.rows.specs.Format.{rowWidth}
-use Rattle.rows.specs.Limits.{sheetAtoms, sheetLinks, sheetMarks}
+use Rattle.rows.specs.Limits.{sheetAtoms, sheetLinks, sheetMarks, markRoom}
 use Rattle.rows.specs.Held.{Held}
 use Rattle.rows.specs.Packed.{portTable}
 use Rattle.rows.proofs.Padding.{length-padded, take-padded}
-use Rattle.sheet.specs.Filling.{isPassed, Passes}
+use Rattle.sheet.specs.Filling.{isPassed}
 use Rattle.reading.specs.Graph.{graphOf}
 use Rattle.reading.specs.NormalSheet.{normalMarks, packedNormal}
 use Rattle.normalising.specs.NormalText.{textOf, slipLength}
@@ -32,8 +32,10 @@ use Rattle.placing.specs.Fillings.{Filling, Fits, normalFillingsOf}
 use Rattle.placing.specs.Filled.{filledGraph, filledNormal}
 use Rattle.placing.specs.ListText.{listText}
 use Rattle.placing.specs.Smallest.{smallest, sameList}
+use Rattle.placing.specs.ListFits.{ListFits}
+use Rattle.placing.specs.TextNets.{patternHeld, sheetNet, patternNet}
 use Rattle.placing.proofs.Chosen.{chosen-fillings}
-use Rattle.placing.proofs.ListBack.{ListFits, list-passes}
+use Rattle.placing.proofs.ListBack.{list-passes}
 use Rattle.placing.proofs.PlacedText.{text-fits}
 use Rattle.placing.proofs.SmallestLaws.{smallest-good}
 use Rattle.network.specs.NetIn.{netIn}
@@ -48,25 +50,15 @@ use Rattle.answers.specs.declared.outcome.Done.the-variants as done
 use Rattle.filling.specs.Filled.{FilledIs}
 use Rattle.filling.proofs.Back.{placed-back}
 use Rattle.filling.proofs.ReadAsFigure.{replacement-figure}
-use Rattle.finding.specs.Place.{patternHeld, sheetNet, patternNet, placedFillings}
+use Rattle.finding.specs.Place.{placedFillings}
 use Rattle.finding.proofs.PlaceCode.{sheet-is, pattern-is, inputs-ready, none-found, chosen, foundPlacing, foundFillings, some-found, found-text}
 use Rattle.swapping.specs.Swap.{replacementRead, replacementHeld, sameMarks, swappedAnswer, swappedText, swapAnswer, swapSlip}
 use Rattle.swapping.specs.Inputs.{SwapInputs, swapRead, swapText}
 use Rattle.swapping.specs.Given.{GivenPart}
+use Rattle.swapping.specs.FilledFrom.{FilledInputs, filledDone, PlacingSwaps}
 use Rattle.swapping.proofs.ReplacementBlanks.{replacement-covered}
 use Rattle.swapping.proofs.ListWhole.{written-lacks, written-exact}
 use Rattle.swapping.proofs.GivenPart.{given-part}
-
--- A list that passed, and no 8 and no 9 over whole texts.
-pub record FilledInputs (figure : form.Sheet) (list figureText : List ℕ) : Type 0 where
-  pub of-figure : figure ≡ packedNormal (figureHeld figureText)
-  pub passes : Passes list
-  pub none-lacking : firstLacking (listHeld list .contexts) (figureHeld figureText .contexts) ≡ 0
-  pub none-differing : firstDiffering list (listHeld list .contexts) ≡ 0
-
--- What filling then answers.
-abbrev pub filledDone : List ℕ → List ℕ → Done
-filledDone figure list = pick (tooLarge (filledBy figure list)) done.TooLarge (done.Written (length (filledText figure list)))
 
 -- A filled figure, where it is written or too large.
 module _ (figure : form.Sheet) (list text : List ℕ) (I : FilledInputs figure list text) (r : form.Sheet)
@@ -93,14 +85,6 @@ module _ (figure : form.Sheet) (list text : List ℕ) (I : FilledInputs figure l
     pub done-slip : (n : ℕ) → n ≡ length (normalRows r) → (slip : List ℕ) → normalRows r ++ drop (length (normalRows r)) slip ≡ filledText text list ++ drop n slip
     done-slip n e slip = ap₂ (λ (t : List ℕ) (k : ℕ). t ++ drop k slip) (filled .rows few narrow) (sym e)
 
--- The list of what was found, from which the replacement is filled.
-pub record PlacingSwaps (sheet pattern replacement : form.Sheet) (links given s p q : List ℕ) : Type 0 where
-  pub list : List ℕ
-  pub fills : FilledInputs replacement list q
-  pub answer : filledDone q list ≡ swapRead s p q
-  pub text : filledText q list ≡ swapText s p q
-  pub parts : (c : NetCell) → c ∈ netIn pattern .contexts → GivenPart sheet links given list c
-
 module _ (sheet pattern replacement : form.Sheet) (s p q : List ℕ) (I : SwapInputs sheet pattern replacement s p q) where
   abbrev ports : List ℕ
   ports = portTable (patternHeld p .contexts)
@@ -109,14 +93,14 @@ module _ (sheet pattern replacement : form.Sheet) (s p q : List ℕ) (I : SwapIn
   R = replacementHeld p q
 
   -- The marks of the two figures.
-  pub marks-room : (replacement .«mark_count» ≤ sheetMarks) × (pattern .«mark_count» ≤ sheetMarks) × (length (replacement .marks) ≡ sheetMarks + 1) × (length (pattern .marks) ≡ sheetMarks + 1)
+  pub marks-room : (replacement .«mark_count» ≤ sheetMarks) × (pattern .«mark_count» ≤ sheetMarks) × (length (replacement .marks) ≡ markRoom) × (length (pattern .marks) ≡ markRoom)
   marks-room =
       let r = fit-read Replacement ports q refl .mark-count in
       let f = fit-read Pattern noPorts p refl .mark-count in (
         subst (λ (m : form.Sheet). m .«mark_count» ≤ sheetMarks) (sym (I .of-replacement)) r,
         subst (λ (m : form.Sheet). m .«mark_count» ≤ sheetMarks) (sym (I .placed .of-pattern)) f,
-        subst (λ (m : form.Sheet). length (m .marks) ≡ sheetMarks + 1) (sym (I .of-replacement)) (length-padded (sheetMarks + 1) 0 (normalMarks R) (omega (arith, r))),
-        subst (λ (m : form.Sheet). length (m .marks) ≡ sheetMarks + 1) (sym (I .placed .of-pattern)) (length-padded (sheetMarks + 1) 0 (normalMarks (patternHeld p)) (omega (arith, f))),
+        subst (λ (m : form.Sheet). length (m .marks) ≡ markRoom) (sym (I .of-replacement)) (length-padded markRoom 0 (normalMarks R) (omega (arith, r))),
+        subst (λ (m : form.Sheet). length (m .marks) ≡ markRoom) (sym (I .placed .of-pattern)) (length-padded markRoom 0 (normalMarks (patternHeld p)) (omega (arith, f))),
       )
 
   module _ (b : Bool) (B : b ≡ sameList (take (replacement .«mark_count») (replacement .marks)) (take (pattern .«mark_count») (pattern .marks))) where
@@ -124,7 +108,7 @@ module _ (sheet pattern replacement : form.Sheet) (s p q : List ℕ) (I : SwapIn
     marks-same =
         B
         ∙ ap₂ (λ (x y : form.Sheet). sameList (take (x .«mark_count») (x .marks)) (take (y .«mark_count») (y .marks))) (I .of-replacement) (I .placed .of-pattern)
-        ∙ ap₂ sameList (take-padded (sheetMarks + 1) 0 (normalMarks R)) (take-padded (sheetMarks + 1) 0 (normalMarks (patternHeld p)))
+        ∙ ap₂ sameList (take-padded markRoom 0 (normalMarks R)) (take-padded markRoom 0 (normalMarks (patternHeld p)))
 
     by-marks : (t : Bool) → b ≡ t → pick t (swappedAnswer (graphOf R) (placedFillings s p)) (done.EdgeDiffers 3 0) ≡ swapRead s p q
     by-marks t e = ap (λ c. pick c (swappedAnswer (graphOf R) (placedFillings s p)) (done.EdgeDiffers 3 0)) (sym e ∙ marks-same)

@@ -9,7 +9,8 @@ use Rattle.rows.specs.declared.Sheet as form
 use Rattle.sheet.specs.declared.answer.Answer.the-variants.{Passed}
 use Rattle.answers.specs.declared.outcome.Done.{Done}
 use Rattle.answers.specs.declared.outcome.Done.the-variants as done
-use Rattle.finding.specs.Place.{patternHeld, placedFillings}
+use Rattle.placing.specs.TextNets.{patternHeld}
+use Rattle.finding.specs.Place.{placedFillings}
 use Rattle.finding.specs.Inputs.{PlaceInputs}
 use Rattle.swapping.specs.Swap.{replacementRead, replacementHeld, sameMarks, swappedAnswer, swappedText}
 

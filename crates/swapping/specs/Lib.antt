@@ -1,3 +1,4 @@
 pub mod Swap
 pub mod Inputs
 pub mod Given
+pub mod FilledFrom

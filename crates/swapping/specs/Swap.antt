@@ -17,11 +17,12 @@ use Rattle.sheet.specs.declared.kind.Kind.the-variants.{Plain, Pattern, Replace
 use Rattle.placing.specs.Fillings.{Filling}
 use Rattle.placing.specs.Filled.{filledGraph, filledNormal}
 use Rattle.placing.specs.Smallest.{sameList}
+use Rattle.placing.specs.TextNets.{patternHeld}
 use Rattle.answers.specs.Done.{slipAfter}
 use Rattle.filling.specs.Fill.{unless, tooLarge}
 use Rattle.answers.specs.declared.outcome.Done.{Done}
 use Rattle.answers.specs.declared.outcome.Done.the-variants as done
-use Rattle.finding.specs.Place.{patternHeld, placedFillings}
+use Rattle.finding.specs.Place.{placedFillings}
 
 -- a replacement is read with the port counts of the pattern's blanks
 abbrev pub replacementRead : List ℕ → List ℕ → Outcome

@@ -16,7 +16,7 @@ ghost use mathlib.Core.List.{List, map};
 ghost use Prim.Native.Nat.{ℕ, _+_, _<_, _≤_};
 ghost use lib.ListN.{length, take};
 ghost use Rattle.hyperlmntal.specs.Link.{_∈_};
-ghost use Rattle.rows.specs.Limits.{sheetAtoms, figureContexts};
+ghost use Rattle.rows.specs.Limits.{sheetAtoms, figureContexts, atomRoom};
 ghost use Rattle.reading.specs.NormalSheet.{packedNormal};
 ghost use Rattle.numbering.specs.Numbering.{numbering, noNumbers, withClasses};
 ghost use Rattle.placing.specs.Net.{NetCell, cellLinks};
@@ -41,7 +41,7 @@ fn with_given(
     given: &[u16],
     number: u16,
 ) -> Whole
-    requires { ⌜ Fit sheet × (length (now given) ≡ sheetAtoms) × (p ≤ figureContexts) × (whole .count ≤ sheetAtoms + 1) × (numbering (now numbers) (now numbered) ≡ noNumbers) ⌝ }
+    requires { ⌜ Fit sheet × (length (now given) ≡ sheetAtoms) × (p ≤ figureContexts) × (whole .count ≤ atomRoom) × (numbering (now numbers) (now numbered) ≡ noNumbers) ⌝ }
     ensures { λ _. ⌜ numbering (now (numbers .exit)) (now (numbered .exit)) ≡ withClasses noNumbers (cellLinks (givenCells sheet (now (given .entry)) number)) ⌝ }
     ensures { λ r. ⌜ ((later : List ℕ) → Grown whole r (map (placedCell p (numberIn (withClasses (numbering (now (numbers .exit)) (now (numbered .exit))) later .numbers))) (givenCells sheet (now (given .entry)) number))) ⌝ }
 {
@@ -94,7 +94,7 @@ fn whole_given<'a>(
     given: &'a [u16],
     labels: &mut [u16; PLACES],
 ) -> Whole
-    requires { ⌜ ContextsRanged contexts count × (own .count ≤ sheetAtoms + 1) × Own (now labels) ⌝ }
+    requires { ⌜ ContextsRanged contexts count × (own .count ≤ atomRoom) × Own (now labels) ⌝ }
     requires { ⌜ Ready sheet pattern × LinksIn sheet pattern (now «links_to») × (length (now given) ≡ sheetAtoms) × Covered pattern contexts count ⌝ }
     ensures { λ r. ⌜ ((list : List ℕ) → ((c : NetCell) → c ∈ netIn pattern .contexts → GivenPart sheet (now («links_to» .entry)) (now (given .entry)) list c) → Puts list own (take count contexts) (now (labels .entry)) (now (labels .exit)) r) ⌝ }
 {

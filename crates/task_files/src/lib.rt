@@ -1,52 +1,83 @@
-// What the programs share: a text from the file that an argument names, the row of an answer, and the
-// tasks run on files.
-pub mod runs;
-
-use answers::TaskAnswer;
-use answers::of_normalised;
-use answers::row::answer_row;
-use libc::STDOUT_FILENO;
-use normalising::normalise::Normalised;
+// What the programs share: a text read from a file.
 ghost use Rattle.io.specs.Counts.{Counts};
 
-// Opens the file that argument k names or, where there is no such argument, the file of this name,
-// and answers a descriptor; or says on standard error what is wrong, and answers -1 or less.
-pub fn open_input(k: usize, name: &[u8]) -> i32 {
+// What was read of a file: so many bytes; or its reading failed, which standard error says.
+pub struct Input {
+    pub bytes: usize,
+    pub failed: bool,
+}
+
+// Reads the open file until it ends or the text is full; a read that fails answers a negative number.
+fn read_open(fd: i32, text: &mut [u8]) -> Input
+    ensures { λ r. ⌜ Counts (r .bytes) (now (text .exit)) ⌝ }
+{
+    let mut bytes = 0;
+    while bytes < text.len() {
+        let got = libc::read(fd, &mut text[bytes..]);
+        let more = io::count(got, &text[bytes..]);
+        if more == 0 {
+            return Input {
+                bytes,
+                failed: got < 0,
+            };
+        }
+        bytes += more;
+    }
+    Input {
+        bytes,
+        failed: false,
+    }
+}
+
+// Reads the file of this name until it ends or the text is full.
+fn read_file(name: &[u8], text: &mut [u8]) -> Input
+    ensures { λ r. ⌜ Counts (r .bytes) (now (text .exit)) ⌝ }
+{
+    let fd = os::open_read(name);
+    if fd < 0 {
+        os::fail(name);
+        return Input {
+            bytes: 0,
+            failed: true,
+        };
+    }
+    let input = read_open(fd, text);
+    if input.failed {
+        os::fail(name);
+    }
+    libc::close(fd);
+    input
+}
+
+// Reads the file that argument k names or, where there are not so many arguments, the file of this name.
+pub fn read_input(k: usize, name: &[u8], text: &mut [u8]) -> Input
+    ensures { λ r. ⌜ Counts (r .bytes) (now (text .exit)) ⌝ }
+{
+    if k >= os::arg_count() {
+        return read_file(name, text);
+    }
     let mut path = io::buffer();
     let n = os::arg(k, &mut path);
-    if n == 0 {
-        let fd = os::open_read(name);
-        if fd < 0 {
-            os::fail(name);
-        }
-        return fd;
+    // An argument that is longer than any path.
+    if os::errno() != 0 {
+        os::fail(&path);
+        return Input {
+            bytes: 0,
+            failed: true,
+        };
     }
-    let fd = os::open_read(&path[..n]);
-    if fd < 0 {
-        os::fail(&path[..n]);
-    }
-    fd
+    read_file(&path[..n], text)
 }
 
-// Reads the open file into the buffer as far as it goes, closes it, and answers how many bytes it read.
-pub fn read_input(fd: i32, text: &mut [u8]) -> usize
-    ensures { λ r. ⌜ Counts r (now (text .exit)) ⌝ }
+// Reads the file of this name; where there is no name, the text is empty.
+pub fn read_named(name: &[u8], text: &mut [u8]) -> Input
+    ensures { λ r. ⌜ Counts (r .bytes) (now (text .exit)) ⌝ }
 {
-    let n = io::read_full(fd, text);
-    libc::close(fd);
-    n
-}
-
-// The answer's row, and the bytes that were written.
-pub fn print_answer(answer: TaskAnswer, out: &[u8]) {
-    let line = answer_row(answer.number, answer.input, answer.row);
-    io::write_all(STDOUT_FILENO, &line);
-    let n = answer.bytes;
-    if n <= out.len() {
-        io::write_all(STDOUT_FILENO, &out[..n]);
+    if name.len() == 0 {
+        return Input {
+            bytes: 0,
+            failed: false,
+        };
     }
-}
-
-pub fn print_normalised(done: Normalised, out: &[u8]) {
-    print_answer(of_normalised(done), out);
+    read_file(name, text)
 }

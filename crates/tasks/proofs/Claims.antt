@@ -13,14 +13,16 @@ use Rattle.reading.specs.Graph.{graphOf, termOfText}
 use Rattle.sheet.specs.Reading.{noPorts}
 use Rattle.sheet.specs.declared.kind.Kind.the-variants.{Fillings}
 use Rattle.sheet.proofs.read.HeldLimits.{held-within}
-use Rattle.placing.specs.Net.{Net, normalNet, NormalSheet}
+use Rattle.placing.specs.Net.{Net, NormalSheet}
 use Rattle.placing.specs.Placing.{Placing, Good}
 use Rattle.placing.specs.Holding.{holdingTerm}
 use Rattle.placing.specs.Filled.{filledGraph}
 use Rattle.placing.specs.Smallest.{smallest}
+use Rattle.placing.specs.Fillings.{AllExactMarks}
+use Rattle.placing.specs.TextNets.{sheetHeld, sheetNet}
 use Rattle.placing.proofs.Theorems.{sheet-net}
 use Rattle.placing.proofs.TextPlacing.{text-net}
-use Rattle.placing.proofs.FilledText.{AllExactMarks, filled-same}
+use Rattle.placing.proofs.FilledText.{filled-same}
 use Rattle.placing.proofs.Sheets.{sheets-placing}
 use Rattle.placing.proofs.SmallestLaws.{smallest-good, smallest-none}
 use Rattle.placing.proofs.PlacedText.{text-small}
@@ -29,7 +31,6 @@ use Rattle.filling.specs.Fill.{figureHeld, tooLarge}
 use Rattle.filling.proofs.Exact.{all-exact}
 use Rattle.filling.proofs.ResultNet.{Atoms, result-sheet, result-term}
 use Rattle.filling.proofs.Answers.{rowed}
-use Rattle.finding.specs.Place.{sheetHeld}
 use Rattle.claiming.specs.Claim.{filledNet, placedClaim, claimedAnswer, claimAnswer}
 use Rattle.answers.specs.declared.outcome.Claimed.the-variants.{Holds, Differs}
 use Rattle.claiming.proofs.Listed.{listed-atoms}
@@ -39,7 +40,7 @@ use Rattle.tasks.proofs.Large.{not-large}
 
 module _ (sheet figure list : List ℕ) (ok : ClaimPassed sheet figure list) where
   abbrev S : Net
-  S = normalNet (sheetHeld sheet)
+  S = sheetNet sheet
 
   abbrev G : Flat ℕ
   G = filledGraph (graphOf (figureHeld figure)) (fillingsRead list)

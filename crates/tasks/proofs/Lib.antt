@@ -8,6 +8,7 @@ pub mod Room
 -- The tasks.
 pub mod Claims
 pub mod Places
+pub mod WrittenFillings
 pub mod Swapping
 pub mod Passing
 pub mod SlipLaws

@@ -16,7 +16,8 @@ use Rattle.filling.specs.Fill.{unless, figureHeld, firstLacking, firstDiffering
 use Rattle.answers.specs.Done.{doneInput}
 use Rattle.answers.specs.declared.outcome.Done.{Done}
 use Rattle.answers.specs.declared.outcome.Done.the-variants as done
-use Rattle.finding.specs.Place.{patternHeld, placeAnswer}
+use Rattle.placing.specs.TextNets.{patternHeld}
+use Rattle.finding.specs.Place.{placeAnswer}
 use Rattle.finding.specs.Passed.{PlacePassed}
 use Rattle.claiming.specs.Claim.{claimUnless, claimedAnswer, claimAnswer}
 use Rattle.answers.specs.Claimed.{claimedInput}

@@ -14,15 +14,17 @@ use Rattle.reading.specs.Graph.{termOfText}
 use Rattle.normalising.specs.NormalText.{slipLength}
 use Rattle.sheet.specs.Reading.{Outcome, outcomeOf, noPorts}
 use Rattle.sheet.specs.declared.kind.Kind.the-variants.{Pattern, Figure}
-use Rattle.sheet.proofs.read.Ranges.{Every}
+use Rattle.sheet.specs.HeldLimits.{Every}
 use Rattle.placing.specs.Placing.{Placing, Good}
 use Rattle.placing.specs.Fillings.{Filling, byNumber, fillingFor, fillingsOf, normalFilling, normalFillingsOf}
 use Rattle.placing.specs.Holding.{holdingTerm}
 use Rattle.placing.specs.ListText.{listText}
 use Rattle.placing.specs.Smallest.{smallest}
+use Rattle.placing.specs.ListFits.{ListFits}
+use Rattle.placing.specs.TextNets.{sheetHeld, patternHeld, sheetNet, patternNet}
+use Rattle.placing.specs.Net.{blankOf}
 use Rattle.placing.proofs.Theorems.{sheet-net, pattern-net}
 use Rattle.placing.proofs.Chosen.{chosen-none, chosen-fillings}
-use Rattle.placing.proofs.ListBack.{ListFits}
 use Rattle.placing.proofs.SmallestLaws.{smallest-good}
 use Rattle.placing.proofs.PlacedText.{text-fits}
 use Rattle.answers.specs.Done.{doneBytes, slipAfter}
@@ -31,14 +33,14 @@ use Rattle.filling.specs.Fill.{figureHeld, firstLacking}
 use Rattle.answers.specs.declared.outcome.Done.the-variants as done
 use Rattle.filling.proofs.Back.{placed-back}
 use Rattle.filling.proofs.ReadAsFigure.{pattern-figure}
-use Rattle.finding.specs.Place.{sheetHeld, patternHeld, fillingsIn, placedFillings, placedAnswer, placedText, placeAnswer, placeSlip, sheetNet, patternNet}
+use Rattle.finding.specs.Place.{fillingsIn, placedFillings, placedAnswer, placedText, placeAnswer, placeSlip}
 use Rattle.finding.specs.Passed.{PlacePassed}
 use Rattle.finding.proofs.Blanks.{Covering, pattern-covered}
 use Rattle.claiming.specs.Claim.{claimAnswer}
 use Rattle.answers.specs.declared.outcome.Claimed.the-variants.{Holds}
 use Rattle.swapping.proofs.ListWhole.{written-lacks, written-exact}
 use Rattle.tasks.specs.Passed.{ClaimPassed}
-use Rattle.tasks.specs.Demand.{Turning, placeWritten, blankOf, headOf, HandsOut}
+use Rattle.tasks.specs.Demand.{Turning, placeWritten, headOf, HandsOut}
 use Rattle.tasks.proofs.Room.{list-room}
 use Rattle.tasks.proofs.Claims.{claim-congruent}
 

@@ -8,11 +8,11 @@ use Rattle.hyperlmntal.specs.Link.{free, _∈_}
 use Rattle.hyperlmntal.specs.Hypergraph.{Node, inner, Label, symbol, Cell, Flat, nodes, mapCell}
 use Rattle.hyperlmntal.proofs.Lists.{all-map}
 use Rattle.hyperlmntal.proofs.ExactPorts.{ExactFlat, exact-names}
-use Rattle.rows.specs.Format.{mostLinks}
+use Rattle.rows.specs.Format.{mostLinks, mostName}
 use Rattle.rows.specs.Limits.{sheetAtoms, sheetLinks, sheetMarks}
 use Rattle.rows.specs.Held.{Held}
 use Rattle.rows.specs.declared.Atom.{Atom}
-use Rattle.rows.proofs.RowRange.{Within}
+use Rattle.rows.specs.Ranges.{Within}
 use Rattle.reading.specs.Agrees.{Agrees}
 use Rattle.reading.specs.Graph.{atomCell, edgeOf, graphOf}
 use Rattle.reading.specs.Normal.{classOf, marksOf, numberedBy, markedBy, normalFormBy, normalForm}
@@ -21,7 +21,7 @@ use Rattle.sheet.specs.Reading.{outcomeOf, noPorts}
 use Rattle.sheet.specs.declared.kind.Kind.{Kind}
 use Rattle.sheet.specs.declared.kind.Kind.the-variants.{Plain}
 use Rattle.sheet.specs.declared.answer.Answer.the-variants.{Passed}
-use Rattle.sheet.proofs.read.Ranges.{Every, AtomRange, MarkRange, WithinLimits}
+use Rattle.sheet.specs.HeldLimits.{Every, AtomRange, MarkRange, WithinLimits}
 use Rattle.reading.proofs.normal.Distinct.{once-length}
 use Rattle.reading.proofs.normal.Marks.{marks-of}
 use Rattle.reading.proofs.normal.Connected.{edge-links}
@@ -29,15 +29,16 @@ use Rattle.reading.proofs.normal.TextGraph.{graph-name}
 use Rattle.reading.proofs.normal.NormalBounds.{normal-marks}
 use Rattle.reading.proofs.normal.Merging.{among-in}
 use Rattle.texts.proofs.NormalFits.{every-member, upTo, upTo-length, upTo-in, upTo-of}
-use Rattle.texts.proofs.BuiltRows.{Fitting, every-in}
+use Rattle.texts.specs.Fitting.{Fitting}
+use Rattle.texts.proofs.BuiltRows.{every-in}
 use Rattle.texts.proofs.ReadBack.{builtGraph, EdgeAmong, Readable, read-back, graph-back}
 use Rattle.placing.specs.Net.{NetCell, Net, edgeNumbers, netOf, atomVertex, contextVertex}
-use Rattle.placing.specs.Fillings.{symbolRow, Filling}
+use Rattle.placing.specs.Fillings.{symbolRow, Filling, AllExactMarks}
 use Rattle.placing.specs.Filled.{flatEntry, filledGraph, filledNormal}
-use Rattle.placing.proofs.Names.{symbolsIn, exact-flat}
+use Rattle.placing.specs.ListFits.{symbolsIn, ListFits}
+use Rattle.placing.proofs.Names.{exact-flat}
 use Rattle.placing.proofs.Standing.{atom-link, mark-link}
-use Rattle.placing.proofs.FilledText.{AllExactMarks, filled-numbered}
-use Rattle.placing.proofs.ListBack.{ListFits}
+use Rattle.placing.proofs.FilledText.{filled-numbered}
 use Rattle.placing.proofs.NormalRowsFit.{symbol-row}
 use Rattle.filling.proofs.ResultNet.{Atoms, result-sheet, result-graph}
 use Rattle.finding.proofs.Blanks.{Covering}
@@ -45,7 +46,7 @@ use Rattle.claiming.proofs.FilledAtoms.{Each, filled-each, filled-atoms}
 
 -- An atom of a sheet: its name and link count in range.
 abbrev Sized : Label → ℕ → Type 0
-Sized t n = (p : ℕ) × (t ≡ symbol p) × Within 1 p 999 × (n ≤ mostLinks)
+Sized t n = (p : ℕ) × (t ≡ symbol p) × Within 1 p mostName × (n ≤ mostLinks)
 
 module _ (kind : Kind) (h : Held) (w : WithinLimits kind h) (A : Agrees h) (θ : List Filling) (fits : ListFits θ) (exact : AllExactMarks θ) (covered : Every (Covering θ) (h .contexts)) where
   abbrev G : Flat ℕ
@@ -84,14 +85,14 @@ module _ (kind : Kind) (h : Held) (w : WithinLimits kind h) (A : Agrees h) (θ :
       ap (λ (l : List NetCell). record { atoms = map atomVertex (N .atoms) ++ map contextVertex l; fusions = map edgeOf (N .marks) }) (sym (result-sheet G all-atoms .no-contexts))
       ∙ result-graph G all-atoms
 
-  fitting : (c : NetCell) → c ∈ N .atoms → Fitting (upTo (N .links)) 999 c
+  fitting : (c : NetCell) → c ∈ N .atoms → Fitting (upTo (N .links)) mostName c
   fitting c i =
       let m : atomVertex c ∈ normalForm G .atoms = subst (λ (F : Flat ℕ). atomVertex c ∈ F .atoms) (result-graph G all-atoms) (Memᴰ·append-left (map contextVertex (N .contexts)) (Memᴰ·map atomVertex i)) in
       let t = every-member (λ (c : Cell ℕ). Sized (c .label) (length (c .ports))) (normalForm G .atoms) (atomVertex c) form-sized m in
       let e : symbol (c .0) ≡ symbol (t .0) = t .1 in
       let q : c .0 ≡ t .0 = cc in
       record {
-        name = subst (λ n. Within 1 n 999) (sym q) (t .2);
+        name = subst (λ n. Within 1 n mostName) (sym q) (t .2);
         count = omega (arith, t .3, length-map (c .1) inner);
         known = λ x j. let r = atom-link N (result-sheet G all-atoms .normal) c x i j in upTo-in (N .links) x (r .0) (r .1);
       }
@@ -132,7 +133,7 @@ module _ (kind : Kind) (h : Held) (w : WithinLimits kind h) (A : Agrees h) (θ :
             few-joints = omega (arith, upTo-length (N .links), short);
             few-marks = w .marks;
           };
-          symbol-rows = every-in (Fitting (upTo (N .links)) 999) (N .atoms) fitting;
+          symbol-rows = every-in (Fitting (upTo (N .links)) mostName) (N .atoms) fitting;
           blank-rows = tt;
           figure = tt;
           edge-rows = every-in (EdgeAmong (upTo (N .links)) (h .wiring .marks)) (N .marks) (λ e i.

@@ -6,22 +6,20 @@ use native.Mathlib.Omega.{arith}
 use lib.ListN.{length, length-append, length-map}
 use Rattle.hyperlmntal.specs.Link.{_∈_}
 use Rattle.hyperlmntal.specs.Hypergraph.{Node, Label, symbol, hole, Cell, Fusion, Flat, mapCell}
-use Rattle.rows.specs.Format.{rowWidth}
+use Rattle.rows.specs.Format.{mostLinks, rowWidth, mostContext}
 use Rattle.rows.specs.Limits.{sheetAtoms, sheetMarks}
 use Rattle.writing.proofs.RowBytes.{row-width}
 use Rattle.reading.specs.Normal.{classOf, marksOf, numberedBy, markedBy, normalFormBy, normalForm}
 use Rattle.normalising.specs.NormalText.{nodeNumber, cellBytes, edgeBytes, joined, textOf, slipLength}
 use Rattle.placing.specs.Net.{Net, NormalSheet, NormalPattern}
 use Rattle.placing.specs.Placing.{Placing, Good}
-use Rattle.placing.specs.Fillings.{Row, symbolRow, pointRow, edgeRow, Filling, fillingsOf, normalFilling, normalFillingsOf}
+use Rattle.placing.specs.Fillings.{Row, symbolRow, pointRow, edgeRow, Filling, fillingsOf, normalFilling, normalFillingsOf, AllExactMarks}
 use Rattle.placing.specs.ListText.{rowText, rowsText, headText, listText}
-use Rattle.placing.proofs.Names.{symbolsIn}
-use Rattle.placing.proofs.ListBack.{listAtoms, listRows, Ascends, ListFits}
+use Rattle.placing.specs.ListFits.{symbolsIn, listAtoms, listRows, Ascends, ListFits}
 use Rattle.placing.proofs.NormalRowsFit.{normal-symbols, normal-length}
-use Rattle.placing.proofs.FilledText.{AllExactMarks}
 use Rattle.placing.proofs.Theorems.{placing-fillings}
 
--- Every row has 34 bytes.
+-- Every row has the width of a row.
 row-bytes : (r : Row) → length (rowText r) ≡ rowWidth
 row-bytes (symbolRow a l) = row-width 83 (a ∷ length l ∷ l)
 row-bytes (pointRow x y) = row-width 70 (x ∷ y ∷ [])
@@ -39,13 +37,13 @@ list-bytes (f ∷ θ) =
     let h = list-bytes θ in
     omega (arith, length-append (headText f) (rowsText (f .rows) ++ listText θ), length-append (rowsText (f .rows)) (listText θ), row-width 72 (f .number ∷ f .ports ∷ []), rows-bytes (f .rows))
 
--- At most four fillings, whose numbers ascend.
-ascends-length : (n : ℕ) (θ : List Filling) → Ascends n θ → n ≤ 4 → ((f : Filling) → f ∈ θ → f .number ≤ 4) → n + length θ ≤ 4
+-- At most as many fillings as there are blank numbers, since theirs ascend.
+ascends-length : (n : ℕ) (θ : List Filling) → Ascends n θ → n ≤ mostContext → ((f : Filling) → f ∈ θ → f .number ≤ mostContext) → n + length θ ≤ mostContext
 ascends-length n [] a h p = omega arith
 ascends-length n (f ∷ θ) a h p = let b = ascends-length (f .number) θ (a .1) (p f (List·Memᴰ·head refl)) (λ g m. p g (List·Memᴰ·tail m)) in omega (arith, a .0)
 
--- A head, at most six ports, and the atoms.
-normal-rows : (η : List Filling) → AllExactMarks η → ((f : Filling) → f ∈ η → f .ports ≤ 6) → listRows (map normalFilling η) ≤ 7 * length η + length (listAtoms (map normalFilling η))
+-- A head, the ports, and the atoms.
+normal-rows : (η : List Filling) → AllExactMarks η → ((f : Filling) → f ∈ η → f .ports ≤ mostLinks) → listRows (map normalFilling η) ≤ (1 + mostLinks) * length η + length (listAtoms (map normalFilling η))
 normal-rows [] x p = omega arith
 normal-rows (f ∷ η) x p =
     let h = normal-rows η (λ g m. x g (List·Memᴰ·tail m)) (λ g m. p g (List·Memᴰ·tail m)) in

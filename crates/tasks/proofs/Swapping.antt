@@ -26,6 +26,7 @@ use Rattle.placing.specs.Fillings.{Filling}
 use Rattle.placing.specs.Holding.{holdingTerm}
 use Rattle.placing.specs.Filled.{filledGraph, filledNormal}
 use Rattle.placing.specs.ListText.{listText}
+use Rattle.placing.specs.TextNets.{patternHeld}
 use Rattle.placing.proofs.FilledText.{filled-text}
 use Rattle.answers.specs.Done.{slipAfter}
 use Rattle.filling.specs.Read.{listHeld}
@@ -33,7 +34,7 @@ use Rattle.filling.specs.Fill.{tooLarge, figureHeld, firstLacking, filledText, 
 use Rattle.answers.specs.declared.outcome.Done.the-variants as done
 use Rattle.filling.proofs.ResultNet.{Atoms, result-atoms}
 use Rattle.filling.proofs.ReadAsFigure.{replacement-figure}
-use Rattle.finding.specs.Place.{patternHeld, placedFillings, placedAnswer, placeAnswer}
+use Rattle.finding.specs.Place.{placedFillings, placedAnswer, placeAnswer}
 use Rattle.claiming.proofs.FilledAtoms.{filled-atoms}
 use Rattle.swapping.specs.Swap.{replacementHeld, swappedAnswer, swappedText, swapAnswer, swapSlip}
 use Rattle.swapping.proofs.ReplacementBlanks.{replacement-covered}

@@ -10,19 +10,21 @@ use Rattle.normalising.specs.NormalText.{slipLength, normalisedAnswer, normalis
 use Rattle.sheet.specs.declared.kind.Kind.{Kind}
 use Rattle.placing.specs.Fillings.{Filling}
 use Rattle.placing.specs.Holding.{holdingTerm}
+use Rattle.placing.specs.TextNets.{sheetHeld, patternNet}
 use Rattle.filling.specs.Read.{fillingsRead}
 use Rattle.answers.specs.Done.{doneNumber, doneInput}
 use Rattle.filling.specs.Fill.{figureHeld, fillAnswer, fillSlip}
 use Rattle.answers.specs.declared.outcome.Done.the-variants as done
-use Rattle.finding.specs.Place.{sheetHeld, placeAnswer, placeSlip}
+use Rattle.finding.specs.Place.{placeAnswer, placeSlip}
 use Rattle.finding.specs.Passed.{PlacePassed}
 use Rattle.claiming.specs.Claim.{claimAnswer}
 use Rattle.answers.specs.Claimed.{claimedInput}
 use Rattle.answers.specs.declared.outcome.Claimed.the-variants.{Holds, Differs}
 use Rattle.swapping.specs.Swap.{swapAnswer, swapSlip}
 use Rattle.tasks.specs.Passed.{SwapPassed, ClaimPassed}
-use Rattle.tasks.specs.Demand.{Turning, placeWritten, HandsOut, Swaps}
+use Rattle.tasks.specs.Demand.{Turning, Written, placeWritten, HandsOut, Swaps}
 use Rattle.tasks.proofs.Places as Places
+use Rattle.tasks.proofs.WrittenFillings as WrittenFillings
 use Rattle.tasks.proofs.Claims as Claims
 use Rattle.tasks.proofs.Swapping as Swapping
 use Rattle.tasks.proofs.Passing as Passing
@@ -35,10 +37,19 @@ module _ (sheet pattern : List ℕ) (ok : PlacePassed sheet pattern) (slip : Lis
   pub place-none : (placeAnswer sheet pattern (length slip) ≡ done.NoPlacing) ↔ (((θ : List Filling) × Turning sheet pattern θ) → ⊥)
   place-none = Places.place-none sheet pattern ok (length slip) full
 
+  -- The same for fillings exactly as 'Words of demand 3' has them: rows within the table's ranges, one filling for each blank and none
+  -- besides.
+  pub place-none-written : (placeAnswer sheet pattern (length slip) ≡ done.NoPlacing) ↔ (((θ : List Filling) × Written (patternNet pattern) θ × Turning sheet pattern θ) → ⊥)
+  place-none-written = WrittenFillings.place-none-written sheet pattern ok slip full
+
   -- 'In every other case it hands out the fillings that document 01 chooses, one for each blank with exactly its ports as marks, and the
   -- figure holding them is the same as that sheet.'
   pub place-writes : ¬ (placeAnswer sheet pattern (length slip) ≡ done.NoPlacing) → (θ : List Filling) × HandsOut sheet pattern slip θ
   place-writes other = Places.place-writes sheet pattern ok slip full other
+
+  -- These are so written too.
+  pub handed-written : (θ : List Filling) → HandsOut sheet pattern slip θ → Written (patternNet pattern) θ
+  handed-written θ handed = WrittenFillings.handed-written sheet pattern ok slip θ handed
 
   -- 'place ends in 0 or 11'
   pub place-ends : ((bytes : ℕ) × (placeAnswer sheet pattern (length slip) ≡ done.Written bytes)) ⊎ (placeAnswer sheet pattern (length slip) ≡ done.NoPlacing)

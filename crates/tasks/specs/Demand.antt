@@ -2,44 +2,58 @@
 use Prim.Native.Nat.{ℕ, _≤_, _<_}
 use mathlib.Core.Path.{_≡_}
 use mathlib.Core.Logic.{_⊎_, _↔_}
-use mathlib.Core.List.{List, _++_, map}
+use mathlib.Core.List.{List, [], _∷_, _++_, map}
 use mathlib.Core.Option.{some}
 use lib.ListN.{length, take, drop}
+use Rattle.hyperlmntal.specs.Link.{_∈_}
 use Rattle.hyperlmntal.specs.Congruence.{_≅_}
 use Rattle.hyperlmntal.specs.Hypergraph.{Flat}
+use Rattle.rows.specs.Format.{mostLinks, mostName}
 use Rattle.rows.specs.Limits.{sheetAtoms, sheetLinks}
 use Rattle.reading.specs.Graph.{graphOf, termOfText}
 use Rattle.normalising.specs.NormalText.{textOf, slipLength}
 use Rattle.sheet.specs.Reading.{outcomeOf, noPorts}
 use Rattle.sheet.specs.declared.kind.Kind.the-variants.{Plain, Fillings}
 use Rattle.sheet.specs.declared.answer.Answer.the-variants.{Passed}
-use Rattle.placing.specs.Net.{NetCell, netOf}
+use Rattle.placing.specs.Net.{Net, Range, netOf, blankOf}
 use Rattle.placing.specs.Placing.{Placing}
-use Rattle.placing.specs.Fillings.{Filling, Fits, byNumber, normalFillingsOf}
+use Rattle.placing.specs.Fillings.{symbolRow, Filling, Fits, byNumber, normalFillingsOf}
 use Rattle.placing.specs.Holding.{holdingTerm}
 use Rattle.placing.specs.Filled.{filledNormal}
 use Rattle.placing.specs.ListText.{listText}
 use Rattle.placing.specs.Smallest.{smallest}
+use Rattle.placing.specs.TextNets.{sheetHeld, patternHeld, sheetNet, patternNet}
 use Rattle.answers.specs.Done.{doneBytes}
 use Rattle.filling.specs.Read.{fillingsRead}
 use Rattle.answers.specs.declared.outcome.Done.the-variants as done
-use Rattle.finding.specs.Place.{sheetHeld, patternHeld, sheetNet, patternNet, placeAnswer, placeSlip}
+use Rattle.finding.specs.Place.{placeAnswer, placeSlip}
 use Rattle.swapping.specs.Swap.{replacementHeld, swapAnswer, swapSlip}
 
 -- 'fillings of any size, each with exactly its blank's ports as marks, that turn the figure into that sheet under E1 to E10'
 abbrev pub Turning : List ℕ → List ℕ → List Filling → Type 0
 Turning sheet pattern θ = Fits (patternNet pattern) θ × (holdingTerm (termOfText (patternHeld pattern)) θ ≅ termOfText (sheetHeld sheet))
 
+-- the number and the port count of an H row
+abbrev pub headOf : Filling → ℕ × ℕ
+headOf f = (f .number, f .ports)
+
+-- numbers that are pairwise different
+abbrev pub Different : List ℕ → Type 0
+Different [] = Unit {0}
+Different (n ∷ l) = (¬ (n ∈ l)) × Different l
+
+-- 'Fillings of any size are S, F and E rows in any number, with joint numbers from 1 without end, read as terms: one filling for each
+-- blank, its marks exactly that blank's ports'. That each blank has its filling, the joint numbers and the marks are in `Fits`.
+pub record Written (F : Net) (θ : List Filling) : Type 0 where
+  -- '`S` symbol: name 1..999, joint count n 0..6, then n joints'
+  pub symbols : (f : Filling) → f ∈ θ → (name : ℕ) (joints : List ℕ) → symbolRow name joints ∈ f .rows → Range mostName name × (length joints ≤ mostLinks)
+  -- one filling for each blank: no two for one blank, and none besides
+  pub different : Different (map (λ (f : Filling). f .number) θ)
+  pub of-blank : (f : Filling) → f ∈ θ → headOf f ∈ map blankOf (F .contexts)
+
 -- the bytes that place wrote
 abbrev pub placeWritten : List ℕ → List ℕ → List ℕ → List ℕ
 placeWritten sheet pattern slip = take (doneBytes (placeAnswer sheet pattern (length slip))) (placeSlip sheet pattern slip)
-
--- the number and the port count of a blank, and of an H row
-abbrev pub blankOf : NetCell → ℕ × ℕ
-blankOf c = (c .0, length (c .1))
-
-abbrev pub headOf : Filling → ℕ × ℕ
-headOf f = (f .number, f .ports)
 
 -- 'it hands out the fillings that document 01 chooses, one for each blank with exactly its ports as marks, and the figure holding
 -- them is the same as that sheet'

@@ -8,7 +8,7 @@ use Rattle.sheet.specs.declared.kind.Kind.the-variants.{Plain, Figure, Fillings
 use Rattle.sheet.specs.declared.answer.Answer.the-variants.{Passed}
 use Rattle.filling.specs.Read.{listHeld}
 use Rattle.filling.specs.Fill.{figureHeld, firstLacking, firstDiffering}
-use Rattle.finding.specs.Place.{patternHeld}
+use Rattle.placing.specs.TextNets.{patternHeld}
 use Rattle.finding.specs.Passed.{PlacePassed}
 use Rattle.swapping.specs.Swap.{replacementRead, replacementHeld, sameMarks}
 

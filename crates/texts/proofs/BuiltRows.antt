@@ -11,31 +11,30 @@ use lib.ListN.{length, getD, replicate, take, length-append}
 use Rattle.hyperlmntal.specs.Link.{_∈_}
 use Rattle.hyperlmntal.specs.Hypergraph.{inner, symbol, hole, Cell}
 use Rattle.rows.specs.Pick.{and}
-use Rattle.rows.specs.Format.{mostLinks}
-use Rattle.rows.specs.Limits.{rowLimit, figureContexts, sheetAtoms, sheetMarks}
+use Rattle.rows.specs.Format.{mostLinks, mostName, mostNumber, mostContext, atomLetter, contextLetter, fusionLetter, edgeLetter, headLetter}
+use Rattle.rows.specs.Limits.{rowLimit, figureContexts, sheetAtoms}
 use Rattle.rows.specs.Row.{rowWith, rowOf}
 use Rattle.writing.specs.RowText.{rowBytes}
 use Rattle.rows.specs.Held.{Held, withLinks, merged, withFusion, withAtom, withContext, withFusionRow, withEdgeRow, withHead, withRow}
 use Rattle.rows.specs.Packed.{padded, portsOf}
 use Rattle.rows.specs.declared.Atom.{Atom}
 use Rattle.rows.specs.declared.Context.{Context}
+use Rattle.rows.specs.Ranges.{Within}
 use Rattle.rows.proofs.Padding.{take-padded}
-use Rattle.rows.proofs.RowRange.{Within}
 use Rattle.linking.proofs.Wired.{links-marks, mark-links}
-use Rattle.sheet.specs.Kinds.{isFigure, isList, atomLimit, linkLimit}
+use Rattle.sheet.specs.Kinds.{isFigure, isList, atomLimit}
 use Rattle.normalising.specs.NormalText.{nodeNumber, cellBytes}
 use Rattle.sheet.specs.Reading.{strange, lastNumber, clashOf, clashes, readFrom}
 use Rattle.sheet.specs.declared.kind.Kind.{Kind}
 use Rattle.sheet.specs.declared.kind.Kind.the-variants.{Fillings}
-use Rattle.sheet.proofs.read.Ranges.{Every, LinkRange, MarkRange}
+use Rattle.sheet.specs.HeldLimits.{Every}
+use Rattle.sheet.proofs.kind.KindLaws.{common-letters}
+use Rattle.texts.specs.Fitting.{Vertex, Stock, Fitting}
 use Rattle.texts.proofs.Went.{Went, went-none, went-then, row-read}
 use Rattle.texts.proofs.Few.{Few, few-length, few-links, few-mark}
 use Rattle.texts.proofs.RowBack.{symbol-back, context-back, fusion-back, edge-back, head-back}
 
--- A vertex to be written: its name or number, and its joints.
-abbrev pub Vertex : Type 0
-Vertex = ℕ × List ℕ
-
+-- The vertex of an S row and of a B row.
 abbrev pub symbolCell : Vertex → Cell ℕ
 symbolCell v = record { label = symbol (v .0); ports = map inner (v .1) }
 
@@ -70,19 +69,6 @@ symbol-bytes v = rw (numbers-back (v .1), length-inner (v .1))
 pub blank-bytes : (v : Vertex) → cellBytes (blankCell v) ≡ rowBytes 66 (v .0 ∷ length (v .1) ∷ v .1)
 blank-bytes v = rw (numbers-back (v .1), length-inner (v .1))
 
--- The joints and marks that a text, or one filling of a list, may have: in range, and no more than the limits of its kind.
-pub record Stock (kind : Kind) (joints marks : List ℕ) : Type 0 where
-  pub joint-range : (x : ℕ) → x ∈ joints → LinkRange x
-  pub mark-range : (m : ℕ) → m ∈ marks → MarkRange m
-  pub few-joints : length joints ≤ linkLimit kind
-  pub few-marks : length marks ≤ sheetMarks
-
--- A vertex of such a text, its name or number at most so high.
-pub record Fitting (joints : List ℕ) (high : ℕ) (v : Vertex) : Type 0 where
-  pub name : Within 1 (v .0) high
-  pub count : length (v .1) ≤ mostLinks
-  pub known : (x : ℕ) → x ∈ v .1 → x ∈ joints
-
 -- What is held, in a list since its last head, has these joints and marks alone; a list has a head.
 pub record Stocked (kind : Kind) (joints marks : List ℕ) (h : Held) : Type 0 where
   pub own-joints : Few joints (h .wiring .links)
@@ -101,13 +87,13 @@ abbrev pub heldHead : ℕ → ℕ → ℕ → Context
 heldHead number ports row = record { number = number; count = ports; links = replicate mostLinks 0; row = row }
 
 -- H
-pub went-head : (pattern : List ℕ) (number ports : ℕ) (g : Held) → g .rows < rowLimit → Within 1 number 4 → ports ≤ mostLinks → lastNumber (g .contexts) < number
+pub went-head : (pattern : List ℕ) (number ports : ℕ) (g : Held) → g .rows < rowLimit → Within 1 number mostContext → ports ≤ mostLinks → lastNumber (g .contexts) < number
     → length (g .atoms) ≤ sheetAtoms → length (g .contexts) < figureContexts
     → Went Fillings pattern g (withHead g (headNums number ports)) 1 (rowBytes 72 (number ∷ ports ∷ [])) [] (heldHead number ports (g .rows + 1) ∷ [])
 unfolding withRow withHead strange clashes
 went-head pattern number ports g room high few above atoms heads =
     record {
-      read = λ m n rest e. row-read Fillings pattern 72 4 (number ∷ ports ∷ []) (headNums number ports) (head-back number ports high few) g room
+      read = λ m n rest e. row-read Fillings pattern 72 headLetter (number ∷ ports ∷ []) (headNums number ports) (head-back number ports high few) g room
           refl atoms (simp length-append (omega arith)) (omega arith) (omega arith) (lt-leb number (lastNumber (g .contexts)) above) m n rest e;
       rows = refl;
       atoms = sym (append-nil (g .atoms));
@@ -152,19 +138,19 @@ module _ (kind : Kind) (pattern joints marks : List ℕ) where
         × Few marks (withLinks (g .wiring) (take (length (v .1)) (padded mostLinks 0 (v .1))) .marks)
     vertex-stocked high v f = rw (take-padded mostLinks 0 (v .1)) (few-links joints (g .wiring) (v .1) (f .known) (s .own-joints), rw links-marks (s .own-marks))
 
-    vertex-links : (high : ℕ) (v : Vertex) → Fitting joints high v → Every LinkRange (v .1)
-    vertex-links high v f = every-in LinkRange (v .1) (λ x i. stock .joint-range x (f .known x i))
+    vertex-links : (high : ℕ) (v : Vertex) → Fitting joints high v → (x : ℕ) → x ∈ v .1 → (1 ≤ x) × (x ≤ mostNumber)
+    vertex-links high v f x i = stock .joint-range x (f .known x i)
 
     -- S
-    pub led-symbol : (v : Vertex) → Fitting joints 999 v → length (g .atoms) < atomLimit kind
+    pub led-symbol : (v : Vertex) → Fitting joints mostName v → length (g .atoms) < atomLimit kind
         → Led g (withAtom g (vertexNums v)) 1 (rowBytes 83 (v .0 ∷ length (v .1) ∷ v .1)) (heldAtom v ∷ []) [] [] []
     unfolding withRow withAtom strange clashes
     led-symbol v f atoms =
-        let t : Stocked kind joints marks (withAtom g (vertexNums v)) = record { own-joints = vertex-stocked 999 v f .0; own-marks = vertex-stocked 999 v f .1; headed = s .headed } in
+        let t : Stocked kind joints marks (withAtom g (vertexNums v)) = record { own-joints = vertex-stocked mostName v f .0; own-marks = vertex-stocked mostName v f .1; headed = s .headed } in
         record {
           went = record {
-            read = stocked-read 83 0 (v .0 ∷ length (v .1) ∷ v .1) (vertexNums v) (symbol-back (v .0) (v .1) (f .name) (f .count) (vertex-links 999 v f))
-                stray (simp length-append (omega arith)) few t refl;
+            read = stocked-read 83 atomLetter (v .0 ∷ length (v .1) ∷ v .1) (vertexNums v) (symbol-back (v .0) (v .1) (f .name) (f .count) (vertex-links mostName v f))
+                (rw (common-letters kind .0) stray) (simp length-append (omega arith)) few t refl;
             rows = refl;
             atoms = refl;
             contexts = sym (append-nil (g .contexts));
@@ -175,16 +161,16 @@ module _ (kind : Kind) (pattern joints marks : List ℕ) where
         }
 
     -- B
-    pub led-blank : (v : Vertex) → Fitting joints 4 v → isFigure kind ≡ true → length (g .atoms) ≤ atomLimit kind → length (g .contexts) < figureContexts
+    pub led-blank : (v : Vertex) → Fitting joints mostContext v → isFigure kind ≡ true → length (g .atoms) ≤ atomLimit kind → length (g .contexts) < figureContexts
         → clashOf kind (portsOf (g .contexts) (v .0)) (getD pattern (v .0) 0) (suc (length (v .1))) ≡ false
         → Led g (withContext g (vertexNums v)) 1 (rowBytes 66 (v .0 ∷ length (v .1) ∷ v .1)) [] (heldContext v (g .rows + 1) ∷ []) [] []
     unfolding withRow withContext strange clashes
     led-blank v f figure atoms below clash =
         let t : Stocked kind joints marks (withContext g (vertexNums v)) =
-        record { own-joints = vertex-stocked 4 v f .0; own-marks = vertex-stocked 4 v f .1; headed = λ e. simp length-append (omega arith) } in
+        record { own-joints = vertex-stocked mostContext v f .0; own-marks = vertex-stocked mostContext v f .1; headed = λ e. simp length-append (omega arith) } in
         record {
           went = record {
-            read = stocked-read 66 1 (v .0 ∷ length (v .1) ∷ v .1) (vertexNums v) (context-back (v .0) (v .1) (f .name) (f .count) (vertex-links 4 v f))
+            read = stocked-read 66 contextLetter (v .0 ∷ length (v .1) ∷ v .1) (vertexNums v) (context-back (v .0) (v .1) (f .name) (f .count) (vertex-links mostContext v f))
                 (rw figure stray) atoms (simp length-append (omega arith)) t clash;
             rows = refl;
             atoms = sym (append-nil (g .atoms));
@@ -206,7 +192,7 @@ module _ (kind : Kind) (pattern joints marks : List ℕ) where
         record { own-joints = few-links joints (g .wiring) (x ∷ y ∷ []) both (s .own-joints); own-marks = rw links-marks (s .own-marks); headed = s .headed } in
         record {
           went = record {
-            read = stocked-read 70 2 (x ∷ y ∷ []) (x ∷ y ∷ replicate mostLinks 0) (fusion-back x y (stock .joint-range x i) (stock .joint-range y j)) stray atoms few t refl;
+            read = stocked-read 70 fusionLetter (x ∷ y ∷ []) (x ∷ y ∷ replicate mostLinks 0) (fusion-back x y (stock .joint-range x i) (stock .joint-range y j)) (rw (common-letters kind .1) stray) atoms few t refl;
             rows = refl;
             atoms = sym (append-nil (g .atoms));
             contexts = sym (append-nil (g .contexts));
@@ -229,7 +215,7 @@ module _ (kind : Kind) (pattern joints marks : List ℕ) where
         } in
         record {
           went = record {
-            read = stocked-read 69 3 (x ∷ m ∷ []) (x ∷ m ∷ replicate mostLinks 0) (edge-back x m (stock .joint-range x i) (stock .mark-range m j)) stray atoms few t refl;
+            read = stocked-read 69 edgeLetter (x ∷ m ∷ []) (x ∷ m ∷ replicate mostLinks 0) (edge-back x m (stock .joint-range x i) (stock .mark-range m j)) (rw (common-letters kind .2) stray) atoms few t refl;
             rows = refl;
             atoms = sym (append-nil (g .atoms));
             contexts = sym (append-nil (g .contexts));

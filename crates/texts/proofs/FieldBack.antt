@@ -1,5 +1,5 @@
 -- What is read from the four columns of a number: the number.
-use Prim.Native.Nat.{ℕ, _+_, _-_, _*_, _/_, _%_, _<_}
+use Prim.Native.Nat.{ℕ, _+_, _-_, _*_, _/_, _%_, _<_, _≤_}
 use mathlib.Core.Path.{_≡_, refl, ap, _∙_}
 use mathlib.Core.List.{List, [], _∷_}
 use mathlib.Core.Bool.{Bool, true, false}
@@ -8,6 +8,7 @@ use borrow.Author.Tests.{le-ltb, ne-eqb, ltb-true, ltb-false, eqb-true}
 use lib.Dec.{ltb, eqb}
 use Rattle.rows.specs.Pick.{pick, and, or, not}
 use Rattle.rows.specs.Row.{holds, misplacedIn, isNil, fieldOf}
+use Rattle.rows.specs.Format.{mostNumber}
 use Rattle.writing.specs.RowText.{fieldBytes}
 use Rattle.rows.proofs.Bools.{or-true}
 
@@ -34,7 +35,7 @@ unfolding fieldOf
 last-read filled m d n h e = digit-read filled m d [] h (λ z. or-true filled) ∙ ap (holds true) e
 
 -- A number's four columns, by how many digits it has: x, y and z are the tests of its first three columns.
-pub field-back : (n : ℕ) → n < 10000 → fieldOf false 0 (fieldBytes n) ≡ holds true n
+pub field-back : (n : ℕ) → n ≤ mostNumber → fieldOf false 0 (fieldBytes n) ≡ holds true n
 unfolding fieldBytes fieldOf misplacedIn
 field-back n h = go (ltb n 1000) (ltb n 100) (ltb n 10) refl refl refl
   where

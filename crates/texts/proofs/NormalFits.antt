@@ -2,7 +2,7 @@
 use Prim.Native.Nat.{ℕ, zero, suc, _+_, _≤_}
 use mathlib.Core.Path.{_≡_, refl, sym, ap, ap₂, _∙_, subst}
 use mathlib.Core.List.{List, [], _∷_, _++_, map, map-map, map-append, append-nil, append-assoc, List·Memᴰ·head, List·Memᴰ·tail, List·Memᴰ·not-nil, List·Memᴰ·cases-cons, Memᴰ·append-left, Memᴰ·append-right, Memᴰ·map}
-use mathlib.Core.Bool.{Bool, true, false, true≢false}
+use mathlib.Core.Bool.{true, false, true≢false}
 use mathlib.Core.Logic.{⊎-elim}
 use native.Mathlib.Omega.{arith}
 use native.Mathlib.Nat.{eq-or-lt-of-le}
@@ -11,8 +11,8 @@ use Rattle.hyperlmntal.specs.Link.{free, _∈_}
 use Rattle.hyperlmntal.specs.Hypergraph.{Node, inner, Cell, nodes, mapCell}
 use Rattle.hyperlmntal.proofs.Lists.{map-agree, all-map}
 use Rattle.hyperlmntal.proofs.Flats.{flat-≡, cell-≡}
-use Rattle.rows.specs.Pick.{pick}
-use Rattle.rows.specs.Format.{mostLinks}
+use Rattle.rows.specs.Format.{mostLinks, mostName, mostNumber, mostContext}
+use Rattle.rows.specs.Limits.{sheetAtoms}
 use Rattle.rows.specs.Packed.{portsOf}
 use Rattle.rows.specs.Held.{Held, contextOf, withAtom, withContext, withFusionRow, withEdgeRow, withRow}
 use Rattle.rows.specs.declared.Atom.{Atom}
@@ -25,8 +25,10 @@ use Rattle.reading.specs.NormalSheet.{numberIn, normalMarks}
 use Rattle.sheet.specs.Reading.{strange, clashOf, clashes, outcomeOf}
 use Rattle.sheet.specs.declared.kind.Kind.{Kind}
 use Rattle.sheet.specs.declared.kind.Kind.the-variants.{Plain, Pattern, Figure, Replacement, Fillings}
+use Rattle.sheet.specs.HeldLimits.{Every, MarkRange, AtomRange, ContextRange, EdgeRange, WithinLimits}
 use Rattle.reading.specs.Agrees.{Agrees}
-use Rattle.sheet.proofs.read.Ranges.{Every, every-one, MarkRange, AtomRange, ContextRange, EdgeRange, WithinLimits}
+use Rattle.sheet.proofs.read.Every.{every-one}
+use Rattle.sheet.proofs.read.Room.{limits-most}
 use Rattle.sheet.proofs.read.Taken.{rowAt, Taken, outcome-keeps}
 use Rattle.reading.proofs.normal.Marks.{marks-of}
 use Rattle.reading.proofs.normal.Connected.{no-head, ports-in}
@@ -34,8 +36,9 @@ use Rattle.reading.proofs.normal.TextGraph.{graph-name}
 use Rattle.reading.proofs.normal.NormalBy.{port-shown, mark-shown}
 use Rattle.reading.proofs.normal.NormalBounds.{classCount, number-range, text-links}
 use Rattle.normalising.proofs.normal_text.NormalWritten.{links-known, few-marks}
+use Rattle.texts.specs.Fitting.{Vertex, Stock, Fitting}
 use Rattle.texts.proofs.Texts.{downFrom}
-use Rattle.texts.proofs.BuiltRows.{Vertex, symbolCell, blankCell, every-in, Stock, Fitting}
+use Rattle.texts.proofs.BuiltRows.{symbolCell, blankCell, every-in}
 use Rattle.texts.proofs.ReadBack.{portsBy, portsIn, ports-by, Clear, portsAt, builtGraph, EdgeAmong, Readable}
 
 -- The numbers from n down to 1.
@@ -135,22 +138,18 @@ module _ (kind : Kind) (pattern : List ℕ) (single : isList kind ≡ false) (h 
   few-classes : classCount (graphOf h) ≤ linkLimit kind
   few-classes = omega (arith, text-links h (links-known kind h w A), w .links)
 
-  small : linkLimit kind ≤ 9999
+  small : linkLimit kind ≤ mostNumber
   small = go kind
     where
-      go : (k : Kind) → linkLimit k ≤ 9999
+      go : (k : Kind) → linkLimit k ≤ mostNumber
       go Plain = omega arith
       go Pattern = omega arith
       go Figure = omega arith
       go Replacement = omega arith
       go Fillings = omega arith
 
-  few-atoms : atomLimit kind ≤ 64
-  few-atoms = go (isFigure kind)
-    where
-      go : (b : Bool) → pick b 16 64 ≤ 64
-      go true = omega arith
-      go false = omega arith
+  few-atoms : atomLimit kind ≤ sheetAtoms
+  few-atoms = limits-most kind .0
 
   mark-in-range : (m : ℕ) → m ∈ normalMarks h → MarkRange m
   mark-in-range m i =
@@ -178,7 +177,7 @@ module _ (kind : Kind) (pattern : List ℕ) (single : isList kind ≡ false) (h 
   ports-count : (count : ℕ) (links : List ℕ) → count ≤ mostLinks → length links ≡ mostLinks → length (numbered h count links) ≡ count
   ports-count count links p q = simp (length-map, length-take) (omega arith)
 
-  symbol-fits : (a : Atom) → a ∈ h .atoms → Fitting (upTo (classCount (graphOf h))) 999 (normalSymbol h a)
+  symbol-fits : (a : Atom) → a ∈ h .atoms → Fitting (upTo (classCount (graphOf h))) mostName (normalSymbol h a)
   symbol-fits a i =
       let r = every-member AtomRange (h .atoms) a (w .ranges .atoms) i in
       record {
@@ -190,7 +189,7 @@ module _ (kind : Kind) (pattern : List ℕ) (single : isList kind ≡ false) (h 
   blank-count : (c : Context) → c ∈ h .contexts → length (numbered h (c .count) (c .links)) ≡ c .count
   blank-count c i = let r = every-member (ContextRange kind) (h .contexts) c (w .ranges .contexts) i in ports-count (c .count) (c .links) (r .count) (r .ports .width)
 
-  blank-fits : (c : Context) → c ∈ h .contexts → Fitting (upTo (classCount (graphOf h))) 4 (normalBlank h c)
+  blank-fits : (c : Context) → c ∈ h .contexts → Fitting (upTo (classCount (graphOf h))) mostContext (normalBlank h c)
   blank-fits c i =
       let r = every-member (ContextRange kind) (h .contexts) c (w .ranges .contexts) i in
       record {

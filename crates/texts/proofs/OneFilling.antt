@@ -8,6 +8,7 @@ use lib.Dec.{eqb, ltb}
 use lib.ListN.{length, length-append}
 use borrow.Author.Tests.{ltb-true, ltb-false, eqb-false, ne-eqb}
 use Rattle.rows.specs.Pick.{and, not}
+use Rattle.rows.specs.Format.{headLetter}
 use Rattle.rows.specs.Held.{Held, withAtom, withFusionRow, withEdgeRow, withHead, withRow}
 use Rattle.rows.specs.declared.Context.{Context}
 use Rattle.rows.specs.declared.row.Row.{Row}
@@ -32,12 +33,12 @@ pub record Headed (h : Held) : Type 0 where
   pub after : length (h .contexts) ≤ 1 → Agrees (headless h)
 
 -- A row that is no head stands behind one.
-pub behind-head : (contexts : List Context) (letter : ℕ) → letter < 4 → strange Fillings contexts letter ≡ false → length contexts ≡ 0 → ⊥
+pub behind-head : (contexts : List Context) (letter : ℕ) → letter < headLetter → strange Fillings contexts letter ≡ false → length contexts ≡ 0 → ⊥
 unfolding strange
-behind-head contexts letter l e z = eqb-false (length contexts) 0 (rw (ne-eqb letter 4 (λ q. omega arith)) at (or-false (not (allowed Fillings letter)) (and (not (eqb letter 4)) (eqb (length contexts) 0)) e .1)) z
+behind-head contexts letter l e z = eqb-false (length contexts) 0 (rw (ne-eqb letter headLetter (λ q. omega arith)) at (or-false (not (allowed Fillings letter)) (and (not (eqb letter headLetter)) (eqb (length contexts) 0)) e .1)) z
 
 module _ (h : Held) (r : Row) (free : strange Fillings (h .contexts) (r .letter) ≡ false) where
-  pub headless-row : r .letter < 4 → (withRow h r .contexts ≡ h .contexts) × (headless (withRow h r) ≡ withRow (headless h) r)
+  pub headless-row : r .letter < headLetter → (withRow h r .contexts ≡ h .contexts) × (headless (withRow h r) ≡ withRow (headless h) r)
   unfolding withRow withAtom withFusionRow withEdgeRow
   headless-row l =
       row-by h r (λ g. (g .contexts ≡ h .contexts) × (headless g ≡ withRow (headless h) r))
@@ -47,23 +48,23 @@ module _ (h : Held) (r : Row) (free : strange Fillings (h .contexts) (r .letter)
       (λ e. (refl, rw e))
       (λ e. absurd (omega arith))
 
-  pub head-row : 4 ≤ r .letter → withRow h r ≡ withHead h (r .nums)
+  pub head-row : headLetter ≤ r .letter → withRow h r ≡ withHead h (r .nums)
   head-row l = row-by h r (λ g. g ≡ withHead h (r .nums)) (λ e. absurd (omega arith)) (λ e. absurd (omega arith)) (λ e. absurd (omega arith)) (λ e. absurd (omega arith)) (λ e. refl)
 
   pub headed-row : Headed h → Headed (withRow h r)
   unfolding withHead
-  headed-row p = go (ltb (r .letter) 4) refl
+  headed-row p = go (ltb (r .letter) headLetter) refl
     where
-      go : (b : Bool) → ltb (r .letter) 4 ≡ b → Headed (withRow h r)
+      go : (b : Bool) → ltb (r .letter) headLetter ≡ b → Headed (withRow h r)
       go true e =
-          let l = ltb-true (r .letter) 4 e in
+          let l = ltb-true (r .letter) headLetter e in
           let q = headless-row l in
           record {
             before = λ z. absurd (behind-head (h .contexts) (r .letter) l free (ap length (sym (q .0)) ∙ z));
             after = λ z. subst Agrees (sym (q .1)) (agrees-row (headless h) r l (p .after (rw (q .0) at z)));
           }
       go false e =
-          subst Headed (sym (head-row (ltb-false (r .letter) 4 e)))
+          subst Headed (sym (head-row (ltb-false (r .letter) headLetter e)))
           (record {
             before = λ z. absurd (omega (arith, simp length-append at z));
             after = λ z. rw (p .before (omega (arith, simp length-append at z))) (agrees-none (h .rows + 1));

@@ -10,7 +10,7 @@ use Rattle.hyperlmntal.specs.Link.{_∈_}
 use Rattle.hyperlmntal.specs.Hypergraph.{inner, Flat}
 use Rattle.hyperlmntal.proofs.Flats.{flat-≡, cell-≡}
 use Rattle.rows.specs.Pick.{pick}
-use Rattle.rows.specs.Format.{mostLinks}
+use Rattle.rows.specs.Format.{mostLinks, mostName, mostContext}
 use Rattle.rows.specs.Limits.{rowLimit, figureContexts}
 use Rattle.rows.specs.Held.{Held, nothing, withAtom, withContext, withEdgeRow}
 use Rattle.rows.specs.Packed.{portsOf}
@@ -22,10 +22,12 @@ use Rattle.normalising.specs.NormalText.{cellBytes, edgeBytes, joined, textOf}
 use Rattle.sheet.specs.Reading.{clashOf, Outcome, passed, readFrom, outcomeOf}
 use Rattle.sheet.specs.declared.kind.Kind.{Kind}
 use Rattle.sheet.specs.declared.answer.Answer.the-variants.{Passed}
-use Rattle.sheet.proofs.read.Ranges.{Every}
+use Rattle.sheet.specs.HeldLimits.{Every}
+use Rattle.sheet.proofs.kind.KindLaws.{rows-limit}
 use Rattle.sheet.proofs.read.ReadingLaws.{read-none}
 use Rattle.normalising.proofs.normal_text.NormalRows.{joined-append}
-use Rattle.texts.proofs.BuiltRows.{Vertex, symbolCell, blankCell, vertexNums, heldAtom, heldContext, symbol-bytes, blank-bytes, Stock, Fitting, Stocked, Led, led-none, led-then, led-symbol, led-blank, led-edge}
+use Rattle.texts.specs.Fitting.{Vertex, Stock, Fitting}
+use Rattle.texts.proofs.BuiltRows.{symbolCell, blankCell, vertexNums, heldAtom, heldContext, symbol-bytes, blank-bytes, Stocked, Led, led-none, led-then, led-symbol, led-blank, led-edge}
 use Rattle.texts.proofs.Few.{few-none}
 
 -- The port count and 1 of the first of these numbers and port counts with number k, 0 where there is none.
@@ -64,7 +66,7 @@ abbrev pub EdgeAmong : List ℕ → List ℕ → ℕ × ℕ → Type 0
 EdgeAmong joints marks e = (e .0 ∈ joints) × (e .1 ∈ marks)
 
 module _ (kind : Kind) (pattern joints marks : List ℕ) (stock : Stock kind joints marks) where
-  led-symbols : (l : List Vertex) (g : Held) → Stocked kind joints marks g → Every (Fitting joints 999) l
+  led-symbols : (l : List Vertex) (g : Held) → Stocked kind joints marks g → Every (Fitting joints mostName) l
       → length (g .atoms) + length l ≤ atomLimit kind → length (g .contexts) ≤ figureContexts → g .rows + length l ≤ rowLimit
       → (h : Held) × Led kind pattern joints marks g h (length l) (joined (map cellBytes (map symbolCell l))) (map heldAtom l) [] [] []
   unfolding joined
@@ -76,7 +78,7 @@ module _ (kind : Kind) (pattern joints marks : List ℕ) (stock : Stock kind joi
       let t = led-symbols l h (w .stocked) (p .1) (rw (w .went .atoms) (simp length-append (omega arith))) (rw (w .went .contexts) (simp append-nil contexts)) (omega (arith, w .went .rows)) in
       (t .0, led-then kind pattern joints marks g h (t .0) 1 (length l) (suc (length l)) _ _ _ _ _ _ _ _ _ _ (omega arith) w (t .1))
 
-  led-blanks : (l : List Vertex) (g : Held) → Stocked kind joints marks g → Every (Fitting joints 4) l → Every (λ v. isFigure kind ≡ true) l
+  led-blanks : (l : List Vertex) (g : Held) → Stocked kind joints marks g → Every (Fitting joints mostContext) l → Every (λ v. isFigure kind ≡ true) l
       → length (g .atoms) ≤ atomLimit kind → length (g .contexts) + length l ≤ figureContexts → g .rows + length l ≤ rowLimit
       → Clear kind pattern (map portsIn (g .contexts)) (map portsAt l)
       → (h : Held) × Led kind pattern joints marks g h (length l) (joined (map cellBytes (map blankCell l))) [] (heldContexts (g .rows) l) [] []
@@ -108,8 +110,8 @@ pub record Readable (kind : Kind) (pattern : List ℕ) (symbols blanks : List Ve
   pub joints : List ℕ
   pub marks : List ℕ
   pub stock : Stock kind joints marks
-  pub symbol-rows : Every (Fitting joints 999) symbols
-  pub blank-rows : Every (Fitting joints 4) blanks
+  pub symbol-rows : Every (Fitting joints mostName) symbols
+  pub blank-rows : Every (Fitting joints mostContext) blanks
   pub figure : Every (λ v. isFigure kind ≡ true) blanks
   pub edge-rows : Every (EdgeAmong joints marks) edges
   pub few-symbols : length symbols ≤ atomLimit kind
@@ -171,7 +173,7 @@ module _ (kind : Kind) (pattern : List ℕ) (symbols blanks : List Vertex) (edge
       ∙ c .1 .went .read (rowLimit + 1 - length symbols - length blanks) (rowLimit + 1 - k) [] (omega (arith, p .few-rows))
       ∙ read-none (rowLimit + 1 - k) kind pattern (c .0) in (
         c .0,
-        whole,
+        rw (rows-limit kind) whole,
         record {
           answer = refl;
           atoms = c .1 .went .atoms ∙ append-nil (b .0 .atoms) ∙ same-atoms;

@@ -11,44 +11,40 @@ use borrow.Author.Tests.{lt-ltb, le-ltb, le-leb, eq-eqb, ltb-true, ltb-false}
 use lib.Dec.{ltb, leb·suc-suc}
 use lib.ListN.{length, getD, set, take, drop, replicate, length-set, length-append, List·getD-eq-default}
 use lib.Seq.{take-at, drop-at, getD-at, getD-set-same, getD-set-other, ext-getD}
-use Rattle.rows.specs.Format.{mostLinks, fieldCount, rowWidth, letterOf, ruleOf}
+use Rattle.hyperlmntal.specs.Link.{_∈_}
+use Rattle.rows.specs.Format.{mostLinks, fieldCount, fieldWidth, rowWidth, newline, mostName, mostNumber, mostContext, atomLetter, contextLetter, fusionLetter, edgeLetter, headLetter, noLetter, letterOf, ruleOf}
 use Rattle.rows.specs.Row.{holds, misplacedIn, fieldOf, needed, suits, rowWith, judged, fieldsOf, rowOf}
 use Rattle.writing.specs.RowText.{fieldBytes, fieldsBytes, rowBytes}
 use Rattle.rows.specs.Packed.{padded}
 use Rattle.rows.specs.declared.row.Rule.{Rule}
+use Rattle.rows.specs.Ranges.{Within}
 use Rattle.rows.proofs.Padding.{getD-filled, length-padded, getD-padding}
 use Rattle.rows.proofs.RowLaws.{columns, suits-by, row-fields}
-use Rattle.rows.proofs.RowRange.{suited, le-or-lt, early-needed, alike, Within}
+use Rattle.rows.proofs.RowRange.{suited, le-or-lt, early-needed, alike, later}
 use Rattle.writing.proofs.RowBytes.{fieldText, fieldAt, fields-length, row-width}
 use Rattle.sheet.specs.Reading.{ragged}
-use Rattle.sheet.proofs.read.Ranges.{Every, every-at, LinkRange, MarkRange}
+use Rattle.reading.proofs.normal.Merging.{getD-in}
 use Rattle.texts.proofs.FieldBack.{field-back}
 
 -- Field f of a row stands where the reader looks for it.
-fields-columns : (g f : ℕ) (nums rest : List ℕ) → f < g → take 4 (drop (f * 4) (fieldsBytes g nums ++ rest)) ≡ fieldAt nums f
+fields-columns : (g f : ℕ) (nums rest : List ℕ) → f < g → take fieldWidth (drop (f * fieldWidth) (fieldsBytes g nums ++ rest)) ≡ fieldAt nums f
 unfolding fieldsBytes fieldBytes
 fields-columns zero f nums rest h = absurd (omega arith)
 fields-columns (suc g) zero [] rest h = refl
 fields-columns (suc g) zero (n ∷ nums) rest h = rw (lt-ltb 0 (suc (length nums)) (omega arith))
 fields-columns (suc g) (suc f) [] rest h =
-    let e : suc f * 4 ≡ suc (suc (suc (suc (f * 4)))) = omega arith in
+    let e : suc f * fieldWidth ≡ suc (suc (suc (suc (f * fieldWidth)))) = omega arith in
     rw (e, le-ltb (suc f) 0 (omega arith)) (fields-columns g f [] rest (omega arith) ∙ rw (le-ltb f 0 (omega arith)))
 fields-columns (suc g) (suc f) (n ∷ nums) rest h =
-    let e : suc f * 4 ≡ suc (suc (suc (suc (f * 4)))) = omega arith in
+    let e : suc f * fieldWidth ≡ suc (suc (suc (suc (f * fieldWidth)))) = omega arith in
     rw (e, leb·suc-suc (suc f) (length nums)) (fields-columns g f nums rest (omega arith))
 
-row-columns : (b : ℕ) (nums : List ℕ) (f : ℕ) → f < fieldCount → columns (rowBytes b nums) (f * 4 + 1) ≡ fieldAt nums f
+row-columns : (b : ℕ) (nums : List ℕ) (f : ℕ) → f < fieldCount → columns (rowBytes b nums) (f * fieldWidth + 1) ≡ fieldAt nums f
 unfolding rowBytes
-row-columns b nums f h = rw (add-one (f * 4)) (fields-columns fieldCount f nums (10 ∷ []) h)
-
--- Every field from the third on has the third one's rule.
-pub further : (letter k : ℕ) → ruleOf letter (suc (suc k)) ≡ ruleOf letter 2
-unfolding ruleOf
-further letter zero = refl
-further letter (suc k) = rw (lt-ltb 2 (suc (suc (suc k))) (omega arith))
+row-columns b nums f h = rw (add-one (f * fieldWidth)) (fields-columns fieldCount f nums (newline ∷ []) h)
 
 -- No rule's range goes beyond four digits.
-four-digits : (letter : ℕ) → (ruleOf letter 0 .high < 10000) × (ruleOf letter 1 .high < 10000) × (ruleOf letter 2 .high < 10000)
+four-digits : (letter : ℕ) → (ruleOf letter 0 .high ≤ mostNumber) × (ruleOf letter 1 .high ≤ mostNumber) × (ruleOf letter 2 .high ≤ mostNumber)
 unfolding ruleOf
 four-digits zero = (omega arith, omega arith, omega arith)
 four-digits (suc zero) = (omega arith, omega arith, omega arith)
@@ -57,30 +53,30 @@ four-digits (suc (suc (suc zero))) = (omega arith, omega arith, omega arith)
 four-digits (suc (suc (suc (suc zero)))) = (omega arith, omega arith, omega arith)
 four-digits (suc (suc (suc (suc (suc k))))) = (omega arith, omega arith, omega arith)
 
-high-small : (letter f : ℕ) → ruleOf letter f .high < 10000
-high-small letter zero = four-digits letter .0
-high-small letter (suc zero) = four-digits letter .1
-high-small letter (suc (suc k)) = rw (further letter k) (four-digits letter .2)
+high-small : (letter f : ℕ) → f < fieldCount → ruleOf letter f .high ≤ mostNumber
+high-small letter zero h = four-digits letter .0
+high-small letter (suc zero) h = four-digits letter .1
+high-small letter (suc (suc k)) h = rw (later letter k (omega arith)) (four-digits letter .2)
 
-suits-small : (letter f count n : ℕ) → suits (ruleOf letter f) f count true n ≡ true → n < 10000
-suits-small letter f count n e =
-    ⊎-elim (λ w. omega (arith, w .2, high-small letter f)) (λ w. omega arith) (suited (ruleOf letter f) f count true n (λ z. absurd (true≢false z)) e)
+suits-small : (letter f count n : ℕ) → f < fieldCount → suits (ruleOf letter f) f count true n ≡ true → n ≤ mostNumber
+suits-small letter f count n h e =
+    ⊎-elim (λ w. omega (arith, w .2, high-small letter f h)) (λ w. omega arith) (suited (ruleOf letter f) f count true n (λ z. absurd (true≢false z)) e)
 
 -- The row's count matters only where the rule looks at it.
 suits-count : (r : Rule) (f c d : ℕ) (filled : Bool) (n : ℕ) → needed r f c ≡ needed r f d → suits r f c filled n ≡ suits r f d filled n
 suits-count r f c d filled n e = suits-by r f c filled n (needed r f d) e ∙ sym (suits-by r f d filled n (needed r f d) refl)
 
 -- A row of numbers that suit the table.
-module _ (b : ℕ) (nums : List ℕ) (letter : letterOf b < 5) (few : length nums ≤ fieldCount)
+module _ (b : ℕ) (nums : List ℕ) (letter : letterOf b < noLetter) (few : length nums ≤ fieldCount)
     (suit : (f : ℕ) → f < fieldCount → suits (ruleOf (letterOf b) f) f (getD nums 1 0) (ltb f (length nums)) (getD nums f 0) ≡ true) where
   -- Each field holds its number, or nothing.
-  field-held : (f : ℕ) → f < fieldCount → fieldOf false 0 (columns (rowBytes b nums) (f * 4 + 1)) ≡ holds (ltb f (length nums)) (getD nums f 0)
+  field-held : (f : ℕ) → f < fieldCount → fieldOf false 0 (columns (rowBytes b nums) (f * fieldWidth + 1)) ≡ holds (ltb f (length nums)) (getD nums f 0)
   unfolding fieldOf misplacedIn
   field-held f h = rw (row-columns b nums f h) (go (ltb f (length nums)) refl (suit f h))
     where
       go : (t : Bool) → ltb f (length nums) ≡ t → suits (ruleOf (letterOf b) f) f (getD nums 1 0) t (getD nums f 0) ≡ true
           → fieldOf false 0 (fieldText t (getD nums f 0)) ≡ holds t (getD nums f 0)
-      go true e s = field-back (getD nums f 0) (suits-small (letterOf b) f (getD nums 1 0) (getD nums f 0) s)
+      go true e s = field-back (getD nums f 0) (suits-small (letterOf b) f (getD nums 1 0) (getD nums f 0) h s)
       go false e s = rw (List·getD-eq-default nums 0 (ltb-false f (length nums) e))
 
   -- The numbers up to field f, and zeros after them.
@@ -142,15 +138,15 @@ module _ (b : ℕ) (nums rest : List ℕ) where
   unfolding rowBytes
   row-byte = refl
 
-  row-newline : getD (rowBytes b nums ++ rest) (rowWidth - 1) 0 ≡ 10
+  row-newline : getD (rowBytes b nums ++ rest) (rowWidth - 1) 0 ≡ newline
   unfolding rowBytes
   row-newline =
-      rw (append-assoc (b ∷ fieldsBytes fieldCount nums) (10 ∷ []) rest)
-      (getD-at (b ∷ fieldsBytes fieldCount nums) 10 rest 0 (rowWidth - 1) (ap suc (fields-length fieldCount nums)))
+      rw (append-assoc (b ∷ fieldsBytes fieldCount nums) (newline ∷ []) rest)
+      (getD-at (b ∷ fieldsBytes fieldCount nums) newline rest 0 (rowWidth - 1) (ap suc (fields-length fieldCount nums)))
 
   pub row-whole : ragged (rowBytes b nums ++ rest) ≡ false
   row-whole =
-      rw (le-ltb (length (rowBytes b nums ++ rest)) rowWidth (simp (length-append, row-width) (omega arith)), eq-eqb _ 10 row-newline)
+      rw (le-ltb (length (rowBytes b nums ++ rest)) rowWidth (simp (length-append, row-width) (omega arith)), eq-eqb _ newline row-newline)
 
 -- A number that a rule takes, and an empty field.
 number-suits : (r : Rule) (f count n : ℕ) → needed r f count ≡ true → Within (r .low) n (r .high) → suits r f count true n ≡ true
@@ -164,65 +160,65 @@ padded-two : (a m : ℕ) (l : List ℕ) → padded fieldCount 0 (a ∷ m ∷ l) 
 unfolding padded
 padded-two a m l = let e : fieldCount - suc (suc (length l)) ≡ mostLinks - length l = omega arith in rw e
 
-two-back : (b a m : ℕ) (l : List ℕ) → letterOf b < 5 → length l ≤ mostLinks
+two-back : (b a m : ℕ) (l : List ℕ) → letterOf b < noLetter → length l ≤ mostLinks
     → suits (ruleOf (letterOf b) 0) 0 m true a ≡ true
     → suits (ruleOf (letterOf b) 1) 1 m true m ≡ true
     → ((k : ℕ) → suits (ruleOf (letterOf b) 2) (suc (suc k)) m (ltb k (length l)) (getD l k 0) ≡ true)
     → rowOf (rowBytes b (a ∷ m ∷ l)) ≡ rowWith (letterOf b) true (a ∷ m ∷ padded mostLinks 0 l)
 two-back b a m l h few first second others =
-    row-back b (a ∷ m ∷ l) h (omega arith) (λ f q. suit f) ∙ ap (rowWith (letterOf b) true) (padded-two a m l)
+    row-back b (a ∷ m ∷ l) h (omega arith) suit ∙ ap (rowWith (letterOf b) true) (padded-two a m l)
   where
-    suit : (f : ℕ) → suits (ruleOf (letterOf b) f) f m (ltb f (suc (suc (length l)))) (getD (a ∷ m ∷ l) f 0) ≡ true
-    suit zero = rw (lt-ltb 0 (suc (suc (length l))) (omega arith)) first
-    suit (suc zero) = rw (lt-ltb 1 (suc (suc (length l))) (omega arith)) second
-    suit (suc (suc k)) = rw (further (letterOf b) k, leb·suc-suc (suc (suc k)) (suc (length l)), leb·suc-suc (suc k) (length l)) (others k)
+    suit : (f : ℕ) → f < fieldCount → suits (ruleOf (letterOf b) f) f m (ltb f (suc (suc (length l)))) (getD (a ∷ m ∷ l) f 0) ≡ true
+    suit zero q = rw (lt-ltb 0 (suc (suc (length l))) (omega arith)) first
+    suit (suc zero) q = rw (lt-ltb 1 (suc (suc (length l))) (omega arith)) second
+    suit (suc (suc k)) q = rw (later (letterOf b) k (omega arith), leb·suc-suc (suc (suc k)) (suc (length l)), leb·suc-suc (suc k) (length l)) (others k)
 
 -- The links of an atom or a context, as many as the count says.
-links-suit : (letter : ℕ) (links : List ℕ) → letter < 2 → Every LinkRange links
+links-suit : (letter : ℕ) (links : List ℕ) → letter < fusionLetter → ((x : ℕ) → x ∈ links → (1 ≤ x) × (x ≤ mostNumber))
     → (k : ℕ) → suits (ruleOf letter 2) (suc (suc k)) (length links) (ltb k (length links)) (getD links k 0) ≡ true
 unfolding ruleOf
 links-suit letter links h p k = rw (alike letter h .1) (go (ltb k (length links)) refl)
   where
-    go : (t : Bool) → ltb k (length links) ≡ t → suits (ruleOf 0 2) (suc (suc k)) (length links) t (getD links k 0) ≡ true
+    go : (t : Bool) → ltb k (length links) ≡ t → suits (ruleOf atomLetter 2) (suc (suc k)) (length links) t (getD links k 0) ≡ true
     go true e =
-        number-suits (ruleOf 0 2) (suc (suc k)) (length links) (getD links k 0) (lt-ltb (suc (suc k)) (2 + length links) (omega (arith, ltb-true k (length links) e)))
-        (every-at LinkRange 0 links p k (ltb-true k (length links) e))
-    go false e = nothing-suits (ruleOf 0 2) (suc (suc k)) (length links) (getD links k 0) (le-ltb (suc (suc k)) (2 + length links) (omega (arith, ltb-false k (length links) e)))
+        number-suits (ruleOf atomLetter 2) (suc (suc k)) (length links) (getD links k 0) (lt-ltb (suc (suc k)) (2 + length links) (omega (arith, ltb-true k (length links) e)))
+        (p (getD links k 0) (getD-in links k 0 (ltb-true k (length links) e)))
+    go false e = nothing-suits (ruleOf atomLetter 2) (suc (suc k)) (length links) (getD links k 0) (le-ltb (suc (suc k)) (2 + length links) (omega (arith, ltb-false k (length links) e)))
 
 -- No number after the second.
 none-suit : (r : Rule) (m k : ℕ) → r .counted ≡ false → r .filled ≡ false → suits r (suc (suc k)) m (ltb k 0) 0 ≡ true
 none-suit r m k c f = rw (le-ltb k 0 (omega arith)) (nothing-suits r (suc (suc k)) m 0 (rw (c, f)))
 
 -- The rows of each letter, with numbers in the table's ranges: S, B, F, E, H.
-pub symbol-back : (name : ℕ) (links : List ℕ) → Within 1 name 999 → length links ≤ mostLinks → Every LinkRange links
-    → rowOf (rowBytes 83 (name ∷ length links ∷ links)) ≡ rowWith 0 true (name ∷ length links ∷ padded mostLinks 0 links)
+pub symbol-back : (name : ℕ) (links : List ℕ) → (1 ≤ name) × (name ≤ mostName) → length links ≤ mostLinks → ((x : ℕ) → x ∈ links → (1 ≤ x) × (x ≤ mostNumber))
+    → rowOf (rowBytes 83 (name ∷ length links ∷ links)) ≡ rowWith atomLetter true (name ∷ length links ∷ padded mostLinks 0 links)
 unfolding letterOf ruleOf
 symbol-back name links w few p =
-    two-back 83 name (length links) links (omega arith) few (number-suits (ruleOf 0 0) 0 (length links) name refl w)
-    (number-suits (ruleOf 0 1) 1 (length links) (length links) refl (omega arith, few)) (links-suit 0 links (omega arith) p)
+    two-back 83 name (length links) links (omega arith) few (number-suits (ruleOf atomLetter 0) 0 (length links) name refl w)
+    (number-suits (ruleOf atomLetter 1) 1 (length links) (length links) refl (omega arith, few)) (links-suit atomLetter links (omega arith) p)
 
-pub context-back : (number : ℕ) (links : List ℕ) → Within 1 number 4 → length links ≤ mostLinks → Every LinkRange links
-    → rowOf (rowBytes 66 (number ∷ length links ∷ links)) ≡ rowWith 1 true (number ∷ length links ∷ padded mostLinks 0 links)
+pub context-back : (number : ℕ) (links : List ℕ) → (1 ≤ number) × (number ≤ mostContext) → length links ≤ mostLinks → ((x : ℕ) → x ∈ links → (1 ≤ x) × (x ≤ mostNumber))
+    → rowOf (rowBytes 66 (number ∷ length links ∷ links)) ≡ rowWith contextLetter true (number ∷ length links ∷ padded mostLinks 0 links)
 unfolding letterOf ruleOf
 context-back number links w few p =
-    two-back 66 number (length links) links (omega arith) few (number-suits (ruleOf 1 0) 0 (length links) number refl w)
-    (number-suits (ruleOf 1 1) 1 (length links) (length links) refl (omega arith, few)) (links-suit 1 links (omega arith) p)
+    two-back 66 number (length links) links (omega arith) few (number-suits (ruleOf contextLetter 0) 0 (length links) number refl w)
+    (number-suits (ruleOf contextLetter 1) 1 (length links) (length links) refl (omega arith, few)) (links-suit contextLetter links (omega arith) p)
 
-pub fusion-back : (a b : ℕ) → LinkRange a → LinkRange b → rowOf (rowBytes 70 (a ∷ b ∷ [])) ≡ rowWith 2 true (a ∷ b ∷ replicate mostLinks 0)
+pub fusion-back : (a b : ℕ) → (1 ≤ a) × (a ≤ mostNumber) → (1 ≤ b) × (b ≤ mostNumber) → rowOf (rowBytes 70 (a ∷ b ∷ [])) ≡ rowWith fusionLetter true (a ∷ b ∷ replicate mostLinks 0)
 unfolding letterOf ruleOf padded
 fusion-back a b p q =
-    two-back 70 a b [] (omega arith) (omega arith) (number-suits (ruleOf 2 0) 0 b a refl p) (number-suits (ruleOf 2 1) 1 b b refl q)
-    (λ k. none-suit (ruleOf 2 2) b k refl refl)
+    two-back 70 a b [] (omega arith) (omega arith) (number-suits (ruleOf fusionLetter 0) 0 b a refl p) (number-suits (ruleOf fusionLetter 1) 1 b b refl q)
+    (λ k. none-suit (ruleOf fusionLetter 2) b k refl refl)
 
-pub edge-back : (link mark : ℕ) → LinkRange link → MarkRange mark → rowOf (rowBytes 69 (link ∷ mark ∷ [])) ≡ rowWith 3 true (link ∷ mark ∷ replicate mostLinks 0)
+pub edge-back : (link mark : ℕ) → (1 ≤ link) × (link ≤ mostNumber) → (1 ≤ mark) × (mark ≤ mostName) → rowOf (rowBytes 69 (link ∷ mark ∷ [])) ≡ rowWith edgeLetter true (link ∷ mark ∷ replicate mostLinks 0)
 unfolding letterOf ruleOf padded
 edge-back link mark p q =
-    two-back 69 link mark [] (omega arith) (omega arith) (number-suits (ruleOf 3 0) 0 mark link refl p) (number-suits (ruleOf 3 1) 1 mark mark refl q)
-    (λ k. none-suit (ruleOf 3 2) mark k refl refl)
+    two-back 69 link mark [] (omega arith) (omega arith) (number-suits (ruleOf edgeLetter 0) 0 mark link refl p) (number-suits (ruleOf edgeLetter 1) 1 mark mark refl q)
+    (λ k. none-suit (ruleOf edgeLetter 2) mark k refl refl)
 
-pub head-back : (number count : ℕ) → Within 1 number 4 → count ≤ mostLinks
-    → rowOf (rowBytes 72 (number ∷ count ∷ [])) ≡ rowWith 4 true (number ∷ count ∷ replicate mostLinks 0)
+pub head-back : (number count : ℕ) → (1 ≤ number) × (number ≤ mostContext) → count ≤ mostLinks
+    → rowOf (rowBytes 72 (number ∷ count ∷ [])) ≡ rowWith headLetter true (number ∷ count ∷ replicate mostLinks 0)
 unfolding letterOf ruleOf padded
 head-back number count p q =
-    two-back 72 number count [] (omega arith) (omega arith) (number-suits (ruleOf 4 0) 0 count number refl p)
-    (number-suits (ruleOf 4 1) 1 count count refl (omega arith, q)) (λ k. none-suit (ruleOf 4 2) count k refl refl)
+    two-back 72 number count [] (omega arith) (omega arith) (number-suits (ruleOf headLetter 0) 0 count number refl p)
+    (number-suits (ruleOf headLetter 1) 1 count count refl (omega arith, q)) (λ k. none-suit (ruleOf headLetter 2) count k refl refl)

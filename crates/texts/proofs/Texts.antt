@@ -1,4 +1,4 @@
--- Closed texts, built row by row, and what the readers answer to them.
+-- Closed texts: what their rows hold, and how the answers to them are read off.
 use Prim.Native.Nat.{ℕ, zero, suc, _-_, _*_}
 use mathlib.Core.Path.{_≡_, _∙_, ap}
 use mathlib.Core.List.{List, [], _∷_, _++_}
@@ -12,44 +12,22 @@ use Rattle.rows.specs.Packed.{portsOf}
 use Rattle.sheet.specs.Reading.{strange, lastNumber, clashOf, clashes, firstOf, Outcome, passed, readFrom, outcomeOf}
 use Rattle.sheet.specs.declared.kind.Kind.{Kind}
 use Rattle.sheet.specs.declared.answer.Answer.{Answer}
-use Rattle.sheet.proofs.read.Ranges.{Every}
+use Rattle.sheet.specs.HeldLimits.{Every}
+use Rattle.sheet.proofs.kind.KindLaws.{rows-limit}
 use Rattle.sheet.proofs.read.Taken.{read-on}
+use Rattle.texts.specs.Texts.{rowsFrom, Answers}
 
--- Rows by letter: S, B, F, E, H.
-abbrev pub symbol : List ℕ → List ℕ
-symbol nums = rowBytes 83 nums
-
-abbrev pub context : List ℕ → List ℕ
-context nums = rowBytes 66 nums
-
-abbrev pub fusion : ℕ → ℕ → List ℕ
-fusion a b = rowBytes 70 (a ∷ b ∷ [])
-
-abbrev pub edge : ℕ → ℕ → List ℕ
-edge a m = rowBytes 69 (a ∷ m ∷ [])
-
-abbrev pub head : ℕ → ℕ → List ℕ
-head number count = rowBytes 72 (number ∷ count ∷ [])
-
--- f at n, n - 1, .., 1, and the rows that f gives there, one after the other.
+-- f at n, n - 1, .., 1.
 unfoldable pub downFrom {ℓ} : {A : Type ℓ} → (ℕ → A) → ℕ → List A
 downFrom f zero = []
 downFrom f (suc n) = f (suc n) ∷ downFrom f n
-
-unfoldable pub rowsFrom : (ℕ → List ℕ) → ℕ → List ℕ
-rowsFrom row zero = []
-rowsFrom row (suc n) = row (suc n) ++ rowsFrom row n
 
 -- An `unfolding` line with this name opens all that computes in the reading of a closed text.
 unfoldable pub answerTo : Kind → List ℕ → List ℕ → Answer
 unfolding fieldBytes fieldsBytes rowBytes downFrom rowsFrom letterOf ruleOf misplacedIn fieldOf suits judged fieldsOf rowOf indexOf withLink withLinks merged withFusion withMark withAtom withContext withFusionRow withEdgeRow withHead withRow portsOf strange lastNumber clashOf clashes firstOf readFrom outcomeOf
 answerTo kind pattern text = outcomeOf kind pattern text .answer
 
--- The answers to the texts that begin with these rows and go on as each case says.
-abbrev pub Answers : Kind → List ℕ → List ℕ → List (List ℕ × Answer) → Type 0
-Answers kind pattern rows cases = Every (λ c. outcomeOf kind pattern (rows ++ c .0) .answer ≡ c .1) cases
-
--- The same, from what the rows hold, where one row more is allowed.
+-- Answers, from what the rows hold, where one row more is allowed.
 abbrev pub LastAnswers : Kind → List ℕ → Held → List (List ℕ × Answer) → Type 0
 LastAnswers kind pattern h cases = Every (λ c. readFrom 2 kind pattern h (c .0) .answer ≡ c .1) cases
 
@@ -61,7 +39,7 @@ pub record AlmostAll (kind : Kind) (pattern rows : List ℕ) (h : Held) : Type 0
 module _ (kind : Kind) (pattern rows : List ℕ) (h : Held) (a : AlmostAll kind pattern rows h) where
   pub last-read : (last : List ℕ) → outcomeOf kind pattern (rows ++ last) ≡ readFrom 2 kind pattern h last
   unfolding outcomeOf
-  last-read last = read-on kind pattern (rowLimit - 1) 2 nothing h rows last (a .whole) (a .read)
+  last-read last = rw (rows-limit kind) (read-on kind pattern (rowLimit - 1) 2 nothing h rows last (a .whole) (a .read))
 
   pub last-answers : (cases : List (List ℕ × Answer)) → LastAnswers kind pattern h cases → Answers kind pattern rows cases
   last-answers [] p = tt

@@ -1,30 +1,20 @@
-// Runs the worked cases of document 01 that are not starred, each on a buffer of 4,096 bytes and on one of
-// 4,095. Prints the answer and what was written, and whether the rest of the buffer is as it was.
+// Runs the worked cases of document 01 that are not starred, each on a buffer of the least length and on one that is a
+// byte shorter. Prints the answer and what was written, and whether the rest of the buffer is as it was.
 use answers::TaskAnswer;
 use answers::of_done;
 use answers::of_normalised;
+use answers::row::answer_row;
+use answers::row::written_part;
 use libc::STDOUT_FILENO;
-ghost use Rattle.io.specs.Counts.{Counts};
+use rows::Sheet;
+use task_files::read_named;
 
 // A row more than a text may have.
-const LONG: usize = 8738;
+const LONG: usize = (Sheet::ROWS + 1) * Sheet::ROW;
 
-const FULL: usize = 4096;
-
-const SHORT: usize = 4095;
+const SHORT: usize = Sheet::SLIP - 1;
 
 const OLD: u8 = b'.';
-
-// Reads the file of this name, if there is a name, and answers how many bytes it read.
-fn read_file(name: &[u8], text: &mut [u8]) -> usize
-    ensures { λ r. ⌜ Counts r (now (text .exit)) ⌝ }
-{
-    if name.len() == 0 {
-        return 0;
-    }
-    let fd = os::open_read(name);
-    task_files::read_input(fd, text)
-}
 
 // The task of this name; a text that it does not use is empty.
 fn run_task(task: &[u8], first: &[u8], second: &[u8], third: &[u8], out: &mut [u8]) -> TaskAnswer {
@@ -42,11 +32,12 @@ fn run_task(task: &[u8], first: &[u8], second: &[u8], third: &[u8], out: &mut [u
 }
 
 fn print_run(answer: TaskAnswer, out: &[u8]) {
-    task_files::print_answer(answer, out);
+    io::write_all(STDOUT_FILENO, &answer_row(answer));
+    io::write_all(STDOUT_FILENO, written_part(answer, out));
     let from = answer.bytes;
     let end = out.len();
-    if from <= end && end <= FULL {
-        let old = [OLD; FULL];
+    if from <= end && end <= Sheet::SLIP {
+        let old = [OLD; Sheet::SLIP];
         if check::same(&out[from..], &old[from..end]) {
             io::write_all(STDOUT_FILENO, b"rest kept\n");
         }
@@ -54,7 +45,7 @@ fn print_run(answer: TaskAnswer, out: &[u8]) {
 }
 
 fn run_texts(task: &[u8], first: &[u8], second: &[u8], third: &[u8]) {
-    let mut out = [OLD; FULL];
+    let mut out = [OLD; Sheet::SLIP];
     let done = run_task(task, first, second, third, &mut out);
     print_run(done, &out);
     let mut short = [OLD; SHORT];
@@ -64,11 +55,17 @@ fn run_texts(task: &[u8], first: &[u8], second: &[u8], third: &[u8]) {
 
 fn run_case(task: &[u8], first_name: &[u8], second_name: &[u8], third_name: &[u8]) {
     let mut first = [0u8; LONG];
-    let n = read_file(first_name, &mut first);
+    let input = read_named(first_name, &mut first);
     let mut second = [0u8; LONG];
-    let m = read_file(second_name, &mut second);
+    let second_input = read_named(second_name, &mut second);
     let mut third = [0u8; LONG];
-    let p = read_file(third_name, &mut third);
+    let third_input = read_named(third_name, &mut third);
+    if input.failed || second_input.failed || third_input.failed {
+        return;
+    }
+    let n = input.bytes;
+    let m = second_input.bytes;
+    let p = third_input.bytes;
     run_texts(task, &first[..n], &second[..m], &third[..p]);
 }
 

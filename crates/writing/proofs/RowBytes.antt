@@ -11,7 +11,7 @@ use lib.Dec.{ltb, leb·suc-suc}
 use lib.ListN.{length, getD, set, take, drop, length-append, length-drop, take-append-drop}
 use lib.Seq.{sets-eq, take-at, drop-append-add, drop-drop, length-take-le, getD-take}
 use Rattle.rows.specs.Pick.{pick}
-use Rattle.rows.specs.Format.{fieldCount, rowWidth}
+use Rattle.rows.specs.Format.{fieldCount, rowWidth, fieldWidth, newline}
 use Rattle.writing.specs.RowText.{fieldBytes, emptyField, fieldsBytes, rowBytes}
 
 -- A field: a number's where it is filled, else an empty one.
@@ -22,7 +22,7 @@ fieldText filled n = pick filled (fieldBytes n) emptyField
 abbrev pub fieldAt : List ℕ → ℕ → List ℕ
 fieldAt nums f = fieldText (ltb f (length nums)) (getD nums f 0)
 
-pub fields-length : (f : ℕ) (nums : List ℕ) → length (fieldsBytes f nums) ≡ f * 4
+pub fields-length : (f : ℕ) (nums : List ℕ) → length (fieldsBytes f nums) ≡ f * fieldWidth
 unfolding fieldsBytes fieldBytes
 fields-length zero nums = refl
 fields-length (suc f) [] = omega (arith, fields-length f [])
@@ -80,27 +80,27 @@ pub four-stored : (l : List ℕ) (i a b c d : ℕ) → i + 4 ≤ length l
 four-stored l i a b c d h = rw (add-one i) (rw (add-two i) (rw (add-three i) (sets-eq (a ∷ b ∷ c ∷ d ∷ []) l i h)))
 
 -- One field more is written: `new` is what stands there then.
-pub fields-put : (l new : List ℕ) (at : ℕ) (nums : List ℕ) (count f : ℕ) → count ≤ length nums → f < fieldCount → at + fieldCount * 4 ≤ length l
-    → new ≡ over (over l at (fieldsBytes f (take count nums)) (f * 4)) (at + f * 4) (fieldText (ltb f count) (getD nums f 0)) 4
-    → new ≡ over l at (fieldsBytes (f + 1) (take count nums)) ((f + 1) * 4)
+pub fields-put : (l new : List ℕ) (at : ℕ) (nums : List ℕ) (count f : ℕ) → count ≤ length nums → f < fieldCount → at + fieldCount * fieldWidth ≤ length l
+    → new ≡ over (over l at (fieldsBytes f (take count nums)) (f * fieldWidth)) (at + f * fieldWidth) (fieldText (ltb f count) (getD nums f 0)) 4
+    → new ≡ over l at (fieldsBytes (f + 1) (take count nums)) ((f + 1) * fieldWidth)
 fields-put l new at nums count f h k room e =
-    let z : (f + 1) * 4 ≡ f * 4 + 4 = omega arith in
+    let z : (f + 1) * fieldWidth ≡ f * fieldWidth + fieldWidth = omega arith in
     let m : fieldsBytes (f + 1) (take count nums) ≡ fieldsBytes f (take count nums) ++ fieldText (ltb f count) (getD nums f 0)
     = rw (add-one f, taken-field nums count f h) (fields-more f (take count nums)) in
-    e ∙ over-more l at (fieldsBytes f (take count nums)) (f * 4) (fields-length f (take count nums)) (omega arith) (fieldText (ltb f count) (getD nums f 0)) 4
+    e ∙ over-more l at (fieldsBytes f (take count nums)) (f * fieldWidth) (fields-length f (take count nums)) (omega arith) (fieldText (ltb f count) (getD nums f 0)) 4
     ∙ rw (z, m)
 
 -- A row is written: the letter, every field, the newline.
 pub row-put : (l fields : List ℕ) (at letter : ℕ) (nums : List ℕ) → at + rowWidth ≤ length l
-    → fields ≡ over (set l at letter) (at + 1) (fieldsBytes fieldCount nums) (fieldCount * 4)
-    → set fields (at + rowWidth - 1) 10 ≡ over l at (rowBytes letter nums) rowWidth
+    → fields ≡ over (set l at letter) (at + 1) (fieldsBytes fieldCount nums) (fieldCount * fieldWidth)
+    → set fields (at + rowWidth - 1) newline ≡ over l at (rowBytes letter nums) rowWidth
 unfolding rowBytes
 row-put l fields at letter nums room e =
-    let k = 1 + fieldCount * 4 in
+    let k = 1 + fieldCount * fieldWidth in
     let body = letter ∷ fieldsBytes fieldCount nums in
     let n : length body ≡ k = ap suc (fields-length fieldCount nums) in
     let b : fields ≡ over l at body k
-    = (rw (one-stored l at letter (omega arith)) at e) ∙ over-more l at (letter ∷ []) 1 refl (omega arith) (fieldsBytes fieldCount nums) (fieldCount * 4) in
+    = (rw (one-stored l at letter (omega arith)) at e) ∙ over-more l at (letter ∷ []) 1 refl (omega arith) (fieldsBytes fieldCount nums) (fieldCount * fieldWidth) in
     let z : at + rowWidth - 1 ≡ at + k = omega arith in
-    rw (z, b) (one-stored (over l at body k) (at + k) 10 (rw (over-length l at body k n (omega arith)) (omega arith))
-    ∙ over-more l at body k n (omega arith) (10 ∷ []) 1)
+    rw (z, b) (one-stored (over l at body k) (at + k) newline (rw (over-length l at body k n (omega arith)) (omega arith))
+    ∙ over-more l at body k n (omega arith) (newline ∷ []) 1)

@@ -3,7 +3,7 @@ use Prim.Native.Nat.{ℕ, zero, suc, _+_, _/_, _%_}
 use mathlib.Core.List.{List, [], _∷_, _++_}
 use lib.Dec.{ltb}
 use Rattle.rows.specs.Pick.{pick}
-use Rattle.rows.specs.Format.{fieldCount}
+use Rattle.rows.specs.Format.{fieldCount, newline}
 
 -- the column of a number at this place, 1000, 100 or 10: its digit, or a space before its first digit
 abbrev pub columnAt : ℕ → ℕ → ℕ
@@ -24,4 +24,4 @@ fieldsBytes (suc f) (n ∷ nums) = fieldBytes n ++ fieldsBytes f nums
 
 -- a row: its letter's byte, its fields, a newline
 unfoldable pub rowBytes : ℕ → List ℕ → List ℕ
-rowBytes letter nums = (letter ∷ fieldsBytes fieldCount nums) ++ (10 ∷ [])
+rowBytes letter nums = (letter ∷ fieldsBytes fieldCount nums) ++ (newline ∷ [])

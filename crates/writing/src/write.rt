@@ -6,7 +6,7 @@ ghost use mathlib.Core.Bool.{true};
 ghost use Prim.Native.Nat.{ℕ, _+_, _*_, _<_, _≤_};
 ghost use lib.ListN.{length, take, drop, getD};
 ghost use Rattle.rows.specs.Pick.{pick};
-ghost use Rattle.rows.specs.Format.{fieldCount, rowWidth};
+ghost use Rattle.rows.specs.Format.{fieldWidth, fieldCount, rowWidth, mostNumber};
 ghost use Rattle.writing.specs.RowText.{columnAt, fieldBytes, emptyField, fieldsBytes, rowBytes};
 
 // The column of n at this place: its digit, or a space before its first digit.
@@ -22,8 +22,8 @@ fn column_at(n: u16, place: u16) -> u8
 
 // Four bytes, one after the other.
 fn put_columns(out: &mut [u8], at: usize, a: u8, b: u8, c: u8, d: u8)
-    requires { ⌜ at + 4 ≤ length (now out) ⌝ }
-    ensures { λ _. ⌜ now (out .exit) ≡ take at (now (out .entry)) ++ (a ∷ b ∷ c ∷ d ∷ []) ++ drop (at + 4) (now (out .entry)) ⌝ }
+    requires { ⌜ at + fieldWidth ≤ length (now out) ⌝ }
+    ensures { λ _. ⌜ now (out .exit) ≡ take at (now (out .entry)) ++ (a ∷ b ∷ c ∷ d ∷ []) ++ drop (at + fieldWidth) (now (out .entry)) ⌝ }
 {
     out[at] = a;
     out[at + 1] = b;
@@ -33,9 +33,9 @@ fn put_columns(out: &mut [u8], at: usize, a: u8, b: u8, c: u8, d: u8)
 
 // A field: n where it is filled, else four spaces.
 fn put_field(out: &mut [u8], at: usize, filled: bool, n: u16)
-    requires { ⌜ at + 4 ≤ length (now out) ⌝ }
-    requires { ⌜ (filled ≡ true → n ≤ 9999) ⌝ }
-    ensures { λ _. ⌜ now (out .exit) ≡ take at (now (out .entry)) ++ pick filled (fieldBytes n) emptyField ++ drop (at + 4) (now (out .entry)) ⌝ }
+    requires { ⌜ at + fieldWidth ≤ length (now out) ⌝ }
+    requires { ⌜ (filled ≡ true → n ≤ mostNumber) ⌝ }
+    ensures { λ _. ⌜ now (out .exit) ≡ take at (now (out .entry)) ++ pick filled (fieldBytes n) emptyField ++ drop (at + fieldWidth) (now (out .entry)) ⌝ }
 {
     if filled {
         let thousands = column_at(n, 1000);
@@ -49,14 +49,14 @@ fn put_field(out: &mut [u8], at: usize, filled: bool, n: u16)
 
 // Every field of a row: the first count numbers, then empty fields.
 fn put_fields(out: &mut [u8], at: usize, nums: [u16; Sheet::FIELDS], count: usize)
-    requires { ⌜ at + fieldCount * 4 ≤ length (now out) ⌝ }
+    requires { ⌜ at + fieldCount * fieldWidth ≤ length (now out) ⌝ }
     requires { ⌜ count ≤ fieldCount ⌝ }
-    requires { ⌜ ((k : ℕ) → k < count → getD nums k 0 ≤ 9999) ⌝ }
-    ensures { λ _. ⌜ now (out .exit) ≡ take at (now (out .entry)) ++ fieldsBytes fieldCount (take count nums) ++ drop (at + fieldCount * 4) (now (out .entry)) ⌝ }
+    requires { ⌜ ((k : ℕ) → k < count → getD nums k 0 ≤ mostNumber) ⌝ }
+    ensures { λ _. ⌜ now (out .exit) ≡ take at (now (out .entry)) ++ fieldsBytes fieldCount (take count nums) ++ drop (at + fieldCount * fieldWidth) (now (out .entry)) ⌝ }
 {
     let mut f = 0;
     while f < Sheet::FIELDS {
-        put_field(out, at + f * 4, f < count, nums[f]);
+        put_field(out, at + f * Sheet::FIELD, f < count, nums[f]);
         f += 1;
     }
 }
@@ -65,7 +65,7 @@ fn put_fields(out: &mut [u8], at: usize, nums: [u16; Sheet::FIELDS], count: usiz
 pub fn put_row(out: &mut [u8], at: usize, letter: u8, nums: [u16; Sheet::FIELDS], count: usize)
     requires { ⌜ at + rowWidth ≤ length (now out) ⌝ }
     requires { ⌜ count ≤ fieldCount ⌝ }
-    requires { ⌜ ((k : ℕ) → k < count → getD nums k 0 ≤ 9999) ⌝ }
+    requires { ⌜ ((k : ℕ) → k < count → getD nums k 0 ≤ mostNumber) ⌝ }
     ensures { λ _. ⌜ now (out .exit) ≡ take at (now (out .entry)) ++ rowBytes letter (take count nums) ++ drop (at + rowWidth) (now (out .entry)) ⌝ }
 {
     out[at] = letter;

@@ -109,7 +109,7 @@ impl Calls {
         let mut out = old_slip(if case.task.has_output() { case.slip } else { 0 });
         match self.call(case.task, &case.inputs, &mut out) {
             Ok(Answer { number, input, row, bytes }) => Outcome { number, input, row, bytes, yes: false, out },
-            Err(Verdict { number, input, row, yes }) => Outcome { number, input, row, bytes: 0, yes, out },
+            Err(Verdict { number, input, row, bytes, yes }) => Outcome { number, input, row, bytes, yes, out },
         }
     }
 }

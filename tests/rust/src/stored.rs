@@ -69,6 +69,6 @@ pub fn printed(calls: &Calls, case: &Case) -> Vec<u8> {
             printed.extend_from_slice(&out[..bytes]);
             printed
         }
-        Err(Verdict { number, input, row, yes }) => a_row(&[number, input, row as u16, yes as u16]),
+        Err(Verdict { number, input, row, bytes: _, yes }) => a_row(&[number, input, row as u16, yes as u16]),
     }
 }

@@ -24,12 +24,13 @@ pub struct Answer {
     pub bytes: usize,
 }
 
-/// The outcome of a task without output; `yes` is false in a refusal.
+/// The outcome of a task without output: no bytes are written, and `yes` is false in a refusal.
 #[derive(Debug, Clone, Copy, PartialEq, Eq)]
 pub struct Verdict {
     pub number: u16,
     pub input: u16,
     pub row: usize,
+    pub bytes: usize,
     pub yes: bool,
 }
 
@@ -58,8 +59,8 @@ fn answer(result: Result<usize, Refused>) -> Answer {
 
 fn verdict(result: Result<bool, Refused>) -> Verdict {
     match result {
-        Ok(yes) => Verdict { number: DONE, input: 0, row: 0, yes },
-        Err(Refused { number, input, row }) => Verdict { number, input, row, yes: false },
+        Ok(yes) => Verdict { number: DONE, input: 0, row: 0, bytes: 0, yes },
+        Err(Refused { number, input, row }) => Verdict { number, input, row, bytes: 0, yes: false },
     }
 }
 

@@ -4,6 +4,7 @@ use Prim.Native.Nat.{_+_, _≤_}
 use mathlib.Core.Path.{ap, sym, _∙_}
 use native.Mathlib.Omega.{arith}
 use lib.ListN.{length, take}
+use Rattle.rows.specs.Format.{rowWidth}
 use Rattle.numbering.specs.Numbering.{numbering, noNumbers, withClasses}
 use Rattle.numbering.proofs.Turns.{with-classes-count}
 use Rattle.numbering.proofs.Kept.{low-none, low-after}
@@ -28,7 +29,7 @@ put-pair-requires c κs = let s = c .before .before .before .before .before .bef
 add-put-symbols : tie.Need-add-put-symbols
 add-put-symbols c = let s = c .before .before .before .before .before .before .before .before .before .before .before .before .before in
     let a = s .args in
-    let h : a .at + 34 ≤ length (a .out .now) = omega (arith, s .pre .1 .1, filling-size (a .sheet) (s .pre .0 .0) (a .links-to .now) (a .given .now) (a .context) (s .pre .0 .4)) in
+    let h : a .at + rowWidth ≤ length (a .out .now) = omega (arith, s .pre .1 .1, filling-size (a .sheet) (s .pre .0 .0) (a .links-to .now) (a .given .now) (a .context) (s .pre .0 .4)) in
     search needs
 
 put-symbols-requires : tie.Need-put-symbols-requires

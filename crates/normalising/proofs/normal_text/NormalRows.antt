@@ -7,7 +7,7 @@ use native.Mathlib.Numerals.{add-one, add-two}
 use native.Mathlib.Omega.{arith}
 use lib.ListN.{length, getD, set, take, drop, length-append}
 use lib.Seq.{take-suc, take-suc-set, take-all}
-use Rattle.rows.specs.Format.{rowWidth}
+use Rattle.rows.specs.Format.{rowWidth, mostNumber}
 use Rattle.writing.proofs.RowBytes.{row-width, over, over-more}
 use Rattle.rows.specs.declared.Atom.{Atom}
 use Rattle.rows.specs.declared.Context.{Context}
@@ -30,12 +30,12 @@ pub linked-taken : (a b count : ℕ) (links : List ℕ) → take (count + 2) (a 
 linked-taken a b count links = rw (add-two count)
 
 -- the numbers of a row have four digits at most
-pub two-narrow : (a b : ℕ) (l : List ℕ) → a ≤ 9999 → b ≤ 9999 → (k : ℕ) → k < 2 → getD (a ∷ b ∷ l) k 0 ≤ 9999
+pub two-narrow : (a b : ℕ) (l : List ℕ) → a ≤ mostNumber → b ≤ mostNumber → (k : ℕ) → k < 2 → getD (a ∷ b ∷ l) k 0 ≤ mostNumber
 two-narrow a b l p q zero h = p
 two-narrow a b l p q (suc zero) h = q
 two-narrow a b l p q (suc (suc k)) h = absurd (omega arith)
 
-pub linked-narrow : (a b : ℕ) (links : List ℕ) → Narrow a b links → (k : ℕ) → k < b + 2 → getD (a ∷ b ∷ links) k 0 ≤ 9999
+pub linked-narrow : (a b : ℕ) (links : List ℕ) → Narrow a b links → (k : ℕ) → k < b + 2 → getD (a ∷ b ∷ links) k 0 ≤ mostNumber
 linked-narrow a b links n zero h = n .named
 linked-narrow a b links n (suc zero) h = omega arith
 linked-narrow a b links n (suc (suc k)) h = n .linked k (omega arith)

@@ -7,8 +7,8 @@ use lib.ListN.{length, getD, take, length-map}
 use lib.Seq.{length-take-le, getD-take}
 use Rattle.hyperlmntal.specs.Link.{free, _∈_}
 use Rattle.hyperlmntal.specs.Hypergraph.{Node, inner, mapCell, portNodes, nodes}
-use Rattle.rows.specs.Format.{mostLinks, rowWidth}
-use Rattle.rows.specs.Limits.{sheetAtoms, figureContexts, sheetMarks}
+use Rattle.rows.specs.Format.{mostLinks, rowWidth, mostNumber}
+use Rattle.rows.specs.Limits.{sheetMarks, atomRoom, contextRoom, markRoom}
 use Rattle.rows.specs.Held.{Held, indexOf}
 use Rattle.rows.specs.Packed.{padded, noAtom, noContext}
 use Rattle.rows.specs.declared.Atom.{Atom}
@@ -21,9 +21,10 @@ use Rattle.reading.specs.NormalSheet.{numberIn, normalAtom, normalContext, norm
 use Rattle.normalising.specs.NormalText.{nodeNumber, cellBytes, edgeBytes, joined, textOf, slipLength}
 use Rattle.normalising.specs.NormalRows.{pastAtoms, pastContexts, symbolRow, blankRow, atomRow, contextRow, markRow, normalRows, Narrow, Writable}
 use Rattle.sheet.specs.declared.kind.Kind.{Kind}
+use Rattle.sheet.specs.HeldLimits.{MarkRange, AtomRange, ContextRange, WithinLimits}
 use Rattle.reading.specs.Agrees.{Agrees}
 use Rattle.reading.proofs.normal.Merging.{at-indexOf, getD-in, among-in}
-use Rattle.sheet.proofs.read.Ranges.{every-at, MarkRange, AtomRange, ContextRange, WithinLimits}
+use Rattle.sheet.proofs.read.Every.{every-at}
 use Rattle.sheet.proofs.read.Room.{limits-most}
 use Rattle.reading.proofs.normal.Marks.{marks-of}
 use Rattle.reading.proofs.normal.TextGraph.{Linked, graph-name}
@@ -87,16 +88,16 @@ module _ (h : Held) where
 
   -- what stands at a place
   pub atom-at : (k : ℕ) → k < length (h .atoms) → getD (packedNormal h .atoms) k pastAtoms ≡ normalAtom h (getD (h .atoms) k pastAtoms)
-  atom-at k p = mapped-at (normalAtom h) (sheetAtoms + 1) noAtom (h .atoms) k pastAtoms pastAtoms p
+  atom-at k p = mapped-at (normalAtom h) atomRoom noAtom (h .atoms) k pastAtoms pastAtoms p
 
   pub context-at : (k : ℕ) → k < length (h .contexts) → getD (packedNormal h .contexts) k pastContexts ≡ normalContext h (getD (h .contexts) k pastContexts)
-  context-at k p = mapped-at (normalContext h) (figureContexts + 1) noContext (h .contexts) k pastContexts pastContexts p
+  context-at k p = mapped-at (normalContext h) contextRoom noContext (h .contexts) k pastContexts pastContexts p
 
   pub mark-at : (k : ℕ) → k < length (normalMarks h) → getD (packedNormal h .marks) k 0 ≡ getD (normalMarks h) k 0
-  mark-at k p = getD-padded (sheetMarks + 1) 0 (normalMarks h) k 0 p
+  mark-at k p = getD-padded markRoom 0 (normalMarks h) k 0 p
 
   pub marked-at : (k : ℕ) → k < length (normalMarks h) → getD (packedNormal h .marked) k 0 ≡ numberIn h (markNode (getD (normalMarks h) k 0))
-  marked-at k p = mapped-at (λ m. numberIn h (markNode m)) (sheetMarks + 1) 0 (normalMarks h) k 0 0 p
+  marked-at k p = mapped-at (λ m. numberIn h (markNode m)) markRoom 0 (normalMarks h) k 0 0 p
 
 module _ (kind : Kind) (h : Held) (w : WithinLimits kind h) where
   pub atom-range : (k : ℕ) → k < length (h .atoms) → AtomRange (getD (h .atoms) k pastAtoms)
@@ -128,20 +129,20 @@ module _ (kind : Kind) (h : Held) (w : WithinLimits kind h) (A : Agrees h) where
         edges = λ e p. among-in (e .0) (h .wiring .links) (edge-links h A e p .0);
       }
 
-  pub number-narrow : (x : Node ℕ) → x ∈ shown (graphOf h) → numberIn h x ≤ 9999
+  pub number-narrow : (x : Node ℕ) → x ∈ shown (graphOf h) → numberIn h x ≤ mostNumber
   number-narrow x i = omega (arith, number-range (classOf (graphOf h .fusions)) (graphOf h) x i .1, text-links h links-known, w .links, limits-most kind .1)
 
   pub few-marks : length (normalMarks h) ≤ sheetMarks
   few-marks = omega (arith, text-marks h (h .wiring .marks) (λ e p. among-in (e .1) (h .wiring .marks) (edge-links h A e p .1)), w .marks)
 
   port-narrow : (count : ℕ) (links : List ℕ) → count ≤ length links → (j : ℕ) → j < count → inner (getD links j 0) ∈ portNodes (graphOf h .atoms)
-      → getD (padded mostLinks 0 (map (number h) (take count links))) j 0 ≤ 9999
+      → getD (padded mostLinks 0 (map (number h) (take count links))) j 0 ≤ mostNumber
   port-narrow count links r j q i =
       let n : length (take count links) ≡ count = length-take-le count links r in
       rw (mapped-at (number h) mostLinks 0 (take count links) j 0 0 (omega arith), getD-take count links j 0 q)
       (number-narrow (inner (getD links j 0)) (Memᴰ·append-left (map markNode (normalMarks h)) i))
 
-  mark-narrow : (m : ℕ) → m ∈ normalMarks h → m ≤ 9999
+  mark-narrow : (m : ℕ) → m ∈ normalMarks h → m ≤ mostNumber
   mark-narrow m i =
       let t = graph-name h (free m) (marks-of (nodes (graphOf h)) m i) in
       let p : free m ≡ free (t .0 .1) = t .2 in

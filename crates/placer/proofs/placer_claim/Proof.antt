@@ -1,6 +1,7 @@
 -- The values are those of the answer that `claim` gives.
 use borrow.Author.Needs.{needs}
-use Rattle.placer.proofs.Handed.{claimedValues, judged}
+use Rattle.answers.specs.Values.{claimedValues}
+use Rattle.placer.proofs.Handed.{judged}
 use Rattle.placer.proofs.placer_claim.Statement.{statement}
 use Rattle.placer.proofs.placer_claim.Tie as tie
 
@@ -15,7 +16,7 @@ hand-verdict-requires c κs = search needs
 
 returns : tie.Need-returns
 returns c =
-    let p = c .before .before .before .before in
+    let p = c .before .before .before .before .before in
     judged claimedValues (c .hand-verdict .ensures) (p .of-claimed .ensures) (p .before .claim .ensures)
 
 pub placer-claim-spec : {M : Type 1} → statement M

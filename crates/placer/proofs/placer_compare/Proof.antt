@@ -1,6 +1,7 @@
 -- The values are those of the answer that `compare` gives.
 use borrow.Author.Needs.{needs}
-use Rattle.placer.proofs.Handed.{comparedValues, judged}
+use Rattle.answers.specs.Values.{comparedValues}
+use Rattle.placer.proofs.Handed.{judged}
 use Rattle.placer.proofs.placer_compare.Statement.{statement}
 use Rattle.placer.proofs.placer_compare.Tie as tie
 
@@ -15,7 +16,7 @@ hand-verdict-requires c κs = search needs
 
 returns : tie.Need-returns
 returns c =
-    let p = c .before .before .before .before in
+    let p = c .before .before .before .before .before in
     judged comparedValues (c .hand-verdict .ensures) (p .of-compared .ensures) (p .before .compare .ensures)
 
 pub placer-compare-spec : {M : Type 1} → statement M

@@ -1,6 +1,7 @@
 -- The buffer is as `fill` leaves it, and the values are those of its answer.
 use borrow.Author.Needs.{needs}
-use Rattle.placer.proofs.Handed.{doneValues, handed}
+use Rattle.answers.specs.Values.{doneValues}
+use Rattle.placer.proofs.Handed.{handed}
 use Rattle.placer.proofs.placer_fill.Statement.{statement}
 use Rattle.placer.proofs.placer_fill.Tie as tie
 

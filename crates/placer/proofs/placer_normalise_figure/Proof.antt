@@ -1,6 +1,7 @@
 -- The buffer is as `normalise_figure` leaves it, and the values are those of its answer.
 use borrow.Author.Needs.{needs}
-use Rattle.placer.proofs.Handed.{normalisedValues, handed}
+use Rattle.answers.specs.Values.{normalisedValues}
+use Rattle.placer.proofs.Handed.{handed}
 use Rattle.placer.proofs.placer_normalise_figure.Statement.{statement}
 use Rattle.placer.proofs.placer_normalise_figure.Tie as tie
 

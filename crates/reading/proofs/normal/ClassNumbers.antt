@@ -13,7 +13,7 @@ use Rattle.rows.specs.Pick.{pick}
 use Rattle.rows.specs.Held.{indexOf}
 use Rattle.rows.proofs.Lists.{indexOf-append, indexOf-added}
 use Rattle.reading.specs.Normal.{others, distinct}
-use Rattle.numbering.specs.Numbering.{Numbering, linkRoom, noNumbers, withClass, withClasses}
+use Rattle.numbering.specs.Numbering.{Numbering, numberRoom, noNumbers, withClass, withClasses}
 use Rattle.reading.proofs.normal.Distinct.{index-below, distinct-in}
 use Rattle.numbering.proofs.Turns.{with-class-new, with-class-old}
 
@@ -119,11 +119,11 @@ number-stays d x c n = rw (has-append c x d) (rw (ne-eqb x c n) (go (has c d) re
 
 -- The labels d have their numbers, and no other has one.
 record Numbers (d : List ℕ) (n : Numbering) : Type 0 where
-  width : length (n .numbers) ≡ linkRoom
+  width : length (n .numbers) ≡ numberRoom
   count : n .count ≡ length d
-  at : (c : ℕ) → c < linkRoom → getD (n .numbers) c 0 ≡ number d c
+  at : (c : ℕ) → c < numberRoom → getD (n .numbers) c 0 ≡ number d c
 
-numbers-class : (d : List ℕ) (n : Numbering) (c : ℕ) → Numbers d n → c < linkRoom → Numbers (added d c) (withClass n c)
+numbers-class : (d : List ℕ) (n : Numbering) (c : ℕ) → Numbers d n → c < numberRoom → Numbers (added d c) (withClass n c)
 numbers-class d n c N low = go (has c d) refl
   where
     old : has c d ≡ true → getD (n .numbers) c 0 ≡ 0 → ⊥
@@ -132,7 +132,7 @@ numbers-class d n c N low = go (has c d) refl
     new : has c d ≡ false → getD (n .numbers) c 0 ≡ 0
     new e = N .at c low ∙ rw e
 
-    others-at : has c d ≡ false → (x : ℕ) → x < linkRoom → (t : Bool) → eqb c x ≡ t → getD (set (n .numbers) c (n .count + 1)) x 0 ≡ number (d ++ (c ∷ [])) x
+    others-at : has c d ≡ false → (x : ℕ) → x < numberRoom → (t : Bool) → eqb c x ≡ t → getD (set (n .numbers) c (n .count + 1)) x 0 ≡ number (d ++ (c ∷ [])) x
     others-at e x h true q =
         let s : c ≡ x = eqb-true c x q in
         rw (← s) (getD-set-same (n .numbers) c (n .count + 1) 0 (omega (arith, N .width)) ∙ rw (number-new d c e) (omega (arith, N .count)))
@@ -150,7 +150,7 @@ numbers-class d n c N low = go (has c d) refl
           at = λ x h. others-at e x h (eqb c x) refl;
         })
 
-numbers-classes : (l a : List ℕ) (n : Numbering) → Numbers (distinct a) n → ((c : ℕ) → c ∈ l → c < linkRoom) → Numbers (distinct (a ++ l)) (withClasses n l)
+numbers-classes : (l a : List ℕ) (n : Numbering) → Numbers (distinct a) n → ((c : ℕ) → c ∈ l → c < numberRoom) → Numbers (distinct (a ++ l)) (withClasses n l)
 unfolding withClasses
 numbers-classes [] a n N low = rw (append-nil a) N
 numbers-classes (c ∷ l) a n N low =
@@ -158,10 +158,10 @@ numbers-classes (c ∷ l) a n N low =
 
 none-numbered : Numbers (distinct []) noNumbers
 unfolding distinct
-none-numbered = record { width = length-replicate {A = ℕ} linkRoom 0; count = refl; at = λ c h. getD-replicate {A = ℕ} linkRoom c 0 0 h }
+none-numbered = record { width = length-replicate {A = ℕ} numberRoom 0; count = refl; at = λ c h. getD-replicate {A = ℕ} numberRoom c 0 0 h }
 
 -- The table after all classes of a list.
-module _ (l : List ℕ) (low : (c : ℕ) → c ∈ l → c < linkRoom) where
+module _ (l : List ℕ) (low : (c : ℕ) → c ∈ l → c < numberRoom) where
   all-numbered : Numbers (distinct l) (withClasses noNumbers l)
   all-numbered = numbers-classes l [] noNumbers none-numbered low
 

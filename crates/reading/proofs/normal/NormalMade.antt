@@ -14,7 +14,7 @@ use Rattle.hyperlmntal.proofs.Lists.{map-agree, all-map, all-append}
 use Rattle.hyperlmntal.proofs.Flats.{portNodes-append}
 use Rattle.rows.specs.Pick.{pick}
 use Rattle.rows.specs.Format.{mostLinks}
-use Rattle.rows.specs.Limits.{sheetAtoms, figureContexts, sheetMarks, fillingLinks}
+use Rattle.rows.specs.Limits.{atomRoom, contextRoom, linkRoom, markRoom}
 use Rattle.rows.specs.Held.{Held, indexOf}
 use Rattle.linking.specs.Steps.{Distinct}
 use Rattle.rows.specs.Packed.{padded, noAtom, noContext}
@@ -27,7 +27,7 @@ use Rattle.reading.specs.Graph.{atomCell, contextCell, graphOf}
 use Rattle.reading.specs.Labels.{labelIn}
 use Rattle.reading.specs.Agrees.{Agrees}
 use Rattle.reading.specs.Normal.{classOf, markNode, marksOf, shown, classesBy, numberBy}
-use Rattle.numbering.specs.Numbering.{Numbering, Numberable, labelAt, markLabelAt, linkRoom, noNumbers, withClasses, linkLabels, atomLabels, contextLabels, atomNumbered, contextNumbered, marksBy, sortedInto}
+use Rattle.numbering.specs.Numbering.{Numbering, Numberable, labelAt, markLabelAt, numberRoom, noNumbers, withClasses, linkLabels, atomLabels, contextLabels, atomNumbered, contextNumbered, marksBy, sortedInto}
 use Rattle.reading.specs.Made.{sortedMarks, numberingOf, normalMade}
 use Rattle.reading.specs.NormalSheet.{numberIn, normalAtom, normalContext, packedNormal}
 use Rattle.rows.specs.declared.Sheet.{Sheet as Normal}
@@ -65,12 +65,12 @@ once-list (x ∷ l) o = (first, once-list l rest)
 
 module _ (h : Held) where
   label-at : (x : ℕ) → labelAt (packed h) x ≡ labelIn (h .wiring) (inner x)
-  label-at x = rw (take-padded (fillingLinks + mostLinks) 0 (h .wiring .links)) (getD-padding (fillingLinks + mostLinks) 0 (h .wiring .classes) (indexOf x (h .wiring .links)))
+  label-at x = rw (take-padded linkRoom 0 (h .wiring .links)) (getD-padding linkRoom 0 (h .wiring .classes) (indexOf x (h .wiring .links)))
 
   mark-at : (m : ℕ) → markLabelAt (packed h) m ≡ labelIn (h .wiring) (markNode m)
   mark-at m =
-      rw (take-padded (sheetMarks + 1) 0 (h .wiring .marks)) (rw (getD-padding (sheetMarks + 1) 0 (h .wiring .marked) (indexOf m (h .wiring .marks)))
-      (getD-padding (fillingLinks + mostLinks) 0 (h .wiring .classes) (getD (h .wiring .marked) (indexOf m (h .wiring .marks)) 0)))
+      rw (take-padded markRoom 0 (h .wiring .marks)) (rw (getD-padding markRoom 0 (h .wiring .marked) (indexOf m (h .wiring .marks)))
+      (getD-padding linkRoom 0 (h .wiring .classes) (getD (h .wiring .marked) (indexOf m (h .wiring .marks)) 0)))
 
   link-labels : (count : ℕ) (links : List ℕ) → linkLabels (labelAt (packed h)) count links ≡ map (labelIn (h .wiring)) (map inner (take count links))
   link-labels count links =
@@ -109,15 +109,15 @@ module _ (h : Held) (A : Agrees h) where
   marks-count : length (h .wiring .marks) ≡ length (marksOf (graphOf h))
   marks-count = omega (arith, sorted-length [] (h .wiring .marks), ap length marks-sorted)
 
-  marks-made : sortedMarks (packed h) ≡ padded (sheetMarks + 1) 0 (marksOf (graphOf h))
-  marks-made = rw (take-padded (sheetMarks + 1) 0 (h .wiring .marks)) (rw marks-sorted)
+  marks-made : sortedMarks (packed h) ≡ padded markRoom 0 (marksOf (graphOf h))
+  marks-made = rw (take-padded markRoom 0 (h .wiring .marks)) (rw marks-sorted)
 
   pub marks-taken : take (length (h .wiring .marks)) (sortedMarks (packed h)) ≡ marksOf (graphOf h)
-  marks-taken = rw marks-made (rw marks-count (take-padded (sheetMarks + 1) 0 (marksOf (graphOf h))))
+  marks-taken = rw marks-made (rw marks-count (take-padded markRoom 0 (marksOf (graphOf h))))
 
   numbering-made : numberingOf (length (h .atoms)) (length (h .contexts)) (packed h) ≡ withClasses noNumbers (map (labelIn (h .wiring)) (shown (graphOf h)))
   numbering-made =
-      rw marks-taken (rw (take-padded (sheetAtoms + 1) noAtom (h .atoms)) (rw (take-padded (figureContexts + 1) noContext (h .contexts))
+      rw marks-taken (rw (take-padded atomRoom noAtom (h .atoms)) (rw (take-padded contextRoom noContext (h .contexts))
       (rw (← all-labels h) (sym
       (with-classes-append noNumbers (atomLabels (labelAt (packed h)) (h .atoms) ++ contextLabels (labelAt (packed h)) (h .contexts)) (map (markLabelAt (packed h)) (marksOf (graphOf h)))
       ∙ ap (λ n. withClasses n (map (markLabelAt (packed h)) (marksOf (graphOf h)))) (with-classes-append noNumbers (atomLabels (labelAt (packed h)) (h .atoms)) (contextLabels (labelAt (packed h)) (h .contexts))))))))
@@ -159,10 +159,10 @@ normal-steps i k s a b n atoms contexts marks marked ea fa eb fb em en ep =
 
 -- Each node that is shown gets the number of its class.
 module _ (h : Held) (A : Agrees h) (N : Numberable (packed h)) where
-  class-low : (k : ℕ) → getD (h .wiring .classes) k 0 < linkRoom
-  class-low k = omega (arith, N .labels k, getD-padding (fillingLinks + mostLinks) 0 (h .wiring .classes) k)
+  class-low : (k : ℕ) → getD (h .wiring .classes) k 0 < numberRoom
+  class-low k = omega (arith, N .labels k, getD-padding linkRoom 0 (h .wiring .classes) k)
 
-  label-low : (x : Node ℕ) → labelIn (h .wiring) x < linkRoom
+  label-low : (x : Node ℕ) → labelIn (h .wiring) x < numberRoom
   label-low (inner x) = class-low (indexOf x (h .wiring .links))
   label-low (name (free m)) = class-low (getD (h .wiring .marked) (indexOf m (h .wiring .marks)) 0)
   label-low (name (local n)) = omega arith
@@ -178,8 +178,8 @@ module _ (h : Held) (A : Agrees h) (N : Numberable (packed h)) where
       let c = class-connected (graphOf h .fusions) x y in
       (λ e. c .1 (n .0 e), λ e. n .1 (c .0 e))
 
-  low : (c : ℕ) → c ∈ map (labelIn (h .wiring)) (shown (graphOf h)) → c < linkRoom
-  low = all-map (labelIn (h .wiring)) (shown (graphOf h)) (λ c. c < linkRoom) (λ x i. label-low x)
+  low : (c : ℕ) → c ∈ map (labelIn (h .wiring)) (shown (graphOf h)) → c < numberRoom
+  low = all-map (labelIn (h .wiring)) (shown (graphOf h)) (λ c. c < numberRoom) (λ x i. label-low x)
 
   number-made : (x : Node ℕ) → x ∈ shown (graphOf h) → getD (numberingOf (length (h .atoms)) (length (h .contexts)) (packed h) .numbers) (labelIn (h .wiring) x) 0 ≡ numberIn h x
   unfolding numberBy classesBy
@@ -202,22 +202,22 @@ module _ (h : Held) (A : Agrees h) (N : Numberable (packed h)) where
 
   atoms-made : mapped (atomNumbered (numberingOf (length (h .atoms)) (length (h .contexts)) (packed h) .numbers) (labelAt (packed h))) (length (h .atoms)) (packed h .atoms) ≡ packedNormal h .atoms
   atoms-made =
-      mapped-padded (sheetAtoms + 1) noAtom (h .atoms) (atomNumbered (numberingOf (length (h .atoms)) (length (h .contexts)) (packed h) .numbers) (labelAt (packed h))) (length (h .atoms)) refl
-      ∙ ap (padded (sheetAtoms + 1) noAtom) (map-agree (atomNumbered (numberingOf (length (h .atoms)) (length (h .contexts)) (packed h) .numbers) (labelAt (packed h))) (normalAtom h) (h .atoms)
+      mapped-padded atomRoom noAtom (h .atoms) (atomNumbered (numberingOf (length (h .atoms)) (length (h .contexts)) (packed h) .numbers) (labelAt (packed h))) (length (h .atoms)) refl
+      ∙ ap (padded atomRoom noAtom) (map-agree (atomNumbered (numberingOf (length (h .atoms)) (length (h .contexts)) (packed h) .numbers) (labelAt (packed h))) (normalAtom h) (h .atoms)
       (λ a i. ap (λ (l : List ℕ). record { name = a .name; count = a .count; links = l }) (links-made (take (a .count) (a .links))
       (λ x j. ports-in (atomCell a) (inner x) (Memᴰ·append-left (map contextCell (h .contexts)) (Memᴰ·map atomCell i)) (Memᴰ·map inner j)))))
 
   contexts-made : mapped (contextNumbered (numberingOf (length (h .atoms)) (length (h .contexts)) (packed h) .numbers) (labelAt (packed h))) (length (h .contexts)) (packed h .contexts) ≡ packedNormal h .contexts
   contexts-made =
-      mapped-padded (figureContexts + 1) noContext (h .contexts) (contextNumbered (numberingOf (length (h .atoms)) (length (h .contexts)) (packed h) .numbers) (labelAt (packed h))) (length (h .contexts)) refl
-      ∙ ap (padded (figureContexts + 1) noContext) (map-agree (contextNumbered (numberingOf (length (h .atoms)) (length (h .contexts)) (packed h) .numbers) (labelAt (packed h))) (normalContext h) (h .contexts)
+      mapped-padded contextRoom noContext (h .contexts) (contextNumbered (numberingOf (length (h .atoms)) (length (h .contexts)) (packed h) .numbers) (labelAt (packed h))) (length (h .contexts)) refl
+      ∙ ap (padded contextRoom noContext) (map-agree (contextNumbered (numberingOf (length (h .atoms)) (length (h .contexts)) (packed h) .numbers) (labelAt (packed h))) (normalContext h) (h .contexts)
       (λ c i. ap (λ (l : List ℕ). record { number = c .number; count = c .count; links = l; row = c .row }) (links-made (take (c .count) (c .links))
       (λ x j. ports-in (contextCell c) (inner x) (Memᴰ·append-right (map atomCell (h .atoms)) (Memᴰ·map contextCell i)) (Memᴰ·map inner j)))))
 
   marked-made : marksBy (numberingOf (length (h .atoms)) (length (h .contexts)) (packed h) .numbers) (markLabelAt (packed h)) (take (length (h .wiring .marks)) (sortedMarks (packed h))) ≡ packedNormal h .marked
   marked-made =
       ap (marksBy (numberingOf (length (h .atoms)) (length (h .contexts)) (packed h) .numbers) (markLabelAt (packed h))) (marks-taken h A)
-      ∙ ap (padded (sheetMarks + 1) 0) (map-agree (λ m. getD (numberingOf (length (h .atoms)) (length (h .contexts)) (packed h) .numbers) (markLabelAt (packed h) m) 0) (λ m. numberIn h (markNode m)) (marksOf (graphOf h))
+      ∙ ap (padded markRoom 0) (map-agree (λ m. getD (numberingOf (length (h .atoms)) (length (h .contexts)) (packed h) .numbers) (markLabelAt (packed h) m) 0) (λ m. numberIn h (markNode m)) (marksOf (graphOf h))
       (λ m i. ap (λ c. getD (numberingOf (length (h .atoms)) (length (h .contexts)) (packed h) .numbers) c 0) (mark-at h m) ∙ number-made (markNode m) (mark-shown (graphOf h) m i)))
 
   pub normal-made : normalMade (length (h .atoms)) (length (h .contexts)) (packed h) ≡ packedNormal h

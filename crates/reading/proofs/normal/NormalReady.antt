@@ -7,7 +7,7 @@ use mathlib.Core.Bool.{false}
 use native.Mathlib.Omega.{arith}
 use lib.ListN.{length, getD, replicate}
 use Rattle.rows.specs.Format.{mostLinks}
-use Rattle.rows.specs.Limits.{sheetAtoms, figureContexts, fillingLinks}
+use Rattle.rows.specs.Limits.{fillingLinks, atomRoom, contextRoom, linkRoom}
 use Rattle.rows.specs.Held.{Held}
 use Rattle.rows.specs.Packed.{padded, noAtom, noContext, portTable}
 use Rattle.rows.specs.TextArrays.{packed}
@@ -19,8 +19,9 @@ use Rattle.numbering.specs.Numbering.{Numberable}
 use Rattle.reading.specs.Made.{readingOf}
 use Rattle.reading.specs.Readings.{sheetRead}
 use Rattle.sheet.specs.declared.kind.Kind.{Kind}
+use Rattle.sheet.specs.HeldLimits.{Every, AtomRange, ContextRange, WithinLimits}
 use Rattle.rows.specs.declared.Sheet.{Sheet as Normal}
-use Rattle.sheet.proofs.read.Ranges.{Every, every-append, AtomRange, ContextRange, WithinLimits}
+use Rattle.sheet.proofs.read.Every.{every-append}
 use Rattle.sheet.proofs.read.HeldLimits.{held-within}
 use Rattle.sheet.proofs.read.Room.{limits-most, zeros-below, within-room}
 use Rattle.reading.proofs.normal.Connected.{labels-read, agrees-read}
@@ -50,11 +51,11 @@ numberable-held kind h w L =
     let most = limits-most kind in
     record {
       room = within-room kind h w;
-      atomLinks = every-padded (λ a. a .count ≤ mostLinks) (sheetAtoms + 1) noAtom (record { name = 0; count = 0; links = [] }) (h .atoms) (omega arith) (omega arith)
+      atomLinks = every-padded (λ a. a .count ≤ mostLinks) atomRoom noAtom (record { name = 0; count = 0; links = [] }) (h .atoms) (omega arith) (omega arith)
           (every-imp AtomRange (λ a. a .count ≤ mostLinks) (λ a r. r .count) (h .atoms) (w .ranges .atoms));
-      contextLinks = every-padded (λ c. c .count ≤ mostLinks) (figureContexts + 1) noContext (record { number = 0; count = 0; links = []; row = 0 }) (h .contexts) (omega arith) (omega arith)
+      contextLinks = every-padded (λ c. c .count ≤ mostLinks) contextRoom noContext (record { number = 0; count = 0; links = []; row = 0 }) (h .contexts) (omega arith) (omega arith)
           (every-imp (ContextRange kind) (λ c. c .count ≤ mostLinks) (λ c r. r .count) (h .contexts) (w .ranges .contexts));
-      labels = zeros-below (fillingLinks + mostLinks - length (h .wiring .classes)) fillingLinks (h .wiring .classes) (omega arith) (λ k l. omega (arith, L .below k (omega (arith, L .wired .classed))));
+      labels = zeros-below (linkRoom - length (h .wiring .classes)) fillingLinks (h .wiring .classes) (omega arith) (λ k l. omega (arith, L .below k (omega (arith, L .wired .classed))));
     }
 
 pub numberable-read : (kind : Kind) (pattern text : List ℕ) → Numberable (packed (outcomeOf kind pattern text .held))

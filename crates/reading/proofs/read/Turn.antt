@@ -4,11 +4,11 @@ use mathlib.Core.Path.{_≡_, refl, ap, _∙_, sym, subst}
 use mathlib.Core.List.{List, []}
 use mathlib.Core.Bool.{Bool, true, false}
 use native.Mathlib.Omega.{arith}
-use lib.Dec.{eqb, ltb}
+use lib.Dec.{eqb}
 use lib.ListN.{length, take, drop, getD, set}
 use Rattle.rows.specs.Pick.{pick}
-use Rattle.rows.specs.Format.{mostLinks, fieldCount, rowWidth}
-use Rattle.rows.specs.Limits.{rowLimit, sheetMarks, fillingLinks}
+use Rattle.rows.specs.Format.{fieldCount, rowWidth, headLetter}
+use Rattle.rows.specs.Limits.{rowLimit, linkRoom, markRoom}
 use Rattle.rows.specs.Held.{Wiring, Held, nothing, withRow}
 use Rattle.rows.specs.Packed.{portTable}
 use Rattle.rows.specs.TextArrays.{packed, TextArrays}
@@ -20,12 +20,13 @@ use Rattle.rows.proofs.Padding.{length-padded, take-padded}
 use Rattle.rows.proofs.RowRange.{row-length}
 use Rattle.linking.proofs.TakeRow.{row-taken}
 use Rattle.sheet.specs.Filling.{isPassed}
-use Rattle.sheet.specs.Reading.{ragged, lastNumber, clashes, taken, firstOf, tests, readFrom, Outcome, outcomeOf}
+use Rattle.sheet.specs.Reading.{ragged, strangeBy, lastNumber, clashes, taken, firstOf, earlyTests, lateTests, tests, readFrom, Outcome, outcomeOf}
 use Rattle.sheet.specs.Kinds.{isList}
 use Rattle.numbering.specs.Numbering.{Numberable}
 use Rattle.reading.specs.Made.{arrays, Widths, isMany, normalMade, readingOf}
 use Rattle.reading.proofs.normal.NormalReady.{numberable-read}
-use Rattle.sheet.specs.Steps.{answerOf, earlyTests, lateTests, Looked}
+use Rattle.sheet.specs.Steps.{answerOf, wholeRow, nextOf}
+use Rattle.sheet.specs.declared.answer.Refusal.{Refusal}
 use Rattle.sheet.specs.declared.answer.Answer.{Answer}
 use Rattle.sheet.specs.declared.answer.Answer.the-variants.{Passed}
 use Rattle.sheet.specs.declared.kind.Kind.{Kind}
@@ -35,7 +36,7 @@ use Rattle.reading.specs.declared.read.Reading.{Reading}
 use Rattle.sheet.proofs.read.Taken.{rowAt}
 use Rattle.sheet.proofs.read.Room.{limits-most, within-room, good-ranged}
 use Rattle.sheet.proofs.read.Clashes.{last-at}
-use Rattle.sheet.proofs.read.Judged.{answer-taken, answer-refused, early-refused, early-good, late-verdict}
+use Rattle.sheet.proofs.read.Judged.{answer-taken, answer-refused, early-refused, early-whole, early-good, late-verdict}
 use Rattle.sheet.proofs.read.Walk.{Read, read-start, read-end, opened, row-fits, read-next}
 
 -- what is read of a text after k rows, and the arrays that hold it
@@ -55,10 +56,10 @@ kept-widths kind pattern text k s i =
     let v = i .held .wiring in
     let most = limits-most kind in
     subst Widths (sym (i .arrays)) (
-      length-padded (fillingLinks + mostLinks) 0 (v .links) (omega (arith, w .links, most)),
-      length-padded (fillingLinks + mostLinks) 0 (v .classes) (omega (arith, w .links, w .wired .classed, most)),
-      length-padded (sheetMarks + 1) 0 (v .marks) (omega (arith, w .marks)),
-      length-padded (sheetMarks + 1) 0 (v .marked) (omega (arith, w .marks, w .wired .placed)),
+      length-padded linkRoom 0 (v .links) (omega (arith, w .links, most)),
+      length-padded linkRoom 0 (v .classes) (omega (arith, w .links, w .wired .classed, most)),
+      length-padded markRoom 0 (v .marks) (omega (arith, w .marks)),
+      length-padded markRoom 0 (v .marked) (omega (arith, w .marks, w .wired .placed)),
     )
 
 pub kept-start : (kind : Kind) (pattern text : List ℕ) (s : TextArrays) → s ≡ packed nothing → Kept kind pattern text 0 s
@@ -88,7 +89,7 @@ unported s n =
 -- no link stands twice
 pub kept-distinct : (kind : Kind) (pattern text : List ℕ) (k : ℕ) (s : TextArrays) → Kept kind pattern text k s → Distinct (take (s .«link_count») (s .links))
 kept-distinct kind pattern text k s i =
-    rw (i .arrays, take-padded (fillingLinks + mostLinks) 0 (i .held .wiring .links)) (i .read .within .wired .distinct)
+    rw (i .arrays, take-padded linkRoom 0 (i .held .wiring .links)) (i .read .within .wired .distinct)
 
 pub some-shown : (b : Bool) (c : ℕ) → pick b 0 c ≤ c
 some-shown true c = omega arith
@@ -106,7 +107,7 @@ refused-reading kind o x e = rw e (go (isMany kind 0) (isList kind))
     go false false = refl
 
 module _ (kind : Kind) (pattern text : List ℕ) (k : ℕ) (s : TextArrays) (i : Kept kind pattern text k s) (more : k * rowWidth < length text)
-    (next : Next) (look : Looked kind (s .«context_count») k (drop (k * rowWidth) text) next) where
+    (next : Next) (look : next ≡ nextOf kind (s .«context_count») k (drop (k * rowWidth) text)) where
   abbrev h : Held
   h = i .held
 
@@ -119,30 +120,39 @@ module _ (kind : Kind) (pattern text : List ℕ) (k : ℕ) (s : TextArrays) (i :
   heads : s .«context_count» ≡ length (h .contexts)
   heads = ap (λ (s : TextArrays). s .«context_count») (i .arrays)
 
+  abbrev odd : Bool
+  odd = strangeBy kind (rowAt t .letter) (s .«context_count»)
+
+  abbrev early : List (Bool × Refusal)
+  early = earlyTests kind k (ragged t) odd (rowAt t)
+
+  looked : next .answer ≡ answerOf (firstOf early) (k + 1)
+  looked = ap (λ (n : Next). n .answer) look
+
   -- the tests before the row is taken in turn it down
   pub turned-early : isPassed (next .answer) ≡ false → Answered (next .answer)
   turned-early p =
       let v = firstOf (tests kind pattern h t) in
       opened kind pattern text (k * rowWidth) k h (i .read) more (i .few) v refl
-      ∙ answer-refused v (firstOf (earlyTests kind (s .«context_count») k (ragged t) (rowAt t))) h (readFrom (rowLimit - k) kind pattern (withRow h (rowAt t)) (drop rowWidth t))
-      (next .answer) (k + 1) (look .answer) p (ap (λ (n : ℕ). n + 1) (sym (i .read .rows))) (early-refused kind pattern h t (s .«context_count») k (i .read .rows) heads)
+      ∙ answer-refused v (firstOf early) h (readFrom (rowLimit - k) kind pattern (withRow h (rowAt t)) (drop rowWidth t))
+      (next .answer) (k + 1) looked p (ap (λ (n : ℕ). n + 1) (sym (i .read .rows))) (early-refused kind pattern h t (s .«context_count») k (i .read .rows) heads)
 
   -- they pass
   module _ (p : isPassed (next .answer) ≡ true) where
-    passes : firstOf (earlyTests kind (s .«context_count») k (ragged t) (rowAt t)) ≡ taken
-    passes = answer-taken _ (k + 1) (ap isPassed (sym (look .answer)) ∙ p)
+    passes : firstOf early ≡ taken
+    passes = answer-taken _ (k + 1) (ap isPassed (sym looked) ∙ p)
 
     row-here : next .row ≡ rowAt t
-    row-here = look .row p
+    row-here = ap (λ (n : Next). n .row) look ∙ ap (λ (b : Bool). wholeRow b t) (early-whole kind k (ragged t) odd (rowAt t) passes)
 
     pub row-ranged : Ranged (next .row)
-    row-ranged = rw row-here (good-ranged (take rowWidth t) (early-good kind (s .«context_count») k (ragged t) (rowAt t) passes))
+    row-ranged = rw row-here (good-ranged (take rowWidth t) (early-good kind k (ragged t) odd (rowAt t) passes))
 
     -- the arrays with the row
     pub row-made : (a : Atom) (da : ℕ) (c : Context) (b : Bool) (dc : ℕ) (ports links classes : List ℕ) (n : ℕ) (labels marks marked : List ℕ) (m : ℕ)
         → a ≡ atomBy (next .row) → da ≡ pick (eqb (next .row .letter) 0) 1 0 → c ≡ contextBy (next .row) (k + 1) → b ≡ isContext (next .row .letter) → dc ≡ pick b 1 0 → ports ≡ portsBy (next .row) (s .ports)
         → Relinks (s .links) (s .classes) (s .«link_count») links classes n (linkedBy (next .row))
-        → ((w v : Wiring) → Wired w → Wired v → Linked w links classes n → Marked (pick (ltb 3 (next .row .letter)) v w) (s .marks) (s .marked) (s .«mark_count») → Tied (markedBy (next .row) w) links labels n marks marked m)
+        → ((w v : Wiring) → Wired w → Wired v → Linked w links classes n → Marked (pick (eqb (next .row .letter) headLetter) v w) (s .marks) (s .marked) (s .«mark_count») → Tied (markedBy (next .row) w) links labels n marks marked m)
         → record {
           atoms = set (s .atoms) (s .«atom_count») a;
           «atom_count» = s .«atom_count» + da;

@@ -13,7 +13,7 @@ use borrow.Author.Tests.{lt-ltb, le-ltb, ltb-false, ne-eqb}
 use Rattle.rows.specs.Pick.{pick, and}
 use Rattle.rows.specs.Format.{rowWidth}
 use Rattle.rows.specs.Row.{rowOf}
-use Rattle.sheet.specs.Filling.{headFirst, fromHead, beforeHead, firstFilling, isPassed, fillingOf}
+use Rattle.sheet.specs.Filling.{headByte, headFirst, fromHead, beforeHead, firstFilling, isPassed, fillingOf}
 use Rattle.sheet.specs.Reading.{outcomeOf, noPorts}
 use Rattle.sheet.specs.declared.kind.Kind.the-variants.{Fillings}
 
@@ -52,15 +52,15 @@ module _ (s : List ℕ) (at : ℕ) where
     long : ltb (length (drop at s)) rowWidth ≡ false
     long = rw (length-drop at s) (le-ltb _ _ h)
 
-    pub head-row : (number : ℕ) (head same : Bool) → eqb (getD s at 0) 72 ≡ head → eqb (getD (rowOf (take rowWidth (drop at s)) .nums) 0 0) number ≡ same
+    pub head-row : (number : ℕ) (head same : Bool) → eqb (getD s at 0) headByte ≡ head → eqb (getD (rowOf (take rowWidth (drop at s)) .nums) 0 0) number ≡ same
         → fromHead (length s) number (drop at s) ≡ pick (and head same) (drop at s) (fromHead (length s) number (drop (at + rowWidth) s))
     unfolding fromHead
     head-row number head same e f = head-count (length s) number (drop at s) counted ∙ rw (long, first, e, f, drop-drop)
 
-    pub head-other : (number : ℕ) → (getD s at 0 ≡ 72 → ⊥) → fromHead (length s) number (drop at s) ≡ fromHead (length s) number (drop (at + rowWidth) s)
+    pub head-other : (number : ℕ) → (getD s at 0 ≡ headByte → ⊥) → fromHead (length s) number (drop at s) ≡ fromHead (length s) number (drop (at + rowWidth) s)
     head-other number n = head-row number false _ (ne-eqb _ _ n) refl
 
-    pub before-row : (head : Bool) → eqb (getD s at 0) 72 ≡ head
+    pub before-row : (head : Bool) → eqb (getD s at 0) headByte ≡ head
         → beforeHead (length s) (drop at s) ≡ pick head [] (take rowWidth (drop at s) ++ beforeHead (length s) (drop (at + rowWidth) s))
     unfolding beforeHead
     before-row head e = before-count (length s) (drop at s) counted ∙ rw (long, first, e, drop-drop)
@@ -73,7 +73,7 @@ pub parted-start : (s : List ℕ) (from : ℕ) → from ≤ length s → Parted 
 parted-start s from h = let z : from - from ≡ 0 = omega arith in (omega arith, h, rw z)
 
 module _ (s : List ℕ) (from at : ℕ) (p : Parted s from at) where
-  pub parted-row : rowWidth ≤ length s - at → (getD s at 0 ≡ 72 → ⊥) → Parted s from (at + rowWidth)
+  pub parted-row : rowWidth ≤ length s - at → (getD s at 0 ≡ headByte → ⊥) → Parted s from (at + rowWidth)
   parted-row h n =
       let y : at + rowWidth - from ≡ (at - from) + rowWidth = omega arith in
       let z : from + (at - from) ≡ at = omega arith in

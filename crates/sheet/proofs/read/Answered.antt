@@ -6,11 +6,10 @@ use mathlib.Core.Bool.{Bool, true, false}
 use lib.Dec.{ltb}
 use borrow.Author.Tests.{lt-ltb, le-ltb, le-leb, lt-leb}
 use Rattle.rows.specs.Pick.{pick, or, not}
-use Rattle.rows.specs.Limits.{rowLimit, figureContexts, sheetMarks}
 use Rattle.rows.specs.declared.row.Row.{Row}
-use Rattle.sheet.specs.Kinds.{atomLimit, linkLimit}
-use Rattle.sheet.specs.Reading.{Verdict, taken, refused, firstOf}
-use Rattle.sheet.specs.Steps.{answerOf, strangeBy, earlyTests, lateTests}
+use Rattle.sheet.specs.Kinds.{limitsOf, atomLimit, linkLimit}
+use Rattle.sheet.specs.Reading.{strangeBy, crowded, overLinks, overMarks, firstOf, lateTests}
+use Rattle.sheet.specs.Steps.{answerOf, earlyAnswer}
 use Rattle.sheet.specs.declared.kind.Kind.{Kind}
 use Rattle.sheet.specs.declared.answer.Refusal.{Refusal}
 use Rattle.sheet.specs.declared.answer.Refusal.the-variants.{Ragged, StrangeRow, BadColumn, Long, Crowded, Joints, Marks, BlankClash}
@@ -46,25 +45,25 @@ module _ (n : ℕ) (r1 r2 r3 r4 : Refusal) (b1 b2 b3 b4 : Bool) where
 -- before the row is taken in
 module _ (kind : Kind) (heads k : ℕ) (cut : Bool) (r : Row) where
   abbrev Early : Answer → Type 0
-  Early x = x ≡ answerOf (firstOf (earlyTests kind heads k cut r)) (k + 1)
+  Early x = x ≡ earlyAnswer kind heads k cut r
 
-  pub early-long : rowLimit ≤ k → Early (Refused Long (k + 1))
-  early-long a = first (k + 1) Long Ragged StrangeRow BadColumn _ cut (strangeBy kind (r .letter) heads) (not (r .good)) (le-leb rowLimit k a)
+  pub early-long : limitsOf kind .rows ≤ k → Early (Refused Long (k + 1))
+  early-long a = first (k + 1) Long Ragged StrangeRow BadColumn _ cut (strangeBy kind (r .letter) heads) (not (r .good)) (le-leb _ k a)
 
-  module _ (a : k < rowLimit) where
+  module _ (a : k < limitsOf kind .rows) where
     pub early-cut : cut ≡ true → Early (Refused Ragged (k + 1))
-    early-cut b = second (k + 1) Long Ragged StrangeRow BadColumn _ cut (strangeBy kind (r .letter) heads) (not (r .good)) (lt-leb rowLimit k a) b
+    early-cut b = second (k + 1) Long Ragged StrangeRow BadColumn _ cut (strangeBy kind (r .letter) heads) (not (r .good)) (lt-leb _ k a) b
 
     module _ (b : cut ≡ false) where
       pub early-strange : strangeBy kind (r .letter) heads ≡ true → Early (Refused StrangeRow (k + 1))
-      early-strange c = third (k + 1) Long Ragged StrangeRow BadColumn _ cut (strangeBy kind (r .letter) heads) (not (r .good)) (lt-leb rowLimit k a) b c
+      early-strange c = third (k + 1) Long Ragged StrangeRow BadColumn _ cut (strangeBy kind (r .letter) heads) (not (r .good)) (lt-leb _ k a) b c
 
       module _ (c : strangeBy kind (r .letter) heads ≡ false) where
         pub early-column : r .good ≡ false → Early (Refused BadColumn (k + 1))
-        early-column d = fourth (k + 1) Long Ragged StrangeRow BadColumn _ cut (strangeBy kind (r .letter) heads) (not (r .good)) (lt-leb rowLimit k a) b c (ap not d)
+        early-column d = fourth (k + 1) Long Ragged StrangeRow BadColumn _ cut (strangeBy kind (r .letter) heads) (not (r .good)) (lt-leb _ k a) b c (ap not d)
 
         pub early-none : r .good ≡ true → Early Passed
-        early-none d = fifth (k + 1) Long Ragged StrangeRow BadColumn _ cut (strangeBy kind (r .letter) heads) (not (r .good)) (lt-leb rowLimit k a) b c (ap not d)
+        early-none d = fifth (k + 1) Long Ragged StrangeRow BadColumn _ cut (strangeBy kind (r .letter) heads) (not (r .good)) (lt-leb _ k a) b c (ap not d)
 
 -- after it
 module _ (kind : Kind) (atoms contexts links marks : ℕ) (clash : Bool) (at : ℕ) where
@@ -72,24 +71,24 @@ module _ (kind : Kind) (atoms contexts links marks : ℕ) (clash : Bool) (at : �
   Late x = x ≡ answerOf (firstOf (lateTests kind atoms contexts links marks clash)) at
 
   crowd : Bool
-  crowd = or (ltb (atomLimit kind) atoms) (ltb figureContexts contexts)
+  crowd = crowded kind atoms contexts
 
   over : Bool
-  over = ltb (linkLimit kind) links
+  over = overLinks kind links
 
   marked : Bool
-  marked = ltb sheetMarks marks
+  marked = overMarks kind marks
 
   pub late-atoms : atomLimit kind < atoms → Late (Refused Crowded at)
   unfolding crowd over marked
   late-atoms a = first at Crowded Joints Marks BlankClash crowd over marked clash (rw (lt-ltb _ _ a))
 
   module _ (a : atoms ≤ atomLimit kind) where
-    pub late-contexts : figureContexts < contexts → Late (Refused Crowded at)
+    pub late-contexts : limitsOf kind .contexts < contexts → Late (Refused Crowded at)
     unfolding crowd over marked
     late-contexts b = first at Crowded Joints Marks BlankClash crowd over marked clash (rw (le-ltb _ _ a) (rw (lt-ltb _ _ b)))
 
-    module _ (b : contexts ≤ figureContexts) where
+    module _ (b : contexts ≤ limitsOf kind .contexts) where
       few : crowd ≡ false
       unfolding crowd
       few = rw (le-ltb _ _ a) (rw (le-ltb _ _ b))
@@ -99,11 +98,11 @@ module _ (kind : Kind) (atoms contexts links marks : ℕ) (clash : Bool) (at : �
       late-links c = second at Crowded Joints Marks BlankClash crowd over marked clash few (lt-ltb _ _ c)
 
       module _ (c : links ≤ linkLimit kind) where
-        pub late-marks : sheetMarks < marks → Late (Refused Marks at)
+        pub late-marks : limitsOf kind .marks < marks → Late (Refused Marks at)
         unfolding crowd over marked
         late-marks d = third at Crowded Joints Marks BlankClash crowd over marked clash few (le-ltb _ _ c) (lt-ltb _ _ d)
 
-        module _ (d : marks ≤ sheetMarks) where
+        module _ (d : marks ≤ limitsOf kind .marks) where
           pub late-clash : clash ≡ true → Late (Refused BlankClash at)
           unfolding crowd over marked
           late-clash e = fourth at Crowded Joints Marks BlankClash crowd over marked clash few (le-ltb _ _ c) (le-ltb _ _ d) e

@@ -1,11 +1,11 @@
 -- What a text holds is within the table's ranges and limits.
 use Prim.Native.Nat.{ℕ, zero, suc, _+_, _<_}
-use mathlib.Core.Path.{_≡_, refl, _∙_}
+use mathlib.Core.Path.{_≡_, refl, _∙_, ap}
 use mathlib.Core.List.{List, [], _∷_}
 use mathlib.Core.Bool.{Bool, true, false, true≢false, false≢true}
 use mathlib.Core.Logic.{⊎-elim}
 use native.Mathlib.Omega.{arith}
-use borrow.Author.Tests.{lt-ltb, ltb-true, ltb-false}
+use borrow.Author.Tests.{ltb-true, ltb-false}
 use lib.Dec.{ltb}
 use lib.ListN.{length, getD, take, drop, length-take, length-drop, List·getD-eq-default}
 use lib.Seq.{getD-take, getD-drop}
@@ -14,16 +14,18 @@ use Rattle.rows.specs.Limits.{rowLimit}
 use Rattle.rows.specs.Row.{rowOf}
 use Rattle.rows.specs.Held.{Wiring, Held, nothing, withLink, withLinks, merged, withFusion, withMark, linksOf, atomOf, contextOf, withAtom, withContext, withFusionRow, withEdgeRow, withHead, withRow}
 use Rattle.rows.specs.declared.Context.{Context}
-use Rattle.rows.proofs.RowRange.{Within, Linked, good-letter, good-field, row-length, atom-range, context-range, fusion-range, mark-range, head-range}
+use Rattle.rows.specs.Ranges.{Within, Linked}
+use Rattle.rows.proofs.RowRange.{later, good-letter, good-field, row-length, atom-range, context-range, fusion-range, mark-range, head-range}
 use Rattle.linking.proofs.Wired.{link-by, links-marks, mark-by, mark-links, wired-none, wired-row, row-by}
 use Rattle.sheet.specs.Kinds.{isList}
 use Rattle.sheet.specs.Reading.{strange, outcomeOf}
 use Rattle.sheet.specs.declared.kind.Kind.{Kind}
 use Rattle.sheet.specs.declared.kind.Kind.the-variants.{Plain, Pattern, Figure, Replacement, Fillings}
 use Rattle.sheet.specs.declared.answer.Answer.the-variants.{Passed}
+use Rattle.sheet.specs.HeldLimits.{Every, LinkRange, MarkRange, Ports, AtomRange, ContextRange, FusionRange, EdgeRange, InRange, WithinLimits}
 use Rattle.sheet.proofs.read.ReadingLaws.{row-counted}
 use Rattle.sheet.proofs.read.Taken.{rowAt, Taken, outcome-keeps}
-use Rattle.sheet.proofs.read.Ranges.{Every, every-one, every-of, LinkRange, MarkRange, Ports, AtomRange, ContextRange, FusionRange, EdgeRange, InRange, WithinLimits}
+use Rattle.sheet.proofs.read.Every.{every-one, every-of}
 
 -- Links that are put in range stay so.
 pub link-range : (w : Wiring) (x : ℕ) → Every LinkRange (w .links) → LinkRange x → Every LinkRange (withLink w x .links)
@@ -54,10 +56,8 @@ module _ (nums : List ℕ) (w : length nums ≡ fieldCount) where
       rw (getD-take (getD nums 1 0) (drop 2 nums) k 0 q, getD-drop 2 nums k 0) (l .used k q))
 
 -- A good head leaves its further fields empty.
-pub head-rule : (k : ℕ) → ruleOf 4 (2 + k) ≡ ruleOf 4 2
-unfolding ruleOf
-head-rule zero = refl
-head-rule (suc k) = rw (lt-ltb 2 (2 + suc k) (omega arith))
+head-rule : (k : ℕ) → k < mostLinks → ruleOf 4 (2 + k) ≡ ruleOf 4 2
+head-rule k h = ap (ruleOf 4) (omega arith) ∙ later 4 k h
 
 pub head-ports : (s : List ℕ) → rowOf s .good ≡ true → rowOf s .letter ≡ 4 → Ports 0 (drop 2 (rowOf s .nums))
 unfolding ruleOf
@@ -70,7 +70,7 @@ head-ports s g e =
   where
     go : (k : ℕ) (b : Bool) → ltb k mostLinks ≡ b → getD (rowOf s .nums) (2 + k) 0 ≡ 0
     go k true l =
-        ⊎-elim (λ w. absurd (false≢true (w .0))) (λ w. w .1) (rw (e, head-rule k) at (good-field s g (2 + k) (omega (arith, ltb-true k mostLinks l))))
+        ⊎-elim (λ w. absurd (false≢true (w .0))) (λ w. w .1) (rw (e, head-rule k (ltb-true k mostLinks l)) at (good-field s g (2 + k) (omega (arith, ltb-true k mostLinks l))))
     go k false l = List·getD-eq-default (rowOf s .nums) 0 (rw (row-length s) (omega (arith, ltb-false k mostLinks l)))
 
 -- B rows stand in figures alone, heads in lists alone.

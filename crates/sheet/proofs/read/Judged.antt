@@ -10,8 +10,9 @@ use Rattle.rows.specs.TextArrays.{packed, TextArrays}
 use Rattle.rows.specs.declared.row.Row.{Row}
 use Rattle.rows.proofs.Bools.{not-false}
 use Rattle.sheet.specs.Filling.{isPassed}
-use Rattle.sheet.specs.Reading.{ragged, strange, clashes, Verdict, taken, refused, firstOf, tests, Outcome, settled}
-use Rattle.sheet.specs.Steps.{answerOf, earlyTests, lateTests}
+use Rattle.sheet.specs.Reading.{ragged, strangeBy, strange, clashes, Verdict, taken, refused, firstOf, earlyTests, lateTests, tests, Outcome, settled}
+use Rattle.sheet.specs.Steps.{answerOf, earlyAnswer, wholeRow, nextOf}
+use Rattle.sheet.specs.declared.judge.Next.{Next}
 use Rattle.sheet.specs.declared.kind.Kind.{Kind}
 use Rattle.sheet.specs.declared.answer.Answer.{Answer}
 use Rattle.sheet.specs.declared.answer.Refusal.{Refusal}
@@ -51,33 +52,30 @@ answer-refused u (refused why) h o x n e p r f = rw (f why refl) (rw e (rw r))
 module _ (kind : Kind) (pattern : List ℕ) (h : Held) (text : List ℕ) where
   -- the definition's tests before and after the row is taken in
   abbrev before : List (Bool × Refusal)
-  before = earlyTests kind (length (h .contexts)) (h .rows) (ragged text) (rowAt text)
+  before = earlyTests kind (h .rows) (ragged text) (strange kind (h .contexts) (rowAt text .letter)) (rowAt text)
 
   abbrev after : List (Bool × Refusal)
   after =
       let g = withRow h (rowAt text) in
       lateTests kind (length (g .atoms)) (length (g .contexts)) (length (g .wiring .links)) (length (g .wiring .marks)) (clashes kind pattern (h .contexts) (rowAt text))
 
-  both : firstOf (tests kind pattern h text) ≡ firstOf (before ++ after)
-  unfolding strange
-  both = refl
-
   module _ (heads k : ℕ) (ek : h .rows ≡ k) (eh : heads ≡ length (h .contexts)) where
     abbrev early : List (Bool × Refusal)
-    early = earlyTests kind heads k (ragged text) (rowAt text)
+    early = earlyTests kind k (ragged text) (strangeBy kind (rowAt text .letter) heads) (rowAt text)
 
     same : firstOf before ≡ firstOf early
+    unfolding strange
     same = rw ek (rw eh)
 
     pub early-refused : (why : Refusal) → firstOf early ≡ refused why → firstOf (tests kind pattern h text) ≡ refused why
-    early-refused why e = both ∙ first-refused after before why (same ∙ e)
+    early-refused why e = first-refused after before why (same ∙ e)
 
     pub late-verdict : firstOf early ≡ taken → (t : TextArrays) (clash : Bool) → t ≡ packed (withRow h (rowAt text)) → clash ≡ clashes kind pattern (h .contexts) (rowAt text)
         → firstOf (tests kind pattern h text) ≡ firstOf (lateTests kind (t .«atom_count») (t .«context_count») (t .«link_count») (t .«mark_count») clash)
-    late-verdict p t clash et ecl = both ∙ first-taken after before (same ∙ p) ∙ rw et (rw ecl)
+    late-verdict p t clash et ecl = first-taken after before (same ∙ p) ∙ rw et (rw ecl)
 
 -- of the tests before a row is taken in
-module _ (kind : Kind) (heads k : ℕ) (cut : Bool) (r : Row) (p : firstOf (earlyTests kind heads k cut r) ≡ taken) where
+module _ (kind : Kind) (k : ℕ) (cut odd : Bool) (r : Row) (p : firstOf (earlyTests kind k cut odd r) ≡ taken) where
   pub early-whole : cut ≡ false
   early-whole = none-first _ _ (none-first _ _ p .1) .0
 
@@ -86,10 +84,20 @@ module _ (kind : Kind) (heads k : ℕ) (cut : Bool) (r : Row) (p : firstOf (earl
 
 -- the row that the code has is asked only where it is whole
 pub early-same : (kind : Kind) (heads k : ℕ) (text : List ℕ) (cut : Bool) (r : Row) → cut ≡ ragged text → (cut ≡ false → r ≡ rowAt text)
-    → firstOf (earlyTests kind heads k cut r) ≡ firstOf (earlyTests kind heads k (ragged text) (rowAt text))
+    → firstOf (earlyTests kind k cut (strangeBy kind (r .letter) heads) r) ≡ firstOf (earlyTests kind k (ragged text) (strangeBy kind (rowAt text .letter) heads) (rowAt text))
 unfolding firstOf
 early-same kind heads k text cut r ec = rw (← ec) (go cut)
   where
-    go : (c : Bool) → (c ≡ false → r ≡ rowAt text) → firstOf (earlyTests kind heads k c r) ≡ firstOf (earlyTests kind heads k c (rowAt text))
+    go : (c : Bool) → (c ≡ false → r ≡ rowAt text)
+        → firstOf (earlyTests kind k c (strangeBy kind (r .letter) heads) r) ≡ firstOf (earlyTests kind k c (strangeBy kind (rowAt text .letter) heads) (rowAt text))
     go true f = refl
     go false f = rw (f refl)
+
+-- the row and the answer that the code has are the next ones
+pub next-made : (kind : Kind) (heads k : ℕ) (text : List ℕ) (cut : Bool) (r : Row) (x : Answer) → cut ≡ ragged text → r ≡ wholeRow cut text → x ≡ earlyAnswer kind heads k cut r
+    → _≡_ {A = Next} (record { answer = x; row = r }) (nextOf kind heads k text)
+next-made kind heads k text cut r x ec er ex =
+    let a : x ≡ earlyAnswer kind heads k (ragged text) (rowAt text) =
+    ex ∙ ap (λ (v : Verdict). answerOf v (k + 1)) (early-same kind heads k text cut r ec (λ e. er ∙ ap (λ (b : Bool). wholeRow b text) e)) in
+    let b : r ≡ wholeRow (ragged text) text = er ∙ ap (λ (b : Bool). wholeRow b text) ec in
+    rw a (rw b)

@@ -17,9 +17,11 @@ use Rattle.rows.specs.Row.{rowOf}
 use Rattle.rows.specs.Held.{Held, nothing, withAtom, withContext, withFusionRow, withEdgeRow, withHead, withRow}
 use Rattle.rows.specs.declared.row.Row.{Row}
 use Rattle.linking.proofs.Wired.{row-by}
+use Rattle.sheet.specs.Kinds.{limitsOf}
 use Rattle.sheet.specs.Reading.{ragged, firstOf, passed, refusedAfter, readFrom, outcomeOf}
 use Rattle.sheet.specs.declared.kind.Kind.{Kind}
 use Rattle.sheet.specs.declared.answer.Refusal.the-variants.{Long}
+use Rattle.sheet.proofs.kind.KindLaws.{rows-limit}
 
 -- Nothing left to read.
 pub read-none : (n : ℕ) (kind : Kind) (pattern : List ℕ) (h : Held) → readFrom n kind pattern h [] ≡ passed h
@@ -30,7 +32,7 @@ read-none (suc n) kind pattern h = refl
 -- An empty text passes, and holds nothing.
 pub empty-passes : (kind : Kind) (pattern : List ℕ) → outcomeOf kind pattern [] ≡ passed nothing
 unfolding outcomeOf
-empty-passes kind pattern = read-none (rowLimit + 1) kind pattern nothing
+empty-passes kind pattern = read-none (limitsOf kind .rows + 1) kind pattern nothing
 
 -- A row more is counted.
 module _ (h : Held) (r : Row) where
@@ -69,7 +71,7 @@ module _ (kind : Kind) (pattern : List ℕ) where
   pub read-long : (n : ℕ) (h : Held) (text : List ℕ) → rowLimit ≤ h .rows
       → readFrom (suc n) kind pattern h text ≡ pick (eqb (length text) 0) (passed h) (refusedAfter h Long)
   unfolding readFrom firstOf
-  read-long n h text l = rw (le-leb rowLimit (h .rows) l)
+  read-long n h text l = rw (le-leb (limitsOf kind .rows) (h .rows) (rw (rows-limit kind) l))
 
   -- Where a part decides what comes after a row, the row and that part decide.
   pub read-part : (n m : ℕ) (h : Held) (text : List ℕ)
@@ -91,7 +93,7 @@ module _ (kind : Kind) (pattern : List ℕ) where
   -- The answer, and what is held, depend on the first bytes alone: all rows up to the limit, and one byte.
   pub prefix-decides : (text : List ℕ) → outcomeOf kind pattern (take (rowLimit * rowWidth + 1) text) ≡ outcomeOf kind pattern text
   unfolding outcomeOf
-  prefix-decides text = rest-decides rowLimit nothing text refl
+  prefix-decides text = rw (rows-limit kind) (rest-decides rowLimit nothing text refl)
 
   pub same-prefix : (text other : List ℕ) → take (rowLimit * rowWidth + 1) text ≡ take (rowLimit * rowWidth + 1) other
       → outcomeOf kind pattern text ≡ outcomeOf kind pattern other

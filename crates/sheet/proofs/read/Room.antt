@@ -5,7 +5,7 @@ use mathlib.Core.List.{List, [], _∷_, _++_}
 use mathlib.Core.Bool.{true}
 use native.Mathlib.Omega.{arith}
 use lib.ListN.{length, getD, replicate}
-use Rattle.rows.specs.Limits.{sheetAtoms, sheetMarks, fillingLinks}
+use Rattle.rows.specs.Limits.{sheetAtoms, fillingLinks, markRoom}
 use Rattle.rows.specs.Row.{rowOf}
 use Rattle.rows.specs.Held.{Held}
 use Rattle.rows.specs.Packed.{padded}
@@ -13,11 +13,11 @@ use Rattle.rows.specs.TextArrays.{packed}
 use Rattle.linking.specs.Steps.{Room}
 use Rattle.rows.specs.Entry.{Ranged}
 use Rattle.rows.proofs.Padding.{getD-filled}
-use Rattle.rows.proofs.RowRange.{good-letter, linked-range, context-range, head-range}
+use Rattle.rows.proofs.RowRange.{good-letter, atom-range, context-range, head-range}
 use Rattle.sheet.specs.Kinds.{atomLimit, linkLimit}
 use Rattle.sheet.specs.declared.kind.Kind.{Kind}
 use Rattle.sheet.specs.declared.kind.Kind.the-variants.{Plain, Pattern, Figure, Replacement, Fillings}
-use Rattle.sheet.proofs.read.Ranges.{WithinLimits}
+use Rattle.sheet.specs.HeldLimits.{WithinLimits}
 
 -- No kind's limits are greater than what a sheet has room for.
 pub limits-most : (kind : Kind) → (atomLimit kind ≤ sheetAtoms) × (linkLimit kind ≤ fillingLinks)
@@ -42,13 +42,14 @@ within-room kind h w =
       contexts = w .contexts;
       links = omega arith;
       marks = w .marks;
-      places = zeros-below (sheetMarks + 1 - length (h .wiring .marked)) fillingLinks (h .wiring .marked) (omega arith) (λ p l. omega (arith, w .wired .within p (omega arith)));
+      places = zeros-below (markRoom - length (h .wiring .marked)) fillingLinks (h .wiring .marked) (omega arith) (λ p l. omega (arith, w .wired .within p (omega arith)));
     }
 
 pub good-ranged : (s : List ℕ) → rowOf s .good ≡ true → Ranged (rowOf s)
 good-ranged s g =
     record {
-      few = λ l. linked-range s g l .count;
-      context = λ e. omega (arith, context-range s g e .number);
-      head = λ l. let e : rowOf s .letter ≡ 4 = omega (arith, good-letter s g) in let r = head-range s g e in (omega arith, r .count);
+      known = good-letter s g;
+      atom = λ e. atom-range s g e .links .count;
+      context = λ e. let r = context-range s g e in (omega (arith, r .number), r .links .count);
+      head = λ e. let r = head-range s g e in (omega (arith, r .number), r .count);
     }

@@ -16,11 +16,12 @@ use Rattle.rows.specs.Row.{rowOf}
 use Rattle.rows.specs.Held.{Held, nothing, withRow}
 use Rattle.rows.specs.declared.row.Row.{Row}
 use Rattle.rows.proofs.Bools.{or-false, not-false}
-use Rattle.sheet.specs.Kinds.{atomLimit, linkLimit}
+use Rattle.sheet.specs.Kinds.{limitsOf, atomLimit, linkLimit}
 use Rattle.sheet.specs.Reading.{ragged, strange, clashes, Verdict, taken, refused, firstOf, tests, Outcome, passed, settled, readFrom, outcomeOf}
 use Rattle.sheet.specs.declared.kind.Kind.{Kind}
 use Rattle.sheet.specs.declared.answer.Refusal.{Refusal}
 use Rattle.sheet.specs.declared.answer.Answer.the-variants.{Passed, Refused}
+use Rattle.sheet.proofs.kind.KindLaws.{rows-limit, contexts-limit, marks-limit}
 
 -- The row with which a text begins.
 abbrev pub rowAt : List ℕ → Row
@@ -58,16 +59,16 @@ module _ (kind : Kind) (pattern : List ℕ) (h : Held) (text : List ℕ) where
       let g = none-first _ _ (f .1) in
       let i = none-first _ _ (g .1) in
       let j = none-first _ _ (i .1) in
-      let few = or-false (ltb (atomLimit kind) (length (withRow h (rowAt text) .atoms))) (ltb figureContexts (length (withRow h (rowAt text) .contexts))) (f .0) in
+      let few = or-false (ltb (atomLimit kind) (length (withRow h (rowAt text) .atoms))) (ltb (limitsOf kind .contexts) (length (withRow h (rowAt text) .contexts))) (f .0) in
       record {
-        rows = leb-false _ _ (a .0);
+        rows = rw (rows-limit kind) at (leb-false (limitsOf kind .rows) (h .rows) (a .0));
         whole = b .0;
         allowed = c .0;
         good = not-false _ (d .0);
         atoms = ltb-false _ _ (few .0);
-        contexts = ltb-false _ _ (few .1);
+        contexts = rw (contexts-limit kind) at (ltb-false (limitsOf kind .contexts) (length (withRow h (rowAt text) .contexts)) (few .1));
         links = ltb-false _ _ (g .0);
-        marks = ltb-false _ _ (i .0);
+        marks = rw (marks-limit kind) at (ltb-false (limitsOf kind .marks) (length (withRow h (rowAt text) .wiring .marks)) (i .0));
         agrees = j .0;
       }
 
@@ -75,13 +76,13 @@ module _ (kind : Kind) (pattern : List ℕ) (h : Held) (text : List ℕ) where
   unfolding firstOf
   none-tests t =
       rw (
-        lt-leb rowLimit (h .rows) (t .rows),
+        lt-leb (limitsOf kind .rows) (h .rows) (rw (rows-limit kind) (t .rows)),
         t .whole,
         t .allowed,
         le-ltb (atomLimit kind) (length (withRow h (rowAt text) .atoms)) (t .atoms),
-        le-ltb figureContexts (length (withRow h (rowAt text) .contexts)) (t .contexts),
+        le-ltb (limitsOf kind .contexts) (length (withRow h (rowAt text) .contexts)) (rw (contexts-limit kind) (t .contexts)),
         le-ltb (linkLimit kind) (length (withRow h (rowAt text) .wiring .links)) (t .links),
-        le-ltb sheetMarks (length (withRow h (rowAt text) .wiring .marks)) (t .marks),
+        le-ltb (limitsOf kind .marks) (length (withRow h (rowAt text) .wiring .marks)) (rw (marks-limit kind) (t .marks)),
         t .agrees,
         t .good,
       )
@@ -111,7 +112,7 @@ module _ (kind : Kind) (pattern : List ℕ) (P : Held → Type 0)
 
   pub outcome-keeps : (text : List ℕ) → P nothing → P (outcomeOf kind pattern text .held)
   unfolding outcomeOf
-  outcome-keeps text p = read-keeps p (rowLimit + 1) nothing text p
+  outcome-keeps text p = read-keeps p (limitsOf kind .rows + 1) nothing text p
 
 -- Rows that were all taken in, and a text after them: the reading goes on from what they hold.
 module _ (kind : Kind) (pattern : List ℕ) where

@@ -15,7 +15,8 @@ use Rattle.rows.specs.Held.{Held, nothing, withRow}
 use Rattle.rows.proofs.Bools.{not-not, or-false}
 use Rattle.sheet.specs.Reading.{ragged, Verdict, taken, firstOf, tests, passed, settled, readFrom, outcomeOf}
 use Rattle.sheet.specs.declared.kind.Kind.{Kind}
-use Rattle.sheet.proofs.read.Ranges.{WithinLimits}
+use Rattle.sheet.specs.HeldLimits.{WithinLimits}
+use Rattle.sheet.proofs.kind.KindLaws.{rows-limit}
 use Rattle.sheet.proofs.read.HeldLimits.{nothing-within, row-within}
 use Rattle.sheet.proofs.read.Taken.{rowAt, Taken, tests-none}
 use Rattle.sheet.proofs.read.ReadingLaws.{row-counted, read-none}
@@ -28,7 +29,7 @@ pub record Read (kind : Kind) (pattern text : List ℕ) (at k : ℕ) (h : Held) 
 
 pub read-start : (kind : Kind) (pattern text : List ℕ) → Read kind pattern text 0 0 nothing
 unfolding outcomeOf
-read-start kind pattern text = record { within = nothing-within kind; rows = refl; rest = refl }
+read-start kind pattern text = record { within = nothing-within kind; rows = refl; rest = rw (rows-limit kind) }
 
 module _ (kind : Kind) (pattern text : List ℕ) (at k : ℕ) (h : Held) (r : Read kind pattern text at k h) where
   pub read-end : length text ≤ at → outcomeOf kind pattern text ≡ passed h

@@ -12,12 +12,23 @@ type Count = *mut usize;
 extern "C" {
     fn placer_normalise_sheet(t: Byte, n: usize, o: Out, room: usize, i: Input, r: Count, b: Count) -> u16;
     fn placer_normalise_figure(t: Byte, n: usize, o: Out, room: usize, i: Input, r: Count, b: Count) -> u16;
-    fn placer_compare(t: Byte, n: usize, u: Byte, m: usize, i: Input, r: Count, yes: *mut bool) -> u16;
+    #[rustfmt::skip]
+    fn placer_compare(t: Byte, n: usize, u: Byte, m: usize, i: Input, r: Count, b: Count, yes: *mut bool) -> u16;
     fn placer_fill(t: Byte, n: usize, u: Byte, m: usize, o: Out, room: usize, i: Input, r: Count, b: Count) -> u16;
     fn placer_place(t: Byte, n: usize, u: Byte, m: usize, o: Out, room: usize, i: Input, r: Count, b: Count) -> u16;
     #[rustfmt::skip]
-    fn placer_claim(t: Byte, n: usize, u: Byte, m: usize, v: Byte, l: usize, i: Input, r: Count, yes: *mut bool)
-        -> u16;
+    fn placer_claim(
+        t: Byte,
+        n: usize,
+        u: Byte,
+        m: usize,
+        v: Byte,
+        l: usize,
+        i: Input,
+        r: Count,
+        b: Count,
+        yes: *mut bool,
+    ) -> u16;
     #[rustfmt::skip]
     fn placer_swap(
         t: Byte,
@@ -51,9 +62,12 @@ macro_rules! answers {
 macro_rules! says {
     ($name:ident $c:ident $($text:ident)+) => {
         pub fn $name($($text: &[u8]),+) -> Verdict {
-            let (mut input, mut row, mut yes) = (0, 0, false);
-            let number = unsafe { $c($($text.as_ptr(), $text.len(),)+ &mut input, &mut row, &mut yes) };
-            Verdict { number, input, row, yes }
+            // not 0, so that a count that is never written shows
+            let (mut input, mut row, mut bytes, mut yes) = (0, 0, usize::MAX, false);
+            let number = unsafe {
+                $c($($text.as_ptr(), $text.len(),)+ &mut input, &mut row, &mut bytes, &mut yes)
+            };
+            Verdict { number, input, row, bytes, yes }
         }
     };
 }

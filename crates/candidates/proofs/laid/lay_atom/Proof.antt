@@ -1,4 +1,4 @@
--- The row holds the atom, and nothing before it has changed.
+-- The row holds the atom, and nothing else has changed.
 use Prim.Native.Nat.{_+_, _*_}
 use lib.ListN.{set, length-set}
 use lib.Seq.{getD-set-same, getD-set-other}
@@ -40,9 +40,9 @@ returns c = let s = c .before .before .before in
     let f = c .lay-links .ensures in (
       f .0,
       laid-row _ (s .args .i) a (s .pre .1)
-          (f .2 at (omega arith) ∙ getD-set-other one (at + 1) at (a .count) 0 (λ e. omega (arith, e)) ∙ getD-set-same l at (a .name) 0 (omega (arith, s .pre .0, s .pre .2)))
-          (f .2 (at + 1) (omega arith) ∙ getD-set-same one (at + 1) (a .count) 0 (simp length-set (omega (arith, s .pre .0, s .pre .2)))) (f .1),
-      (λ q h. f .2 q (omega (arith, h)) ∙ getD-set-other one (at + 1) q (a .count) 0 (λ e. omega (arith, h, e)) ∙ getD-set-other l at q (a .name) 0 (λ e. omega (arith, h, e))),
+          (f .2 at (λ k h e. omega (arith, e)) ∙ getD-set-other one (at + 1) at (a .count) 0 (λ e. omega (arith, e)) ∙ getD-set-same l at (a .name) 0 (omega (arith, s .pre .0, s .pre .2)))
+          (f .2 (at + 1) (λ k h e. omega (arith, e)) ∙ getD-set-same one (at + 1) (a .count) 0 (simp length-set (omega (arith, s .pre .0, s .pre .2)))) (f .1),
+      (λ q d. f .2 q (λ k h e. d (2 + k) (omega (arith, h)) e) ∙ getD-set-other one (at + 1) q (a .count) 0 (λ e. d 1 (omega arith) e) ∙ getD-set-other l at q (a .name) 0 (λ e. d 0 (omega arith) (omega (arith, e)))),
     )
 
 pub lay-atom-spec : {M : Type 1} → statement M

@@ -1,10 +1,11 @@
--- Invariant: the first k links stand in their row, and nothing before them has changed.
+-- Invariant: the first k links stand in their row, and nothing else has changed.
 use borrow.Author.Needs.{needs}
 use Prim.Native.Nat.{ℕ, _≤_, _+_, _-_, _*_, _<_}
 use borrow.Author.Count.{below-more}
 use lib.ListN.{length, getD, length-set}
 use lib.Seq.{getD-set-same, getD-set-other}
 use mathlib.Core.Path.{_≡_, refl, _∙_}
+use mathlib.Core.Logic.{_≢_}
 use native.Mathlib.Omega.{arith}
 use Rattle.rows.specs.Limits.{sheetAtoms}
 use Rattle.rows.specs.Format.{mostLinks, fieldCount}
@@ -13,7 +14,7 @@ use Rattle.candidates.proofs.laid.lay_links.Statement.{statement}
 use Rattle.candidates.proofs.laid.lay_links.Tie as tie
 
 abbrev Inv-loop : tie.InvT-loop
-Inv-loop i laid₀ links k₀ laid k = (k ≤ mostLinks) × (length laid ≡ sheetAtoms * fieldCount) × ((h : ℕ) → h < k → laidAt laid i (2 + h) ≡ getD links h 0) × ((q : ℕ) → q < i * fieldCount + 2 → getD laid q 0 ≡ getD laid₀ q 0)
+Inv-loop i laid₀ links k₀ laid k = (k ≤ mostLinks) × (length laid ≡ sheetAtoms * fieldCount) × ((h : ℕ) → h < k → laidAt laid i (2 + h) ≡ getD links h 0) × ((q : ℕ) → ((h : ℕ) → h < mostLinks → q ≢ i * fieldCount + (2 + h)) → getD laid q 0 ≡ getD laid₀ q 0)
 
 abbrev μ-loop : tie.MeasureT-loop
 μ-loop i laid₀ links k₀ laid k = mostLinks - k
@@ -58,12 +59,12 @@ loop-again c = let l = c .before in
       search needs,
       simp length-set (l .loop .inv .1),
       below-more _ _ (λ h u. getD-set-other (l .loop .laid) (i * fieldCount + (2 + k)) (i * fieldCount + (2 + h)) v 0 (λ e. omega (arith, u, e)) ∙ l .loop .inv .2 h u) (getD-set-same (l .loop .laid) (i * fieldCount + (2 + k)) v 0 (omega (arith, b, s .pre .0, l .loop .inv .1))),
-      (λ q h. getD-set-other (l .loop .laid) (i * fieldCount + (2 + k)) q v 0 (λ e. omega (arith, h, e)) ∙ l .loop .inv .3 q h),
+      (λ q d. getD-set-other (l .loop .laid) (i * fieldCount + (2 + k)) q v 0 (d k b) ∙ l .loop .inv .3 q d),
     )
 
 returns : tie.Need-returns Inv-loop μ-loop
 returns c = let l = c .before in
-    (l .loop .inv .1, (λ k h. l .loop .inv .2 k (omega arith)), λ q h. l .loop .inv .3 q h)
+    (l .loop .inv .1, (λ k h. l .loop .inv .2 k (omega arith)), λ q d. l .loop .inv .3 q d)
 
 pub lay-links-spec : {M : Type 1} → statement M
 lay-links-spec =

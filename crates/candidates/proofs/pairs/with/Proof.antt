@@ -1,6 +1,5 @@
 use borrow.Author.Needs.{needs}
-use mathlib.Core.Path.{refl}
-use Rattle.candidates.proofs.Halves.{holds-low, holds-high}
+use Rattle.candidates.proofs.Halves.{with-low, with-high}
 use Rattle.candidates.proofs.pairs.with.Statement.{statement}
 use Rattle.candidates.proofs.pairs.with.Tie as tie
 
@@ -16,7 +15,7 @@ array-read-t13 c = search needs
 returns : tie.Need-returns
 returns c = let o = c .before .one in
     let s = c .before .before in
-    let h = holds-low (s .args .t1) (s .args .y) (o .result) (s .pre) (o .ensures .0) (o .ensures .1) _ (c .if1 .taken) refl in (h .0, (h .1, h .2))
+    with-low (s .args .t1) (s .args .y) (o .result) (o .ensures) (s .pre) (c .if1 .taken)
 
 array-read-t16 : tie.Need-array-read-t16
 array-read-t16 c = search needs
@@ -27,7 +26,7 @@ array-read-t19 c = search needs
 returns-2 : tie.Need-returns-2
 returns-2 c = let o = c .before .one in
     let s = c .before .before in
-    let h = holds-high (s .args .t1) (s .args .y) (o .result) (s .pre) (o .ensures .0) (o .ensures .1) _ (c .if1 .left) refl in (h .0, (h .1, h .2))
+    with-high (s .args .t1) (s .args .y) (o .result) (o .ensures) (s .pre) (c .if1 .left)
 
 pub with-spec : {M : Type 1} → statement M
 with-spec =

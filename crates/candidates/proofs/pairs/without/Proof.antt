@@ -1,9 +1,8 @@
 use borrow.Author.Needs.{needs}
-use Prim.Native.Nat.{_%_}
-use lib.ListN.{getD}
+use Prim.Native.Nat.{ℕ}
+use mathlib.Core.Path.{ap₂}
 use mathlib.Core.List.{[], _∷_}
-use Rattle.candidates.specs.Words.{In}
-use Rattle.candidates.proofs.Halves.{by-half}
+use Rattle.candidates.specs.Words.{fewerPair}
 use Rattle.candidates.proofs.pairs.without.Statement.{statement}
 use Rattle.candidates.proofs.pairs.without.Tie as tie
 
@@ -26,13 +25,8 @@ minus-requires-2 : tie.Need-minus-requires-2
 minus-requires-2 c κs = search needs
 
 returns : tie.Need-returns
-returns c = let a = c .before .before .args .t1 in
-    let b = c .before .before .args .t2 in
-    let p = c .before .minus in
-    let q = c .minus2 in (
-      (λ y h. by-half (λ z. In (getD a z 0) (y % 64) → ¬ In (getD b z 0) (y % 64) → In (getD (p .result ∷ q .result ∷ []) z 0) (y % 64)) y h (p .ensures .1 (y % 64)) (q .ensures .1 (y % 64))),
-      λ y h. by-half (λ z. In (getD (p .result ∷ q .result ∷ []) z 0) (y % 64) → ¬ In (getD b z 0) (y % 64)) y h (λ i. p .ensures .0 (y % 64) i .1) (λ i. q .ensures .0 (y % 64) i .1),
-    )
+unfolding fewerPair
+returns c = ap₂ (λ (p q : ℕ). p ∷ q ∷ []) (c .before .minus .ensures) (c .minus2 .ensures)
 
 pub without-spec : {M : Type 1} → statement M
 without-spec =

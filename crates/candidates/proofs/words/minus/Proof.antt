@@ -1,10 +1,12 @@
--- Digit by digit.
-use Rattle.candidates.proofs.Digits.{less-in, in-less, less-smaller}
+-- What is common to both is taken from a.
+use mathlib.Core.Path.{refl}
+use Rattle.candidates.specs.Words.{fewer}
 use Rattle.candidates.proofs.words.minus.Statement.{statement}
 use Rattle.candidates.proofs.words.minus.Tie as tie
 
 returns : tie.Need-returns
-returns c = (less-in (c .args .a) (c .args .b), in-less (c .args .a) (c .args .b), less-smaller (c .args .a) (c .args .b))
+unfolding fewer
+returns c = refl
 
 pub minus-spec : {M : Type 1} → statement M
 minus-spec = tie.close (tie.spec returns)

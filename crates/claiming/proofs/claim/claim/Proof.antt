@@ -1,9 +1,7 @@
 -- An input that is refused at a row, and inputs that passed.
 use borrow.Author.Needs.{needs}
-use mathlib.Core.Path.{ap, sym, _∙_, subst}
-use Rattle.sheet.specs.Filling.{isPassed}
+use mathlib.Core.Path.{ap, sym, _∙_}
 use Rattle.reading.specs.declared.read.Reading.{Reading}
-use Rattle.filling.specs.Parts.{Headed}
 use Rattle.filling.proofs.Parts.{headed-read}
 use Rattle.claiming.proofs.ClaimCode.{claim-first, claim-second, claim-third, claim-all}
 use Rattle.claiming.proofs.claim.claim.Statement.{statement}
@@ -55,8 +53,7 @@ claim-read-requires c κs =
           },
         ),
       ),
-      subst (λ (x : Reading). Headed (x .normal .contexts) (x .normal .«context_count») (x .ports) (a .list .now)) (sym (l .read-list .ensures)) (headed-read (a .list .now)),
-      ap isPassed (sym (ap (λ (x : Reading). x .answer) (l .read-list .ensures)) ∙ w .enum-told3 .given .1),
+      headed-read (a .list .now) (l .read-list .result) (l .read-list .ensures) (w .enum-told3 .given .1),
     )
 
 returns : tie.Need-returns

@@ -1,6 +1,6 @@
 -- Refusals 8 and 9, too large a filled figure, and one that is placed or not.
 use mathlib.Core.Path.{_∙_}
-use Rattle.filling.proofs.Parts.{headed-counted}
+use Rattle.rows.specs.Format.{contextBound}
 use Rattle.filling.proofs.Loops.{exacts-none}
 use Rattle.claiming.proofs.ClaimCode.{figure-counted, says-lacking, says-differing, says-many, says-wide, filled-ready, says-placed}
 use Rattle.claiming.proofs.claim.claim_read.Statement.{statement}
@@ -23,13 +23,13 @@ normal-filled-requires : tie.Need-normal-filled-requires
 normal-filled-requires c κs =
     let t = c .before .before .before .before .before in
     let i = t .pre .0 in
-    ((i .1 .0, i .1 .1 .of-figure), t .pre .2, exacts-none (t .args .list .now) 5)
+    ((i .1 .0, i .1 .1 .of-figure), t .pre .1 .read, exacts-none (t .args .list .now) contextBound)
 
 first-differing-requires : tie.Need-first-differing-requires
 first-differing-requires c κs =
     let n = c .before in
     let t = n .before .before .before .before .before .before in
-    (headed-counted (t .args .heads) (t .args .head-count) (t .args .ports) (t .args .list .now) (t .pre .1), t .pre .2, n .normal-filled .ensures .0)
+    (t .pre .1 .read, n .normal-filled .ensures .0)
 
 returns-2 : tie.Need-returns-2
 returns-2 c =

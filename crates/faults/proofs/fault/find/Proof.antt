@@ -3,6 +3,7 @@ use borrow.Author.Needs.{needs}
 use Prim.Native.Nat.{_+_}
 use mathlib.Core.Path.{refl, subst}
 use lib.ListN.{replicate}
+use Rattle.rows.specs.Limits.{sheetAtoms}
 use Rattle.network.proofs.NetIn.{ports-of}
 use Rattle.network.specs.NetIn.{netIn}
 use Rattle.network.specs.Ready.{stateIn}
@@ -30,7 +31,7 @@ array-write-links : tie.Need-array-write-links
 array-write-links c = apart-room (c .before .before .before .before .pre .2) (c .before .apart .result) (c .if1 .taken) (c .before .apart .ensures)
 
 returns : tie.Need-returns
-returns c = λ sheet figure o atoms un t p. apart-found o atoms un (c .before .apart .result) (replicate 64 0) (c .if1 .taken) (c .before .apart .ensures)
+returns c = λ sheet figure o atoms un t p. apart-found o atoms un (c .before .apart .result) (replicate sheetAtoms 0) (c .if1 .taken) (c .before .apart .ensures)
 
 used-links-requires : tie.Need-used-links-requires
 used-links-requires c κs = let o = c .before .before .before .before .pre .2 in (ports-of (o .nets-in .contexts-in) .links-few, none-room o, to-within o)

@@ -6,7 +6,7 @@ use mathlib.Core.Logic.{_⊎_, inl, inr, ⊎-elim}
 use mathlib.Core.List.{List}
 use native.Mathlib.Omega.{arith}
 use lib.ListN.{length, getD, replicate}
-use Rattle.rows.specs.Limits.{sheetAtoms}
+use Rattle.rows.specs.Limits.{sheetAtoms, sheetLinks}
 use Rattle.placing.specs.Net.{Net}
 use Rattle.placing.specs.Placing.{Placing}
 use Rattle.stepping.specs.Contexts.{numberOf}
@@ -80,7 +80,7 @@ returns-2 : tie.Need-returns-2 Inv-loop μ-loop
 returns-2 c = let l = c .before .loop in
     let a = c .before .before .args in
     let e : l .j ≡ a .atoms = omega arith in
-    λ choices same S F q held t f. let o = l .inv .3 S F q (held-as S F (a .laid .now) (a .atoms) (a .links) (numberOf choices) (λ i. getD (a .numbers .now) i 0) (a .rows) same held) t f in all-given S F q (a .atoms) (t .around .atom-count) (a .t9) f (given (l .contexts) (l .done)) (replicate 96 0) (l .inv .2) (λ i h. o .1 i (omega arith)) (o .0)
+    λ choices same S F q held t f. let o = l .inv .3 S F q (held-as S F (a .laid .now) (a .atoms) (a .links) (numberOf choices) (λ i. getD (a .numbers .now) i 0) (a .rows) same held) t f in all-given S F q (a .atoms) (t .around .atom-count) (a .t9) f (given (l .contexts) (l .done)) (replicate sheetLinks 0) (l .inv .2) (λ i h. o .1 i (omega arith)) (o .0)
 
 pub served-spec : {M : Type 1} → statement M
 served-spec =

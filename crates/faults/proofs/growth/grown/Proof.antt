@@ -5,7 +5,7 @@ use mathlib.Core.Path.{_≡_, refl, sym, subst}
 use mathlib.Core.List.{List}
 use native.Mathlib.Omega.{arith}
 use lib.ListN.{length, set, replicate}
-use Rattle.rows.specs.Limits.{sheetAtoms, sheetLinks, figureContexts}
+use Rattle.rows.specs.Limits.{sheetAtoms, sheetLinks, contextRoom}
 use Rattle.placing.specs.Net.{Net}
 use Rattle.placing.specs.Placing.{Placing}
 use Rattle.completing.specs.Fault.{Other}
@@ -15,7 +15,7 @@ use Rattle.faults.proofs.growth.grown.Statement.{statement}
 use Rattle.faults.proofs.growth.grown.Tie as tie
 
 abbrev Inv-loop : tie.InvT-loop
-Inv-loop order₀ way₀ seen₀ cuts₀ laid chains used ports atoms contexts root count₀ head₀ order way seen cuts count head = (head ≤ count) × Sized atoms (growth order count way) × (length seen ≡ sheetLinks) × (length cuts ≡ figureContexts + 1) × LinksSeen laid (growth order count way) seen head × ((S F : Net) (q : Placing) → RowsIn S laid atoms → Tables S F q chains used ports atoms contexts → Other S F q (suc root) → Grows S F q (suc root) contexts (growth order count way) seen cuts)
+Inv-loop order₀ way₀ seen₀ cuts₀ laid chains used ports atoms contexts root count₀ head₀ order way seen cuts count head = (head ≤ count) × Sized atoms (growth order count way) × (length seen ≡ sheetLinks) × (length cuts ≡ contextRoom) × LinksSeen laid (growth order count way) seen head × ((S F : Net) (q : Placing) → RowsIn S laid atoms → Tables S F q chains used ports atoms contexts → Other S F q (suc root) → Grows S F q (suc root) contexts (growth order count way) seen cuts)
 
 abbrev μ-loop : tie.MeasureT-loop
 μ-loop order₀ way₀ seen₀ cuts₀ laid chains used ports atoms contexts root count₀ head₀ order way seen cuts count head = sheetAtoms - head
@@ -36,8 +36,8 @@ loop-holds : tie.Need-loop-holds Inv-loop μ-loop
 loop-holds c = let a = c .args in
     let n = a .atoms in
     let o = set (a .order .now) 0 (a .root) in
-    let P : List ℕ → List ℕ → List ℕ → Type 0 = λ m v b. Sized n (growth o 1 (set m (a .root) 1)) × (length v ≡ sheetLinks) × (length b ≡ figureContexts + 1) × ((S F : Net) (q : Placing) → RowsIn S (a .laid .now) n → Tables S F q (a .chains .now) (a .used .now) (a .ports .now) n (a .contexts) → Other S F q (suc (a .root)) → Grows S F q (suc (a .root)) (a .contexts) (growth o 1 (set m (a .root) 1)) v b) in
-    let w : P (a .way .now) (a .seen .now) (a .cuts .now) = subst (λ m. P m (a .seen .now) (a .cuts .now)) (sym (c .pre .4)) (subst (λ v. P (replicate 64 0) v (a .cuts .now)) (sym (c .pre .5)) (subst (P (replicate 64 0) (replicate 96 0)) (sym (c .pre .6)) (
+    let P : List ℕ → List ℕ → List ℕ → Type 0 = λ m v b. Sized n (growth o 1 (set m (a .root) 1)) × (length v ≡ sheetLinks) × (length b ≡ contextRoom) × ((S F : Net) (q : Placing) → RowsIn S (a .laid .now) n → Tables S F q (a .chains .now) (a .used .now) (a .ports .now) n (a .contexts) → Other S F q (suc (a .root)) → Grows S F q (suc (a .root)) (a .contexts) (growth o 1 (set m (a .root) 1)) v b) in
+    let w : P (a .way .now) (a .seen .now) (a .cuts .now) = subst (λ m. P m (a .seen .now) (a .cuts .now)) (sym (c .pre .4)) (subst (λ v. P (replicate sheetAtoms 0) v (a .cuts .now)) (sym (c .pre .5)) (subst (P (replicate sheetAtoms 0) (replicate sheetLinks 0)) (sym (c .pre .6)) (
       sized-start n (a .root) (c .pre .1) (c .pre .0 .few) (a .order .now) (c .pre .3),
       refl,
       refl,

@@ -42,44 +42,44 @@ mul-if1 : tie.Need-mul-if1 Inv-loop μ-loop
 mul-if1 c = search needs
 
 element-copy-out-if1 : tie.Need-element-copy-out-if1 Inv-loop μ-loop
-element-copy-out-if1 c = let s = c .before .before .before in let l = c .before .loop in let low = l .inv .1 (c .loop-test .taken) in let d = div-add-mod' (l .v - 96) 6 in let few = s .pre .1 in omega arith
+element-copy-out-if1 c = let s = c .before .before .before in let l = c .before .loop in let low = l .inv .1 (c .loop-test .taken) in let d = div-add-mod' (l .v - sheetLinks) mostLinks in let few = s .pre .1 in omega arith
 
 cast-order : tie.Need-cast-order Inv-loop μ-loop
-cast-order c = let s = c .before .before .before .before .before in let l = c .before .before .before .loop in let low = l .inv .1 (c .before .before .loop-test .taken) in let d = div-add-mod' (l .v - 96) 6 in let few = s .pre .1 in omega arith
+cast-order c = let s = c .before .before .before .before .before in let l = c .before .before .before .loop in let low = l .inv .1 (c .before .before .loop-test .taken) in let d = div-add-mod' (l .v - sheetLinks) mostLinks in let few = s .pre .1 in omega arith
 
 element-write-order : tie.Need-element-write-order Inv-loop μ-loop
-element-write-order c = let s = c .before .before .before .before .before in let l = c .before .before .before .loop in let low = l .inv .1 (c .before .before .loop-test .taken) in let d = div-add-mod' (l .v - 96) 6 in let few = s .pre .1 in added-room (s .args .atoms) (growth (l .order) (l .next) (l .way)) ((l .v - 96) / 6) (s .args .mark) (s .pre .1) (l .inv .2) (omega arith) (c .if1 .taken) (s .pre .3)
+element-write-order c = let s = c .before .before .before .before .before in let l = c .before .before .before .loop in let low = l .inv .1 (c .before .before .loop-test .taken) in let d = div-add-mod' (l .v - sheetLinks) mostLinks in let few = s .pre .1 in added-room (s .args .atoms) (growth (l .order) (l .next) (l .way)) ((l .v - sheetLinks) / mostLinks) (s .args .mark) (s .pre .1) (l .inv .2) (omega arith) (c .if1 .taken) (s .pre .3)
 
 mul-way : tie.Need-mul-way Inv-loop μ-loop
 mul-way c = search needs
 
 element-write-way : tie.Need-element-write-way Inv-loop μ-loop
-element-write-way c = let s = c .before .before .before .before .before in let l = c .before .before .before .loop in let low = l .inv .1 (c .before .before .loop-test .taken) in let d = div-add-mod' (l .v - 96) 6 in let few = s .pre .1 in omega arith
+element-write-way c = let s = c .before .before .before .before .before in let l = c .before .before .before .loop in let low = l .inv .1 (c .before .before .loop-test .taken) in let d = div-add-mod' (l .v - sheetLinks) mostLinks in let few = s .pre .1 in omega arith
 
 add-next : tie.Need-add-next Inv-loop μ-loop
 add-next c = search needs
 
 mul-v-2 : tie.Need-mul-v-2 Inv-loop μ-loop
-mul-v-2 c = let s = c .before .before .before .before .before in let l = c .before .before .before .loop in let low = l .inv .1 (c .before .before .loop-test .taken) in let d = div-add-mod' (l .v - 96) 6 in let few = s .pre .1 in omega arith
+mul-v-2 c = let s = c .before .before .before .before .before in let l = c .before .before .before .loop in let low = l .inv .1 (c .before .before .loop-test .taken) in let d = div-add-mod' (l .v - sheetLinks) mostLinks in let few = s .pre .1 in omega arith
 
 element-copy-out-v-2 : tie.Need-element-copy-out-v-2 Inv-loop μ-loop
-element-copy-out-v-2 c = let s = c .before .before .before .before .before in let l = c .before .before .before .loop in let low = l .inv .1 (c .before .before .loop-test .taken) in let d = div-add-mod' (l .v - 96) 6 in let few = s .pre .1 in omega arith
+element-copy-out-v-2 c = let s = c .before .before .before .before .before in let l = c .before .before .before .loop in let low = l .inv .1 (c .before .before .loop-test .taken) in let d = div-add-mod' (l .v - sheetLinks) mostLinks in let few = s .pre .1 in omega arith
 
 cast-v-2 : tie.Need-cast-v-2 Inv-loop μ-loop
-cast-v-2 c = let s = c .before .before .before .before .before .before in let l = c .before .before .before .before .loop in let low = l .inv .1 (c .before .before .before .loop-test .taken) in let d = div-add-mod' (l .v - 96) 6 in let few = s .pre .1 in let w = s .pre .4 .within (l .v) in omega arith
+cast-v-2 c = let s = c .before .before .before .before .before .before in let l = c .before .before .before .before .loop in let low = l .inv .1 (c .before .before .before .loop-test .taken) in let d = div-add-mod' (l .v - sheetLinks) mostLinks in let few = s .pre .1 in let w = s .pre .4 .within (l .v) in omega arith
 
 loop-less : tie.Need-loop-less Inv-loop μ-loop
-loop-less c = let s = c .before .before .before .before .before .before in let l = c .before .before .before .before .loop in let low = l .inv .1 (c .before .before .before .loop-test .taken) in let d = div-add-mod' (l .v - 96) 6 in let few = s .pre .1 in s .pre .4 .falls (l .v) low
+loop-less c = let s = c .before .before .before .before .before .before in let l = c .before .before .before .before .loop in let low = l .inv .1 (c .before .before .before .loop-test .taken) in let d = div-add-mod' (l .v - sheetLinks) mostLinks in let few = s .pre .1 in s .pre .4 .falls (l .v) low
 
 loop-again : tie.Need-loop-again Inv-loop μ-loop
 loop-again c = let s = c .before .before .before .before .before .before in
     let l = c .before .before .before .before .loop in
     let a = s .args in
     let low = l .inv .1 (c .before .before .before .loop-test .taken) in
-    let d = div-add-mod' (l .v - 96) 6 in
-    let i = (l .v - 96) / 6 in
-    let k = (l .v - 96) % 6 in
-    let rest : k < mostLinks = mod-lt (l .v - 96) (omega arith) in
+    let d = div-add-mod' (l .v - sheetLinks) mostLinks in
+    let i = (l .v - sheetLinks) / mostLinks in
+    let k = (l .v - sheetLinks) % mostLinks in
+    let rest : k < mostLinks = mod-lt (l .v - sheetLinks) (omega arith) in
     let e : l .v ≡ nodeOf i k = omega arith in
     let h : i < a .atoms = omega arith in
     let g₀ = growth (a .order .now) (a .count) (a .way .now) in

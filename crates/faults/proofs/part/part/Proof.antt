@@ -5,6 +5,7 @@ use mathlib.Core.Path.{_≡_, refl}
 use mathlib.Core.List.{[], _∷_}
 use native.Mathlib.Omega.{arith}
 use lib.ListN.{length-set, replicate, set}
+use Rattle.rows.specs.Limits.{sheetAtoms, sheetLinks}
 use Rattle.faults.specs.Parts.{Stepped, Cut}
 use Rattle.stepping.proofs.Tables.{below-next}
 use Rattle.faults.proofs.Whole.{holds-start}
@@ -13,7 +14,7 @@ use Rattle.faults.proofs.part.part.Statement.{statement}
 use Rattle.faults.proofs.part.part.Tie as tie
 
 abbrev Inv-loop : tie.InvT-loop
-Inv-loop laid atoms links way cuts all used ports root contexts members₀ seen₀ c₀ members seen c = (c ≤ contexts) × Stepped laid atoms links used (set (replicate 64 0) root 1) (replicate 96 0) members seen × ((i : ℕ) → i < c → Cut seen used ports links i)
+Inv-loop laid atoms links way cuts all used ports root contexts members₀ seen₀ c₀ members seen c = (c ≤ contexts) × Stepped laid atoms links used (set (replicate sheetAtoms 0) root 1) (replicate sheetLinks 0) members seen × ((i : ℕ) → i < c → Cut seen used ports links i)
 
 abbrev μ-loop : tie.MeasureT-loop
 μ-loop laid atoms links way cuts all used ports root contexts members₀ seen₀ c₀ members seen c = contexts - c
@@ -23,7 +24,7 @@ array-write-members c = omega (arith, c .pre .0 .few, c .pre .2)
 
 loop-holds : tie.Need-loop-holds Inv-loop μ-loop
 loop-holds c = let a = c .args in
-    (omega arith, stepped-same (a .laid .now) (a .atoms) (a .links) (a .used .now) (set (replicate 64 0) (a .root) 1) (replicate 96 0) (simp length-set) refl, λ i h. absurd (omega arith))
+    (omega arith, stepped-same (a .laid .now) (a .atoms) (a .links) (a .used .now) (set (replicate sheetAtoms 0) (a .root) 1) (replicate sheetLinks 0) (simp length-set) refl, λ i h. absurd (omega arith))
 
 mul-with-cut : tie.Need-mul-with-cut Inv-loop μ-loop
 mul-with-cut c = search needs
@@ -45,7 +46,7 @@ loop-again c = let a = c .before .before .before .before .before .before .before
     let l = c .before .before .before .before .before .before .loop in
     let w = c .before .with-cut in (
       omega arith,
-      stepped-then (a .laid .now) (a .atoms) (a .links) (a .used .now) (set (replicate 64 0) (a .root) 1) (replicate 96 0) (l .members) (l .seen) (w .last .0) (w .last .1 .0) (l .inv .1) (w .ensures .0),
+      stepped-then (a .laid .now) (a .atoms) (a .links) (a .used .now) (set (replicate sheetAtoms 0) (a .root) 1) (replicate sheetLinks 0) (l .members) (l .seen) (w .last .0) (w .last .1 .0) (l .inv .1) (w .ensures .0),
       below-next (Cut (w .last .1 .0) (a .used .now) (a .ports .now) (a .links)) (l .c) (λ i h. cut-kept (l .seen) (w .last .1 .0) (a .used .now) (a .ports .now) (a .links) i (w .ensures .0 .kept) (l .inv .2 i h)) (w .ensures .1 (c .if1 .taken)),
     )
 

@@ -5,6 +5,7 @@ use Prim.Native.Nat.{ℕ, _-_, _/_}
 use mathlib.Core.Path.{_≡_}
 use lib.ListN.{set}
 use lib.Seq.{getD-set-same}
+use Rattle.rows.specs.Limits.{sheetAtoms}
 use Rattle.faults.proofs.Parting.{stepped-then, step-looked}
 use Rattle.faults.proofs.part.with_cut.Statement.{statement}
 use Rattle.faults.proofs.part.with_cut.Tie as tie
@@ -51,7 +52,7 @@ returns c = let s = c .before .before .before .before .before .before .before .b
     let w = c .before .before .before .before .before .before .before .with-way in
     let m = c .before .before .before .before .before .member-on .ensures (c .before .before .before .before .if1 .taken) in
     let room = w .ensures .flags-room in
-    let y = c .before .before .before .before .before .before .before .before .before .before .before .wide .result / 64 - 1 in (
+    let y = c .before .before .before .before .before .before .before .before .before .before .before .wide .result / sheetAtoms - 1 in (
       stepped-then (a .laid .now) (a .atoms) (a .links) (a .used .now) (a .members .now) (a .seen .now) (w .last .0) (w .last .1 .0) (w .last .0) (set (w .last .1 .0) y 1) (w .ensures) (step-looked (a .laid .now) (a .atoms) (a .links) (a .used .now) (w .last .0) (w .last .1 .0) _ _ (s .pre .1) (w .ensures .members-room) room m),
       λ e. (y, omega (arith, m .link-in .0, m .link-in .1), getD-set-same (w .last .1 .0) y 1 0 (omega (arith, m .link-in .0, m .link-in .1, s .pre .1)), c .before .before .if2 .taken, c .if3 .taken),
     )

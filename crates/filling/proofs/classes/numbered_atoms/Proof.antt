@@ -6,7 +6,7 @@ use mathlib.Core.Path.{_≡_, refl, sym, _∙_, ap, subst}
 use mathlib.Core.List.{List, [], map}
 use lib.ListN.{length, getD, take}
 use lib.Seq.{getD-take, length-take-le}
-use Rattle.rows.specs.Limits.{sheetAtoms}
+use Rattle.rows.specs.Limits.{atomRoom}
 use Rattle.rows.specs.declared.Atom.{Atom}
 use Rattle.rows.proofs.Lists.{mapped, mapped-at}
 use Rattle.normalising.specs.NormalRows.{pastAtoms}
@@ -18,7 +18,7 @@ use Rattle.filling.proofs.classes.numbered_atoms.Statement.{statement}
 use Rattle.filling.proofs.classes.numbered_atoms.Tie as tie
 
 abbrev Inv-loop : tie.InvT-loop
-Inv-loop labels known₀ n₀ count atoms₀ i₀ known n atoms i = (i ≤ count) × (length atoms₀ ≡ sheetAtoms + 1) × Sees known₀ n₀ known n (linksIn (map (labelledAtom labels) (take i atoms₀)))
+Inv-loop labels known₀ n₀ count atoms₀ i₀ known n atoms i = (i ≤ count) × (length atoms₀ ≡ atomRoom) × Sees known₀ n₀ known n (linksIn (map (labelledAtom labels) (take i atoms₀)))
     × ((later : List ℕ) → atoms ≡ mapped (numberedAt (withLabels (take n known) later) labels) i atoms₀)
 
 abbrev μ-loop : tie.MeasureT-loop

@@ -5,7 +5,7 @@ use Prim.Native.Nat.{ℕ, _≤_, _<_, _+_, _-_}
 use mathlib.Core.Path.{_≡_, refl, sym, _∙_, ap}
 use mathlib.Core.List.{List, [], map, map-map}
 use lib.ListN.{length, getD, take, length-set}
-use Rattle.rows.specs.Limits.{sheetMarks}
+use Rattle.rows.specs.Limits.{markRoom}
 use Rattle.rows.specs.Packed.{padded}
 use Rattle.filling.specs.Classes.{Sees, withLabels, numberIn}
 use Rattle.filling.proofs.Loops.{sees-none, places-next, numbers-next}
@@ -13,8 +13,8 @@ use Rattle.filling.proofs.classes.numbered_marks.Statement.{statement}
 use Rattle.filling.proofs.classes.numbered_marks.Tie as tie
 
 abbrev Inv-loop : tie.InvT-loop
-Inv-loop labels known₀ n₀ count marked numbered₀ k₀ known n numbered k = (k ≤ count) × (length marked ≡ sheetMarks + 1) × (length numbered ≡ sheetMarks + 1) × Sees known₀ n₀ known n (map (λ x. getD labels x 0) (take k marked))
-    × ((later : List ℕ) → numbered ≡ padded (sheetMarks + 1) 0 (map (λ x. numberIn (withLabels (take n known) later) (getD labels x 0)) (take k marked)))
+Inv-loop labels known₀ n₀ count marked numbered₀ k₀ known n numbered k = (k ≤ count) × (length marked ≡ markRoom) × (length numbered ≡ markRoom) × Sees known₀ n₀ known n (map (λ x. getD labels x 0) (take k marked))
+    × ((later : List ℕ) → numbered ≡ padded markRoom 0 (map (λ x. numberIn (withLabels (take n known) later) (getD labels x 0)) (take k marked)))
 
 abbrev μ-loop : tie.MeasureT-loop
 μ-loop labels known₀ n₀ count marked numbered₀ k₀ known n numbered k = count - k
@@ -65,7 +65,7 @@ loop-again c = let p = c .before .before .number-label in
       v .inv .1,
       simp length-set (v .inv .2),
       places-next f (a .t4) (v .k) h (v .known) (p .last .0) (v .n) (p .last .1 .0) (p .ensures .0) (a .known .now) (a .n .now) (v .inv .3),
-      numbers-next f (a .t4) (v .k) h (v .known) (p .last .0) (v .n) (p .last .1 .0) (p .ensures .0) (sheetMarks + 1) (v .numbered) (p .result) (omega (arith, v .inv .1)) (p .ensures .1) (v .inv .4),
+      numbers-next f (a .t4) (v .k) h (v .known) (p .last .0) (v .n) (p .last .1 .0) (p .ensures .0) markRoom (v .numbered) (p .result) (omega (arith, v .inv .1)) (p .ensures .1) (v .inv .4),
     )
 
 same-length : tie.Need-same-length Inv-loop μ-loop
@@ -77,7 +77,7 @@ returns c = let v = c .before .loop in
     let a = c .before .before .before .args in
     let f : ℕ → ℕ = λ x. getD (a .labels .now) x 0 in
     let e : v .k ≡ a .count = omega (arith, v .inv .0, c .loop-test .left) in
-    (rw e at (v .inv .3), (rw e at (v .inv .4 [])) ∙ ap (padded (sheetMarks + 1) 0) (sym (map-map (numberIn (take (v .n) (v .known))) f (take (a .count) (a .t4)))))
+    (rw e at (v .inv .3), (rw e at (v .inv .4 [])) ∙ ap (padded markRoom 0) (sym (map-map (numberIn (take (v .n) (v .known))) f (take (a .count) (a .t4)))))
 
 pub numbered-marks-spec : {M : Type 1} → statement M
 numbered-marks-spec =

@@ -1,11 +1,9 @@
 -- A short slip, an input that is refused at a row, and inputs that passed.
 use borrow.Author.Needs.{needs}
-use mathlib.Core.Path.{_≡_, sym, _∙_, ap, subst}
-use Rattle.sheet.specs.Filling.{isPassed}
+use mathlib.Core.Path.{_≡_, sym, _∙_, ap}
 use Rattle.reading.specs.NormalSheet.{packedNormal}
 use Rattle.reading.specs.declared.read.Reading.{Reading}
 use Rattle.filling.specs.Fill.{figureHeld}
-use Rattle.filling.specs.Parts.{Headed}
 use Rattle.filling.proofs.Parts.{headed-read}
 use Rattle.filling.proofs.Answers.{fill-short, fill-figure, fill-list, fill-passed}
 use Rattle.filling.proofs.fill.fill.Statement.{statement}
@@ -37,7 +35,7 @@ fill-read-requires c κs = let t = c .before .before .before .before in
     let i = r .before .before .before in
     let e = i .before in
     let a = e .before .before .before .before .args in
-    (((a .figure .now, figure-normal i), subst (λ (x : Reading). Headed (x .normal .contexts) (x .normal .«context_count») (x .ports) (a .list .now)) (sym (r .read-list .ensures)) (headed-read (a .list .now)), ap isPassed (sym (ap (λ (x : Reading). x .answer) (r .read-list .ensures)) ∙ t .enum-told2 .given .1)), e .if1 .left)
+    (((a .figure .now, figure-normal i), headed-read (a .list .now) (r .read-list .result) (r .read-list .ensures) (t .enum-told2 .given .1)), e .if1 .left)
 
 enum-known-list-answer : tie.Need-enum-known-list-answer
 enum-known-list-answer c = search needs

@@ -2,10 +2,11 @@
 use borrow.Author.Needs.{needs}
 use native.Mathlib.Omega.{arith}
 use mathlib.Core.Path.{refl, sym, _∙_, subst}
+use Rattle.rows.specs.Format.{contextBound}
 use Rattle.sheet.specs.declared.kind.Kind.the-variants.{Figure}
 use Rattle.filling.specs.Fill.{figureHeld}
 use Rattle.filling.specs.Parts.{Low}
-use Rattle.filling.proofs.Parts.{figure-within, figure-agrees, normal-low, low-counted, headed-counted}
+use Rattle.filling.proofs.Parts.{figure-within, figure-agrees, normal-low, low-counted}
 use Rattle.filling.proofs.Loops.{exacts-none}
 use Rattle.filling.proofs.Says.{says-lacking, says-differing, says-many, says-wide, says-writable, says-written, says-slip}
 use Rattle.filling.proofs.fill.fill_read.Statement.{statement}
@@ -23,12 +24,12 @@ returns c = let f = c .before in
 
 normal-filled-requires : tie.Need-normal-filled-requires
 normal-filled-requires c κs = let s = c .before .before .before .before .before .before in
-    (s .pre .0 .0, s .pre .0 .2, exacts-none (s .args .list .now) 5)
+    (s .pre .0 .0, s .pre .0 .1 .read, exacts-none (s .args .list .now) contextBound)
 
 first-differing-requires : tie.Need-first-differing-requires
 first-differing-requires c κs = let n = c .before in
     let s = n .before .before .before .before .before .before .before in
-    (headed-counted (s .args .heads) (s .args .head-count) (s .args .ports) (s .args .list .now) (s .pre .0 .1), s .pre .0 .2, n .normal-filled .ensures .0)
+    (s .pre .0 .1 .read, n .normal-filled .ensures .0)
 
 returns-2 : tie.Need-returns-2
 returns-2 c = let d = c .before in

@@ -5,7 +5,7 @@ use Prim.Native.Nat.{_+_}
 use mathlib.Core.Path.{_≡_, refl, ap, ap₂, sym, _∙_, subst}
 use mathlib.Core.List.{map}
 use lib.ListN.{take}
-use Rattle.rows.specs.Limits.{sheetMarks}
+use Rattle.rows.specs.Limits.{markRoom}
 use Rattle.rows.specs.Packed.{padded}
 use Rattle.filling.specs.Whole.{labelsAt}
 use Rattle.filling.specs.Classes.{Sees, numberIn, markLabels}
@@ -39,7 +39,7 @@ returns c = let k = c .before .before in
     λ list own figure e f g O P. let q : labelsAt (a .labels .now) (a .m) (a .places) ≡ markLabels (a .labels .now) figure = ap₂ (labelsAt (a .labels .now)) (sym g) (sym f) in
     made-of list figure own _ (a .whole) P _ (t .numbered-atoms .last .1 .0) (k .numbered-marks .last .1 .0) (t .numbered-atoms .last .1 .1 .0) (k .numbered-marks .last .1 .1 .0)
     (t .numbered-atoms .ensures .0) (subst (Sees (t .numbered-atoms .last .1 .0) (t .numbered-atoms .last .1 .1 .0) (k .numbered-marks .last .1 .0) (k .numbered-marks .last .1 .1 .0)) q (k .numbered-marks .ensures .0)) O (t .numbered-atoms .ensures .1 .1) _ (t .numbered-atoms .ensures .1 .0) refl refl (sym e)
-    (k .numbered-marks .ensures .1 ∙ ap (λ l. padded (sheetMarks + 1) 0 (map (numberIn (take (k .numbered-marks .last .1 .1 .0) (k .numbered-marks .last .1 .0))) l)) q) (sym g) refl
+    (k .numbered-marks .ensures .1 ∙ ap (λ l. padded markRoom 0 (map (numberIn (take (k .numbered-marks .last .1 .1 .0) (k .numbered-marks .last .1 .0))) l)) q) (sym g) refl
 
 pub numbered-whole-spec : {M : Type 1} → statement M
 numbered-whole-spec =

@@ -7,7 +7,8 @@ use mathlib.Core.List.{[]}
 use lib.ListN.{length, getD, take, drop}
 use mathlib.Core.Bool.{true, false}
 use borrow.Author.Tests.{eq-eqb, ne-eqb}
-use Rattle.rows.specs.Limits.{figureContexts}
+use Rattle.rows.specs.Format.{contextBound}
+use Rattle.rows.specs.Limits.{contextRoom}
 use Rattle.normalising.specs.NormalRows.{pastContexts}
 use Rattle.numbering.proofs.Turns.{unmapped}
 use Rattle.filling.specs.Parts.{firstUnported}
@@ -16,7 +17,7 @@ use Rattle.filling.proofs.part.first_lacking.Statement.{statement}
 use Rattle.filling.proofs.part.first_lacking.Tie as tie
 
 abbrev Inv-loop : tie.InvT-loop
-Inv-loop count contexts ports i₀ i = (i ≤ count) × (length contexts ≡ figureContexts + 1) × (length ports ≡ 5) × (firstUnported ports (drop i (take count contexts)) ≡ firstUnported ports (take count contexts))
+Inv-loop count contexts ports i₀ i = (i ≤ count) × (length contexts ≡ contextRoom) × (length ports ≡ contextBound) × (firstUnported ports (drop i (take count contexts)) ≡ firstUnported ports (take count contexts))
 
 abbrev μ-loop : tie.MeasureT-loop
 μ-loop count contexts ports i₀ i = count - i

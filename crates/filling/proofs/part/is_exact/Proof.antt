@@ -3,7 +3,7 @@ use borrow.Author.Needs.{needs}
 use Prim.Native.Nat.{_≤_, _+_}
 use mathlib.Core.Path.{_≡_, sym, _∙_, ap, subst}
 use lib.ListN.{length, take}
-use Rattle.rows.specs.Limits.{sheetMarks}
+use Rattle.rows.specs.Limits.{sheetMarks, markRoom}
 use Rattle.rows.specs.declared.Sheet.{Sheet as Normal}
 use Rattle.placing.specs.Smallest.{sameList, numbersTo}
 use Rattle.filling.proofs.Parts.{part-low, part-marks}
@@ -30,7 +30,7 @@ part-of-requires c κs = search needs
 marks-exact-requires : tie.Need-marks-exact-requires
 marks-exact-requires c κs = let p = c .before .before in
     let a = p .before .before .before .before .args in
-    (subst (λ (n : Normal). n .«mark_count» ≤ sheetMarks) (sym (p .part-of .ensures)) (part-low (a .list .now) (a .number) .marks), subst (λ (n : Normal). length (n .marks) ≡ sheetMarks + 1) (sym (p .part-of .ensures)) (part-marks (a .list .now) (a .number)))
+    (subst (λ (n : Normal). n .«mark_count» ≤ sheetMarks) (sym (p .part-of .ensures)) (part-low (a .list .now) (a .number) .marks), subst (λ (n : Normal). length (n .marks) ≡ markRoom) (sym (p .part-of .ensures)) (part-marks (a .list .now) (a .number)))
 
 returns-2 : tie.Need-returns-2
 returns-2 c = let p = c .before .before .before in

@@ -6,14 +6,14 @@ use mathlib.Core.Path.{_≡_, sym, _∙_, ap}
 use lib.ListN.{length, getD, take, drop}
 use mathlib.Core.Bool.{true, false}
 use borrow.Author.Tests.{eq-eqb, ne-eqb}
-use Rattle.rows.specs.Limits.{sheetMarks}
+use Rattle.rows.specs.Limits.{markRoom}
 use Rattle.placing.specs.Smallest.{sameList, numbersFrom, numbersTo}
 use Rattle.filling.proofs.Loops.{marks-next, marks-end, marks-other}
 use Rattle.filling.proofs.part.marks_exact.Statement.{statement}
 use Rattle.filling.proofs.part.marks_exact.Tie as tie
 
 abbrev Inv-loop : tie.InvT-loop
-Inv-loop marks count n k₀ k = (k ≤ n) × (count ≡ n) × (length marks ≡ sheetMarks + 1) × (sameList (drop k (take n marks)) (numbersFrom (k + 1) (n - k)) ≡ sameList (take n marks) (numbersTo n))
+Inv-loop marks count n k₀ k = (k ≤ n) × (count ≡ n) × (length marks ≡ markRoom) × (sameList (drop k (take n marks)) (numbersFrom (k + 1) (n - k)) ≡ sameList (take n marks) (numbersTo n))
 
 abbrev μ-loop : tie.MeasureT-loop
 μ-loop marks count n k₀ k = n - k

@@ -5,7 +5,7 @@ use Prim.Native.Nat.{ℕ, _≤_, _<_, _+_, _*_, _-_}
 use mathlib.Core.Path.{_≡_, refl, sym, _∙_, ap, subst}
 use mathlib.Core.List.{List, _++_, append-nil, append-assoc}
 use lib.ListN.{length, getD, take, drop, length-take}
-use Rattle.rows.specs.Limits.{sheetAtoms, figureContexts, sheetMarks}
+use Rattle.rows.specs.Limits.{sheetAtoms, sheetMarks, atomRoom, contextRoom, markRoom}
 use Rattle.rows.specs.declared.Atom.{Atom}
 use Rattle.normalising.specs.NormalRows.{pastAtoms, pastContexts}
 use Rattle.rows.specs.declared.Sheet.{Sheet as Normal}
@@ -20,13 +20,13 @@ use Rattle.filling.proofs.whole.whole_of.Statement.{statement}
 use Rattle.filling.proofs.whole.whole_of.Tie as tie
 
 abbrev Inv-loop : tie.InvT-loop
-Inv-loop count list labels₀ exact₀ contexts whole₀ i₀ labels exact whole i = (i ≤ count) × (length contexts ≡ figureContexts + 1) × FreshFrom ((i + 1) * partRoom) labels × (whole .count ≤ sheetAtoms + 1)
+Inv-loop count list heads head-count labels₀ exact₀ contexts whole₀ i₀ labels exact whole i = (i ≤ count) × (length contexts ≡ contextRoom) × FreshFrom ((i + 1) * partRoom) labels × (whole .count ≤ atomRoom)
     × (joinedAll labels (allPairs list (i + 1) (drop i (take count contexts))) ≡ joinedAll labels₀ (allPairs list 1 (take count contexts)))
     × (roomFor (wholeAtoms whole ++ contextAtoms list (i + 1) (drop i (take count contexts))) ≡ roomFor (wholeAtoms whole₀ ++ contextAtoms list 1 (take count contexts)))
     × Exacts list exact
 
 abbrev μ-loop : tie.MeasureT-loop
-μ-loop count list labels₀ exact₀ contexts whole₀ i₀ labels exact whole i = count - i
+μ-loop count list heads head-count labels₀ exact₀ contexts whole₀ i₀ labels exact whole i = count - i
 
 loop-holds : tie.Need-loop-holds Inv-loop μ-loop
 loop-holds c = let s = c .before in
@@ -61,7 +61,7 @@ note-exact-requires c κs = let p = c .before .before .before .before .before .b
     let l = p .before .before .before .before in
     let s = l .before .before in
     let x = getD (s .args .t2) (l .loop .i) pastContexts in
-    (subst (λ (n : Normal). n .«mark_count» ≤ sheetMarks) (sym (p .part-of .ensures)) (part-low (s .args .list .now) (x .number) .marks), subst (λ (n : Normal). length (n .marks) ≡ sheetMarks + 1) (sym (p .part-of .ensures)) (part-marks (s .args .list .now) (x .number)), s .pre .0 .counted .number (l .loop .i), s .pre .0 .counted .count (l .loop .i))
+    (subst (λ (n : Normal). n .«mark_count» ≤ sheetMarks) (sym (p .part-of .ensures)) (part-low (s .args .list .now) (x .number) .marks), subst (λ (n : Normal). length (n .marks) ≡ markRoom) (sym (p .part-of .ensures)) (part-marks (s .args .list .now) (x .number)), s .pre .0 .counted .number (l .loop .i), s .pre .0 .counted .count (l .loop .i))
 
 add-with-part : tie.Need-add-with-part Inv-loop μ-loop
 add-with-part c = search needs

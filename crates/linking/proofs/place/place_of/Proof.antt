@@ -1,18 +1,24 @@
--- A number without a hint is new. A hint that holds is the place, as no link stands twice; any other
--- is passed over.
+-- Each way out gives what the definition says for it.
 use borrow.Author.Needs.{needs}
 use Prim.Native.Nat.{ℕ, _-_}
-use mathlib.Core.Path.{_∙_, sym, ap}
-use native.Mathlib.Omega.{arith}
+use mathlib.Core.Path.{_≡_, refl, _∙_, ap}
+use mathlib.Core.Bool.{false}
+use mathlib.Core.Logic.{⊎-elim}
+use borrow.Author.Tests.{ne-eqb, lt-ltb, le-ltb}
+use lib.Dec.{eqb, ltb}
 use lib.ListN.{getD}
-use Rattle.rows.proofs.Lists.{index-below}
-use Rattle.linking.proofs.Loops.{index-distinct}
-use Rattle.linking.proofs.Hints.{unseen}
+use Rattle.rows.specs.Pick.{and}
+use Rattle.linking.specs.Steps.{hintAt}
+use Rattle.linking.proofs.Hints.{place-few, place-new, place-named, place-other}
 use Rattle.linking.proofs.place.place_of.Statement.{statement}
 use Rattle.linking.proofs.place.place_of.Tie as tie
 
+-- the hint that is read is that of x
+hint-is : (c : tie.After-wide) → let a = c .before .before .before .before .before .args in c .wide .result ≡ getD (a .hints .now) (hintAt (a .x)) 0
+hint-is c = c .wide .ensures ∙ ap (λ (i : ℕ). getD (c .before .before .before .before .before .args .hints .now) i 0) (c .before .before .hint-at .ensures .1)
+
 returns : tie.Need-returns
-returns c = (omega arith, λ room. absurd (omega (arith, room, c .if1 .taken)))
+returns c = let a = c .before .before .args in place-few (a .links .now) (a .n) (a .x) (a .hints .now) _ refl (c .if1 .taken)
 
 hint-at-requires : tie.Need-hint-at-requires
 hint-at-requires c κs = search needs
@@ -24,9 +30,7 @@ wide-requires : tie.Need-wide-requires
 wide-requires c κs = search needs
 
 returns-2 : tie.Need-returns-2
-returns-2 c = let a = c .before .before .before .before .before .before .args in
-    let none = ap (λ (i : ℕ). getD (a .hints .now) i 0) (sym (c .before .before .before .hint-at .ensures .1)) ∙ sym (c .before .wide .ensures) ∙ c .if2 .taken in
-    (omega arith, λ room hinted once. unseen (a .hints .now) (a .links .now) (a .n) hinted (a .x) room none)
+returns-2 c = let a = c .before .before .before .before .before .before .args in place-new (a .links .now) (a .n) (a .x) (a .hints .now) (c .before .wide .result) (hint-is (c .before)) (c .before .before .before .before .if1 .left) (c .if2 .taken)
 
 sub-p : tie.Need-sub-p
 sub-p c = search needs
@@ -38,16 +42,16 @@ shared-slice-read-if4 : tie.Need-shared-slice-read-if4
 shared-slice-read-if4 c = search needs
 
 returns-3 : tie.Need-returns-3
-returns-3 c = let a = c .before .before .before .before .before .before .before .before .before .args in
-    let near = c .before .before .if3 .taken in
-    (omega (arith, near), λ room hinted. index-distinct (a .n) (a .links .now) (a .x) (c .before .before .before .before .wide .result - 1) room near (c .if4 .taken))
+returns-3 c = let a = c .before .before .before .before .before .before .before .before .before .args in place-named (a .links .now) (a .n) (a .x) (a .hints .now) (c .before .before .before .before .wide .result) (hint-is (c .before .before .before .before)) (c .before .before .before .before .before .before .before .if1 .left) (c .before .before .before .if2 .left) (c .before .before .if3 .taken) (c .if4 .taken)
 
 index-of-requires : tie.Need-index-of-requires
 index-of-requires c κs = search needs
 
 returns-4 : tie.Need-returns-4
 returns-4 c = let a = c .before .before .before .before .before .before .before .before .args in
-    (omega (arith, c .index-of .ensures, index-below (a .x) (a .n) (a .links .now)), λ room hinted once. c .index-of .ensures)
+    let h = c .before .before .before .wide .result in
+    let away : and (ltb (h - 1) (a .n)) (eqb (getD (a .links .now) (h - 1) 0) (a .x)) ≡ false = ⊎-elim (λ w. rw (lt-ltb (h - 1) (a .n) (w .0 .taken)) (ne-eqb (getD (a .links .now) (h - 1) 0) (a .x) (w .2 .left))) (λ w. rw (le-ltb (h - 1) (a .n) (w .left))) (c .before .if3 .came) in
+    c .index-of .ensures ∙ place-other (a .links .now) (a .n) (a .x) (a .hints .now) h (hint-is (c .before .before .before)) (c .before .before .before .before .before .before .if1 .left) (c .before .before .if2 .left) away
 
 pub place-of-spec : {M : Type 1} → statement M
 place-of-spec =

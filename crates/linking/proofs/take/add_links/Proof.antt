@@ -4,8 +4,8 @@ use Prim.Native.Nat.{_≤_, _+_, _-_}
 use mathlib.Core.Path.{_≡_, _∙_}
 use native.Mathlib.Omega.{arith}
 use lib.ListN.{length, take, drop, getD}
-use Rattle.rows.specs.Format.{fieldCount, mostLinks}
-use Rattle.rows.specs.Limits.{fillingLinks}
+use Rattle.rows.specs.Format.{fieldCount}
+use Rattle.rows.specs.Limits.{linkRoom}
 use Rattle.rows.specs.Held.{withLinks}
 use Rattle.linking.specs.Steps.{Relinks, Hinted}
 use Rattle.linking.proofs.Arrays.{links-none, links-more}
@@ -14,7 +14,7 @@ use Rattle.linking.proofs.take.add_links.Statement.{statement}
 use Rattle.linking.proofs.take.add_links.Tie as tie
 
 abbrev Inv-loop : tie.InvT-loop
-Inv-loop links₀ classes₀ n from count hints₀ nums m₀ k₀ links classes hints m k = (k ≤ count) × (length nums ≡ fieldCount) × (m ≤ n + k) × (length links ≡ fillingLinks + mostLinks) × (length classes ≡ fillingLinks + mostLinks) × Relinks links₀ classes₀ n links classes m (λ w. withLinks w (take k (drop from nums))) × Hinted hints links m
+Inv-loop links₀ classes₀ n from count hints₀ nums m₀ k₀ links classes hints m k = (k ≤ count) × (length nums ≡ fieldCount) × (m ≤ n + k) × (length links ≡ linkRoom) × (length classes ≡ linkRoom) × Relinks links₀ classes₀ n links classes m (λ w. withLinks w (take k (drop from nums))) × Hinted hints links m
 
 abbrev μ-loop : tie.MeasureT-loop
 μ-loop links₀ classes₀ n from count hints₀ nums m₀ k₀ links classes hints m k = count - k

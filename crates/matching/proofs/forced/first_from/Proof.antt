@@ -3,6 +3,7 @@ use borrow.Author.Needs.{needs}
 use Prim.Native.Nat.{_/_, _^_}
 use native.Mathlib.Omega.{arith}
 use lib.Count.{trailing-le}
+use Rattle.candidates.specs.Words.{wordDigits}
 use Rattle.matching.proofs.NextDigit.{nothing-left, next-above, next-within}
 use Rattle.matching.proofs.forced.first_from.Statement.{statement}
 use Rattle.matching.proofs.forced.first_from.Tie as tie
@@ -19,11 +20,11 @@ returns-2 c = let b = c .before .before in
 
 cast-result : tie.Need-cast-result
 cast-result c = let a = c .before .before .args in
-    record { fits = omega (arith, trailing-le 64 (a .s / 2 ^ a .t)) }
+    record { fits = omega (arith, trailing-le wordDigits (a .s / 2 ^ a .t)) }
 
 add-result : tie.Need-add-result
 add-result c = let b = c .before .before in
-    record { fits = omega (arith, b .pre, trailing-le 64 (b .args .s / 2 ^ b .args .t)) }
+    record { fits = omega (arith, b .pre, trailing-le wordDigits (b .args .s / 2 ^ b .args .t)) }
 
 returns-3 : tie.Need-returns-3
 returns-3 c = let b = c .before .before in

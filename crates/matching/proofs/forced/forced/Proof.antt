@@ -1,5 +1,6 @@
 -- Nothing but the first is in the set.
 use borrow.Author.Needs.{needs}
+use Rattle.candidates.proofs.Digits.{alone-only, in-fewer}
 use Rattle.matching.proofs.Forcing.{only-one}
 use Rattle.matching.proofs.forced.forced.Statement.{statement}
 use Rattle.matching.proofs.forced.forced.Tie as tie
@@ -36,7 +37,7 @@ returns-4 c = let m = c .before .before .minus in
     let o = c .before .before .before .one in
     let f = c .before .before .before .before .first in
     let a = c .before .before .before .before .before .before .before .args in
-    only-one (a .atoms .now) (a .k) (a .n) (f .result) (o .result) (m .result) (c .if3 .left) (o .ensures .1) (m .ensures .1) (c .before .if2 .left)
+    only-one (a .atoms .now) (a .k) (a .n) (f .result) (o .result) (m .result) (c .if3 .left) (alone-only _ _ (o .ensures)) (in-fewer _ _ _ (m .ensures)) (c .before .if2 .left)
 
 pub forced-spec : {M : Type 1} → statement M
 forced-spec =

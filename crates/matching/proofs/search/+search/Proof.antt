@@ -2,7 +2,7 @@
 -- fail. The measure of the recursion is the count still unplaced. Assumes nothing.
 use borrow.Author.Needs.{needs}
 use Prim.Native.Nat.{ℕ, _+_, _-_, _<_}
-use mathlib.Core.Path.{_∙_, sym, refl, ap, subst}
+use mathlib.Core.Path.{_≡_, _∙_, sym, refl, ap, subst}
 use mathlib.Core.Logic.{⊎-elim, inr}
 use native.Mathlib.Omega.{arith}
 use mathlib.Core.List.{List}
@@ -11,9 +11,11 @@ use borrow.Fn.Kinds.{In}
 use borrow.Fn.PlainCycle.{Measures, is, falls, and}
 use Rattle.network.specs.NetIn.{netIn}
 use Rattle.network.specs.Ready.{AtomsIn}
-use Rattle.matching.specs.Search.{Kept, searchFrom, Onward}
-use Rattle.rows.specs.declared.Sheet.{Sheet as NormalForm}
 use Rattle.candidates.specs.Frames.{whole}
+use Rattle.matching.specs.Search.{sheetOf, figureOf, Kept, Stands, FoundFrom, searchFrom, Onward}
+use Rattle.matching.specs.declared.search.Found.{Found}
+use Rattle.matching.specs.declared.tries.State.{State}
+use Rattle.rows.specs.declared.Sheet.{Sheet as NormalForm}
 use Rattle.candidates.specs.Laid.{LaidOut}
 use Rattle.candidates.proofs.Laying.{laid-rowed}
 use Rattle.candidates.proofs.Marks.{own-marks}
@@ -22,13 +24,14 @@ use Rattle.matching.proofs.SearchTurns.{Tries, skip-failed, tries-same,
 use Rattle.matching.proofs.search.search.Reads as search′
 use Rattle.matching.proofs.search.search.Kinds as search-kinds
 use Rattle.matching.proofs.search.+search.Lts-search as search-lts
-use Rattle.symmetry.proofs.excuse.excuse.Reads as excuse-reads
+use Rattle.matching.proofs.tries.excuse_failed.Reads as excuse-failed-reads
 use Rattle.matching.proofs.forced.advance.Reads as advance-reads
 use Rattle.matching.proofs.forced.next_from.Reads as next-from-reads
 use Rattle.matching.proofs.search.Found.nothing.Reads as nothing-reads
 use Rattle.matching.proofs.search.leaf.Reads as leaf-reads
-use Rattle.matching.proofs.search.tally.Reads as tally-reads
-use Rattle.matching.proofs.search.try_atom.Reads as try-atom-reads
+use Rattle.matching.proofs.tries.tally.Reads as tally-reads
+use Rattle.matching.proofs.tries.try_atom.Reads as try-atom-reads
+use Rattle.matching.proofs.tries.with_atom.Reads as with-atom-reads
 use Rattle.matching.proofs.search.+search.{statement}
 use Rattle.matching.proofs.search.+search.Tie.{close}
 
@@ -36,9 +39,13 @@ use Rattle.matching.proofs.search.+search.Tie.{close}
 lent : (sheet : NormalForm) (laid : List ℕ) → LaidOut sheet laid (sheet .«atom_count») → Lent sheet laid (sheet .«atom_count») (sheet .marked) (sheet .«mark_count») (sheet .«class_count»)
 lent sheet laid o = record { atoms = o; marks = own-marks sheet (o .fit) (o .normal); count = refl }
 
+-- what is found for a state is found for one that is equal
+moved : (s t : State) (laid parts : List ℕ) (r : Found) → s ≡ t → FoundFrom s laid parts r → FoundFrom t laid parts r
+moved s t laid parts r e = subst (λ (u : State). FoundFrom u laid parts r) e
+
 -- the count still unplaced
 abbrev μ-search : Measures 3 search-kinds.ps ℕ
-μ-search κs a = a .1 .0 .«atom_count» - a .1 .1 .1 .1 .1 .1 .1 .1 .1 .0
+μ-search κs a = a .0 .figure .«atom_count» - a .0 .placed
 
 abbrev search-at : ℕ → In 3 search-kinds.ps
 search-at t = and 3 search-kinds.ps (is 3 search-kinds.ps μ-search t) search′.Pre
@@ -47,10 +54,10 @@ abbrev search-below : ℕ → In 3 search-kinds.ps
 search-below t = and 3 search-kinds.ps (falls 3 search-kinds.ps _<_ μ-search t) search′.Pre
 
 abbrev Inv-loop : search-lts.InvT-loop
-Inv-loop figure users owners atoms links laid parts from hopeless lost₀ gone₀ sheet n m placed k failed₀ work₀ t₀ lost gone failed work t = Tries (whole sheet laid) (whole figure parts) (take k placed) failed work t
+Inv-loop users owners atoms links laid parts lost₀ gone₀ sheet figure n m placed k failed₀ work₀ t₀ lost gone failed work t = Tries (whole sheet laid) (whole figure parts) (take k placed) failed work t
 
 abbrev μ-loop : search-lts.MeasureT-loop
-μ-loop figure users owners atoms links laid parts from hopeless lost₀ gone₀ sheet n m placed k failed₀ work₀ t₀ lost gone failed work t = n - t
+μ-loop users owners atoms links laid parts lost₀ gone₀ sheet figure n m placed k failed₀ work₀ t₀ lost gone failed work t = n - t
 
 abbrev claims : ℕ → search-lts.Claims
 claims n = (
@@ -64,29 +71,31 @@ claims n = (
   next-from-reads.Learnt,
   try-atom-reads.Asked,
   try-atom-reads.Learnt,
+  with-atom-reads.Asked,
+  with-atom-reads.Learnt,
   search-below n,
   search′.Post,
   tally-reads.Asked,
   tally-reads.Learnt,
-  excuse-reads.Asked,
-  excuse-reads.Learnt,
+  excuse-failed-reads.Asked,
+  excuse-failed-reads.Learnt,
 )
 
 module _ (n : ℕ) where
   -- the sheet and the figure
   abbrev sheet-of : search-lts.Start (claims n) (search-at n) search′.Post Inv-loop μ-loop → NormalForm
-  sheet-of b = whole (b .args .t1) (b .args .laid .now)
+  sheet-of b = sheetOf (b .args .state) (b .args .laid .now)
 
   abbrev figure-of : search-lts.Start (claims n) (search-at n) search′.Post Inv-loop μ-loop → NormalForm
-  figure-of b = whole (b .args .figure) (b .args .parts .now)
+  figure-of b = figureOf (b .args .state) (b .args .parts .now)
 
   -- what is placed where the search begins to try
   onward : (d : search-lts.After-advance (claims n) (search-at n) search′.Post Inv-loop μ-loop)
-      → let b = d .before .before .before in Onward (sheet-of b) (figure-of b) (b .args .atoms .now) (b .args .links .now) (b .args .from) (b .args .chosen) (d .advance .result) (d .advance .last .1 .0)
-  onward d = let b = d .before .before .before in d .advance .ensures .onward (sheet-of b) (figure-of b) (b .args .links .now) (b .pre .1 .0) refl refl (b .pre .1 .2) (b .pre .1 .3 .keeps)
+      → let b = d .before .before .before .before .before .before in Onward (sheet-of b) (figure-of b) (b .args .atoms .now) (b .args .links .now) (b .args .state .placed) (b .args .state .chosen) (d .advance .result) (d .advance .last .1 .0)
+  onward d = let b = d .before .before .before .before .before .before in d .advance .ensures .onward (sheet-of b) (figure-of b) (b .args .links .now) (b .pre .1 .ready) refl refl (b .pre .1 .atoms-in) (b .pre .1 .kept .keeps)
 
   -- some figure atom is left
-  unfinished : (c : search-lts.Else2 (claims n) (search-at n) search′.Post Inv-loop μ-loop) → c .before .advance .result < c .before .before .before .before .args .figure .«atom_count»
+  unfinished : (c : search-lts.Else2 (claims n) (search-at n) search′.Post Inv-loop μ-loop) → c .before .advance .result < c .before .before .before .before .before .before .before .args .state .figure .«atom_count»
   unfinished c = omega (arith, c .before .advance .ensures .within, c .if2 .left)
 
   nothing-requires : search-lts.Need-nothing-requires (claims n) (search-at n) search′.Post Inv-loop μ-loop
@@ -95,144 +104,117 @@ module _ (n : ℕ) where
   returns : search-lts.Need-returns (claims n) (search-at n) search′.Post Inv-loop μ-loop
   returns c =
       let b = c .before .before in
-      nothing-begun (sheet-of b) (figure-of b) (b .pre .1 .0) (b .args .chosen) (b .args .from) (b .pre .1 .1) (b .pre .1 .2) (b .pre .1 .3 .none (c .before .if1 .taken)) (c .nothing .result) (c .nothing .ensures)
+      nothing-begun (sheet-of b) (figure-of b) (b .pre .1 .ready) (b .args .state .chosen) (b .args .state .placed) (b .pre .1 .within) (b .pre .1 .atoms-in) (b .pre .1 .kept .none (c .before .if1 .taken)) (c .nothing .result) (c .nothing .ensures)
 
   advance-requires : search-lts.Need-advance-requires (claims n) (search-at n) search′.Post Inv-loop μ-loop
   advance-requires c κs =
-      let b = c .before .before in (b .pre .1 .1, b .pre .1 .0 .figure-fit .atom-count, b .pre .1 .0 .sheet-fit .atom-count)
+      let b = c .before .before .before .before .before in (b .pre .1 .within, b .pre .1 .ready .figure-fit .atom-count, b .pre .1 .ready .sheet-fit .atom-count)
 
   leaf-requires : search-lts.Need-leaf-requires (claims n) (search-at n) search′.Post Inv-loop μ-loop
   leaf-requires c κs =
       let d = c .before in
-      let b = d .before .before .before in
-      (b .pre .1 .0, subst (λ (i : ℕ). AtomsIn (sheet-of b) i (d .advance .last .1 .0)) (c .if2 .taken) (onward d .atoms-in), b .pre .1 .4, b .pre .1 .5)
+      let b = d .before .before .before .before .before .before in
+      (b .pre .1 .ready, subst (λ (i : ℕ). AtomsIn (sheet-of b) i (d .advance .last .1 .0)) (c .if2 .taken) (onward d .atoms-in), b .pre .1 .sheet-laid, b .pre .1 .figure-laid)
 
   returns-2 : search-lts.Need-returns-2 (claims n) (search-at n) search′.Post Inv-loop μ-loop
   returns-2 c =
       let d = c .before .before in
-      let b = d .before .before .before in
+      let b = d .before .before .before .before .before .before in
       c .leaf .ensures ∙ ap (λ (i : ℕ). searchFrom (netIn (sheet-of b)) (netIn (figure-of b)) (take i (d .advance .last .1 .0))) (sym (c .before .if2 .taken)) ∙ onward d .same
 
   next-from-requires : search-lts.Need-next-from-requires (claims n) (search-at n) search′.Post Inv-loop μ-loop
   next-from-requires c κs =
-      let b = c .before .before .before .before in
-      (omega (arith, unfinished c, b .pre .1 .0 .figure-fit .atom-count), omega arith)
+      let b = c .before .before .before .before .before .before .before in
+      (omega (arith, unfinished c, b .pre .1 .ready .figure-fit .atom-count), omega (arith, unfinished c, b .pre .1 .ready .figure-fit .atom-count))
 
   loop-holds : search-lts.Need-loop-holds (claims n) (search-at n) search′.Post Inv-loop μ-loop
   loop-holds c =
       let d = c .before .before in
-      let b = d .before .before .before in
+      let b = d .before .before .before .before .before .before in
       let f = c .next-from in
-      tries-skip (sheet-of b) (figure-of b) (b .pre .1 .0) (d .advance .last .1 .0) (d .advance .result) (d .advance .ensures .within) (onward d .atoms-in) (unfinished (c .before)) _ _ 0
-      (tries-start (sheet-of b) (figure-of b) (b .pre .1 .0) (d .advance .last .1 .0) (d .advance .result) (d .advance .ensures .within) (onward d .atoms-in) (unfinished (c .before)) _ refl)
+      tries-skip (sheet-of b) (figure-of b) (b .pre .1 .ready) (d .advance .last .1 .0) (d .advance .result) (d .advance .ensures .within) (onward d .atoms-in) (unfinished (c .before)) _ _ 0
+      (tries-start (sheet-of b) (figure-of b) (b .pre .1 .ready) (d .advance .last .1 .0) (d .advance .result) (d .advance .ensures .within) (onward d .atoms-in) (unfinished (c .before)) _ refl)
       (b .args .atoms .now) (b .args .links .now) (onward d .keeps) (f .result) (f .ensures .0) (λ v h q. inr (f .ensures .2 v h q))
 
   array-read-if3 : search-lts.Need-array-read-if3 (claims n) (search-at n) search′.Post Inv-loop μ-loop
   array-read-if3 c =
       let l = c .before in
       let d = l .before .before .before in
-      let b = d .before .before .before in
-      omega (arith, c .loop-test .taken, b .pre .1 .0 .sheet-fit .atom-count)
-
-  add-next : search-lts.Need-add-next (claims n) (search-at n) search′.Post Inv-loop μ-loop
-  add-next c =
-      let l = c .before .before in
-      let d = l .before .before .before in
-      let b = d .before .before .before in
-      omega (arith, c .before .loop-test .taken, b .pre .1 .0 .sheet-fit .atom-count)
-
-  cast-next : search-lts.Need-cast-next (claims n) (search-at n) search′.Post Inv-loop μ-loop
-  cast-next c =
-      let l = c .before .before in
-      let d = l .before .before .before in
-      let b = d .before .before .before in
-      omega (arith, c .before .loop-test .taken, b .pre .1 .0 .sheet-fit .atom-count)
-
-  mul-next : search-lts.Need-mul-next (claims n) (search-at n) search′.Post Inv-loop μ-loop
-  mul-next c =
-      let l = c .before .before in
-      let d = l .before .before .before in
-      let b = d .before .before .before in
-      omega (arith, unfinished (l .before .before), b .pre .1 .0 .figure-fit .atom-count)
-
-  array-write-next : search-lts.Need-array-write-next (claims n) (search-at n) search′.Post Inv-loop μ-loop
-  array-write-next c =
-      let l = c .before .before in
-      let d = l .before .before .before in
-      let b = d .before .before .before in
-      omega (arith, unfinished (l .before .before), b .pre .1 .0 .figure-fit .atom-count)
+      let b = d .before .before .before .before .before .before in
+      omega (arith, c .loop-test .taken, b .pre .1 .ready .sheet-fit .atom-count)
 
   try-atom-requires : search-lts.Need-try-atom-requires (claims n) (search-at n) search′.Post Inv-loop μ-loop
   try-atom-requires c κs =
       let l = c .before .before .before .before .before .before .before .before in
       let d = l .before .before .before in
-      let b = d .before .before .before in
-      (laid-rowed (sheet-of b) (b .args .laid .now) _ (b .pre .1 .4), b .pre .1 .6, laid-rowed (figure-of b) (b .args .parts .now) _ (b .pre .1 .5), b .pre .1 .7, unfinished (l .before .before), c .before .before .before .before .before .before .before .loop-test .taken)
+      let b = d .before .before .before .before .before .before in
+      (laid-rowed (sheet-of b) (b .args .laid .now) _ (b .pre .1 .sheet-laid), b .pre .1 .users-in, laid-rowed (figure-of b) (b .args .parts .now) _ (b .pre .1 .figure-laid), b .pre .1 .owners-in, unfinished (l .before .before), c .before .before .before .before .before .before .before .loop-test .taken)
 
-  add-search : search-lts.Need-add-search (claims n) (search-at n) search′.Post Inv-loop μ-loop
-  add-search c =
-      let l = c .before .before .before .before .before .before .before .before .before .before .before in
+  with-atom-requires : search-lts.Need-with-atom-requires (claims n) (search-at n) search′.Post Inv-loop μ-loop
+  with-atom-requires c κs =
+      let l = c .before .before .before .before .before .before .before .before .before in
       let d = l .before .before .before in
-      let b = d .before .before .before in
-      omega (arith, unfinished (l .before .before), b .pre .1 .0 .figure-fit .atom-count)
+      let b = d .before .before .before .before .before .before in
+      (omega (arith, unfinished (l .before .before), b .pre .1 .ready .figure-fit .atom-count), omega (arith, c .before .before .before .before .before .before .before .before .loop-test .taken, b .pre .1 .ready .sheet-fit .atom-count))
 
   search-requires : search-lts.Need-search-requires (claims n) (search-at n) search′.Post Inv-loop μ-loop
   search-requires c κs =
-      let l = c .before .before .before .before .before .before .before .before .before .before .before .before .before in
+      let l = c .before .before .before .before .before .before .before .before .before .before .before .before .before .before in
       let d = l .before .before .before in
-      let b = d .before .before .before in
+      let b = d .before .before .before .before .before .before in
       let u = unfinished (l .before .before) in
-      let h = c .before .before .before .before .before .before .before .before .before .before .before .before .loop-test .taken in
-      let w = c .before .before .before .before .try-atom in
-      let e = next-begin (sheet-of b) (figure-of b) (b .pre .1 .0) (d .advance .last .1 .0) (d .advance .result) (d .advance .ensures .within) (onward d .atoms-in) u (l .loop .failed) (l .loop .work) (l .loop .t) (l .loop .inv) h in (
-        omega (arith, b .pre .0, u, d .advance .ensures .after),
-        (
-          b .pre .1 .0,
-          omega (arith, u),
-          next-atoms (sheet-of b) (figure-of b) (b .pre .1 .0) (d .advance .last .1 .0) (d .advance .result) (d .advance .ensures .within) (onward d .atoms-in) u (l .loop .failed) (l .loop .work) (l .loop .t) (l .loop .inv) h,
-          subst (λ (m : List ℕ). Kept (sheet-of b) (figure-of b) m (w .last .1 .1 .1 .1 .1 .1 .1 .1 .0) (w .last .1 .1 .1 .1 .1 .1 .1 .1 .1 .0) (w .result)) (sym e)
-              (w .ensures (sheet-of b) (figure-of b) (b .pre .1 .4) (b .pre .1 .5) (take (d .advance .result) (d .advance .last .1 .0)) (pre-length (sheet-of b) (figure-of b) (b .pre .1 .0) (d .advance .last .1 .0) (d .advance .result) (d .advance .ensures .within) (onward d .atoms-in)) (onward d .keeps)),
-          b .pre .1 .4,
-          b .pre .1 .5,
-          b .pre .1 .6,
-          b .pre .1 .7,
-        ),
+      let h = c .before .before .before .before .before .before .before .before .before .before .before .before .before .loop-test .taken in
+      let w = c .before .before .before .before .before .try-atom in
+      let next = c .before .before .before .before .with-atom .ensures in
+      let e = next-begin (sheet-of b) (figure-of b) (b .pre .1 .ready) (d .advance .last .1 .0) (d .advance .result) (d .advance .ensures .within) (onward d .atoms-in) u (l .loop .failed) (l .loop .work) (l .loop .t) (l .loop .inv) h in (
+        omega (arith, b .pre .0, u, d .advance .ensures .after, ap (λ (s : State). s .figure .«atom_count») next, ap (λ (s : State). s .placed) next),
+        subst (λ (s : State). Stands s (b .args .users .now) (b .args .owners .now) (w .last .1 .1 .1 .1 .1 .1 .1 .1 .0) (w .last .1 .1 .1 .1 .1 .1 .1 .1 .1 .0) (b .args .laid .now) (b .args .parts .now)) (sym next) (record {
+          ready = b .pre .1 .ready;
+          within = omega (arith, u);
+          atoms-in = next-atoms (sheet-of b) (figure-of b) (b .pre .1 .ready) (d .advance .last .1 .0) (d .advance .result) (d .advance .ensures .within) (onward d .atoms-in) u (l .loop .failed) (l .loop .work) (l .loop .t) (l .loop .inv) h;
+          kept = subst (λ (m : List ℕ). Kept (sheet-of b) (figure-of b) m (w .last .1 .1 .1 .1 .1 .1 .1 .1 .0) (w .last .1 .1 .1 .1 .1 .1 .1 .1 .1 .0) (w .result)) (sym e)
+              (w .ensures (sheet-of b) (figure-of b) (b .pre .1 .sheet-laid) (b .pre .1 .figure-laid) (take (d .advance .result) (d .advance .last .1 .0)) (pre-length (sheet-of b) (figure-of b) (b .pre .1 .ready) (d .advance .last .1 .0) (d .advance .result) (d .advance .ensures .within) (onward d .atoms-in)) (onward d .keeps));
+          sheet-laid = b .pre .1 .sheet-laid;
+          figure-laid = b .pre .1 .figure-laid;
+          users-in = b .pre .1 .users-in;
+          owners-in = b .pre .1 .owners-in;
+        }),
       )
 
   returns-3 : search-lts.Need-returns-3 (claims n) (search-at n) search′.Post Inv-loop μ-loop
   returns-3 c =
-      let l = c .before .before .before .before .before .before .before .before .before .before .before .before .before .before .before in
+      let l = c .before .before .before .before .before .before .before .before .before .before .before .before .before .before .before .before in
       let d = l .before .before .before in
-      let b = d .before .before .before in
-      tries-hit (sheet-of b) (figure-of b) (b .pre .1 .0) (d .advance .last .1 .0) (d .advance .result) (d .advance .ensures .within) (onward d .atoms-in) (unfinished (l .before .before)) (l .loop .failed) (l .loop .work) (l .loop .t) (l .loop .inv) (c .before .before .before .before .before .before .before .before .before .before .before .before .before .before .loop-test .taken) (c .before .search .result) (c .before .search .ensures) (c .if4 .taken) ∙ onward d .same
+      let b = d .before .before .before .before .before .before in
+      tries-hit (sheet-of b) (figure-of b) (b .pre .1 .ready) (d .advance .last .1 .0) (d .advance .result) (d .advance .ensures .within) (onward d .atoms-in) (unfinished (l .before .before)) (l .loop .failed) (l .loop .work) (l .loop .t) (l .loop .inv) (c .before .before .before .before .before .before .before .before .before .before .before .before .before .before .before .loop-test .taken) (c .before .search .result)
+      (moved _ _ (b .args .laid .now) (b .args .parts .now) (c .before .search .result) (c .before .before .before .before .before .before .with-atom .ensures) (c .before .search .ensures)) (c .if4 .taken) ∙ onward d .same
 
   tally-requires : search-lts.Need-tally-requires (claims n) (search-at n) search′.Post Inv-loop μ-loop
   tally-requires c κs = search needs
 
-  excuse-requires : search-lts.Need-excuse-requires (claims n) (search-at n) search′.Post Inv-loop μ-loop
-  excuse-requires c κs =
-      let l = c .before .before .before .before .before .before .before .before .before .before .before .before .before .before .before .before .before .before .before .before in
+  excuse-failed-requires : search-lts.Need-excuse-failed-requires (claims n) (search-at n) search′.Post Inv-loop μ-loop
+  excuse-failed-requires c κs =
+      let l = c .before .before .before .before .before .before .before .before .before .before .before .before .before .before .before .before .before .before .before in
       let d = l .before .before .before in
-      let b = d .before .before .before in
-      (laid-rowed (sheet-of b) (b .args .laid .now) _ (b .pre .1 .4), b .pre .1 .0 .sheet-fit .mark-count, omega (arith, unfinished (l .before .before), b .pre .1 .0 .figure-fit .atom-count), c .before .before .before .before .before .before .before .before .before .before .before .before .before .before .before .before .before .before .before .loop-test .taken)
+      let b = d .before .before .before .before .before .before in
+      (laid-rowed (sheet-of b) (b .args .laid .now) _ (b .pre .1 .sheet-laid), b .pre .1 .ready .sheet-fit .mark-count, omega (arith, unfinished (l .before .before), b .pre .1 .ready .figure-fit .atom-count), c .before .before .before .before .before .before .before .before .before .before .before .before .before .before .before .before .before .before .loop-test .taken)
 
   tally-requires-2 : search-lts.Need-tally-requires-2 (claims n) (search-at n) search′.Post Inv-loop μ-loop
-  tally-requires-2 c κs =
-      c .before .before .before .before .before .before .before .before .before .before .before .before .before .before .before .before .before .before .before .before .before .loop .inv .worked
+  tally-requires-2 c κs = c .before .before .before .before .before .before .before .before .before .before .before .before .before .before .before .before .before .before .before .before .loop .inv .worked
 
   add-next-from : search-lts.Need-add-next-from (claims n) (search-at n) search′.Post Inv-loop μ-loop
   add-next-from c =
       let l = c .before .before in
       let d = l .before .before .before in
-      let b = d .before .before .before in
-      omega (arith, c .before .loop-test .taken, b .pre .1 .0 .sheet-fit .atom-count)
+      let b = d .before .before .before .before .before .before in
+      omega (arith, c .before .loop-test .taken, b .pre .1 .ready .sheet-fit .atom-count)
 
   next-from-requires-2 : search-lts.Need-next-from-requires-2 (claims n) (search-at n) search′.Post Inv-loop μ-loop
   next-from-requires-2 c κs =
       let l = c .before .before in
       let d = l .before .before .before in
-      let b = d .before .before .before in
-      (omega (arith, unfinished (l .before .before), b .pre .1 .0 .figure-fit .atom-count), omega (arith, c .before .loop-test .taken, b .pre .1 .0 .sheet-fit .atom-count))
+      let b = d .before .before .before .before .before .before in
+      (omega (arith, unfinished (l .before .before), b .pre .1 .ready .figure-fit .atom-count), omega (arith, c .before .loop-test .taken, b .pre .1 .ready .sheet-fit .atom-count))
 
   loop-less : search-lts.Need-loop-less (claims n) (search-at n) search′.Post Inv-loop μ-loop
   loop-less c = omega (arith, c .before .before .loop-test .taken, c .next-from2 .ensures .0)
@@ -241,15 +223,15 @@ module _ (n : ℕ) where
   loop-again c =
       let l = c .before .before .before in
       let d = l .before .before .before in
-      let b = d .before .before .before in
+      let b = d .before .before .before .before .before .before in
       let u = unfinished (l .before .before) in
       let h = c .before .before .loop-test .taken in
       let f = c .next-from2 in
       ⊎-elim
-      (λ w. tries-skip (sheet-of b) (figure-of b) (b .pre .1 .0) (d .advance .last .1 .0) (d .advance .result) (d .advance .ensures .within) (onward d .atoms-in) u (c .before .if3 .failed) (c .before .if3 .work) (l .loop .t + 1)
-      (tries-same (w .23) (w .24) (tries-miss (sheet-of b) (figure-of b) (b .pre .1 .0) (d .advance .last .1 .0) (d .advance .result) (d .advance .ensures .within) (onward d .atoms-in) u (l .loop .failed) (l .loop .work) (l .loop .t) (l .loop .inv) h (w .12 .result) (w .12 .ensures) (w .13 .left) (w .19 .last .1 .1 .1 .1 .1 .1 .1 .1 .1 .0) (w .19 .ensures (sheet-of b) (lent (sheet-of b) (b .args .laid .now) (b .pre .1 .4))) (w .20 .result) (w .20 .ensures)))
+      (λ w. tries-skip (sheet-of b) (figure-of b) (b .pre .1 .ready) (d .advance .last .1 .0) (d .advance .result) (d .advance .ensures .within) (onward d .atoms-in) u (c .before .if3 .failed) (c .before .if3 .work) (l .loop .t + 1)
+      (tries-same (w .22) (w .23) (tries-miss (sheet-of b) (figure-of b) (b .pre .1 .ready) (d .advance .last .1 .0) (d .advance .result) (d .advance .ensures .within) (onward d .atoms-in) u (l .loop .failed) (l .loop .work) (l .loop .t) (l .loop .inv) h (w .13 .result) (moved _ _ (b .args .laid .now) (b .args .parts .now) (w .13 .result) (w .8 .ensures) (w .13 .ensures)) (w .14 .left) (w .18 .last .1 .1 .1 .1 .1 .1 .0) (w .18 .ensures (sheet-of b) (lent (sheet-of b) (b .args .laid .now) (b .pre .1 .sheet-laid))) (w .19 .result) (w .19 .ensures)))
       (b .args .atoms .now) (b .args .links .now) (onward d .keeps) (f .result) (f .ensures .0) (λ v p q. inr (f .ensures .2 v p q)))
-      (λ w. tries-same (w .3) (w .4) (tries-skip (sheet-of b) (figure-of b) (b .pre .1 .0) (d .advance .last .1 .0) (d .advance .result) (d .advance .ensures .within) (onward d .atoms-in) u (l .loop .failed) (l .loop .work) (l .loop .t) (l .loop .inv)
+      (λ w. tries-same (w .3) (w .4) (tries-skip (sheet-of b) (figure-of b) (b .pre .1 .ready) (d .advance .last .1 .0) (d .advance .result) (d .advance .ensures .within) (onward d .atoms-in) u (l .loop .failed) (l .loop .work) (l .loop .t) (l .loop .inv)
       (b .args .atoms .now) (b .args .links .now) (onward d .keeps) (f .result) (omega (arith, f .ensures .0)) (skip-failed (b .args .atoms .now) (l .loop .failed) (d .advance .result) (l .loop .t) (f .result) (w .0 .left) (f .ensures .2))))
       (c .before .if3 .came)
 
@@ -260,8 +242,8 @@ module _ (n : ℕ) where
   returns-4 c =
       let l = c .before .before in
       let d = l .before .before .before in
-      let b = d .before .before .before in
-      tries-end (sheet-of b) (figure-of b) (b .pre .1 .0) (d .advance .last .1 .0) (d .advance .result) (d .advance .ensures .within) (onward d .atoms-in) (unfinished (l .before .before)) (l .loop .failed) (l .loop .work) (l .loop .t) (l .loop .inv) (omega arith) (c .nothing2 .result) (c .nothing2 .ensures) ∙ onward d .same
+      let b = d .before .before .before .before .before .before in
+      tries-end (sheet-of b) (figure-of b) (b .pre .1 .ready) (d .advance .last .1 .0) (d .advance .result) (d .advance .ensures .within) (onward d .atoms-in) (unfinished (l .before .before)) (l .loop .failed) (l .loop .work) (l .loop .t) (l .loop .inv) (omega arith) (c .nothing2 .result) (c .nothing2 .ensures) ∙ onward d .same
 
 pub +search-spec : {M : Type 1} → statement M
 +search-spec = close μ-search λ n. search-lts.spec (claims n)
@@ -277,16 +259,12 @@ pub +search-spec : {M : Type 1} → statement M
     (next-from-requires n)
     (loop-holds n)
     (array-read-if3 n)
-    (add-next n)
-    (cast-next n)
-    (mul-next n)
-    (array-write-next n)
     (try-atom-requires n)
-    (add-search n)
+    (with-atom-requires n)
     (search-requires n)
     (returns-3 n)
     (tally-requires n)
-    (excuse-requires n)
+    (excuse-failed-requires n)
     (tally-requires-2 n)
     (add-next-from n)
     (next-from-requires-2 n)

@@ -30,10 +30,10 @@ abbrev figure-of : tie.After-frame-of2 → NormalForm
 figure-of a = whole (a .frame-of2 .result) (a .before .before .lay2 .last .1 .0)
 
 given-sheet : (a : tie.After-frame-of2) → let b = a .before .before .before .before .before .before .before .before in LaidOut (b .args .sheet) (a .before .before .before .before .lay .last .1 .0) (b .args .sheet .«atom_count»)
-given-sheet a = let b = a .before .before .before .before .before .before .before .before in record { count = refl; fit = b .pre .sheet-fit; normal = b .pre .sheet-normal; atoms = a .before .before .before .before .lay .ensures }
+given-sheet a = let b = a .before .before .before .before .before .before .before .before in record { count = refl; fit = b .pre .sheet-fit; normal = b .pre .sheet-normal; atoms = a .before .before .before .before .lay .ensures .1 }
 
 given-figure : (a : tie.After-frame-of2) → let b = a .before .before .before .before .before .before .before .before in LaidOut (b .args .figure) (a .before .before .lay2 .last .1 .0) (b .args .figure .«atom_count»)
-given-figure a = let b = a .before .before .before .before .before .before .before .before in record { count = refl; fit = b .pre .figure-fit; normal = b .pre .figure-normal; atoms = a .before .before .lay2 .ensures }
+given-figure a = let b = a .before .before .before .before .before .before .before .before in record { count = refl; fit = b .pre .figure-fit; normal = b .pre .figure-normal; atoms = a .before .before .lay2 .ensures .1 }
 
 sheet-laid : (a : tie.After-frame-of2) → LaidOut (sheet-of a) (a .before .before .before .before .lay .last .1 .0) (a .before .frame-of .result .«atom_count»)
 sheet-laid a = whole-laid (a .before .before .before .before .before .before .before .before .args .sheet) _ (given-sheet a) (a .before .frame-of .result) (a .before .frame-of .ensures)
@@ -126,16 +126,16 @@ narrow-all-requires c κs = let a = c .before .before .before .before .before .b
 search-requires : tie.Need-search-requires
 search-requires c κs = let a = c .before .before .before .before .before .before .before .before .before .before .before .before .before .before .before .before .before .before .before .before .before .before .before .before .before .before .before .before .before .before .before .before in
     let s = c .before .before .before .before .before .before .before .before .before .before .before .before .before .before .before .before .before .before .before .before .before .before .before .before .before .before .start in
-    let w = c .before .before .before .before .before .before .before .before .narrow-all in (
-      ready a,
-      omega arith,
-      no-atoms (sheet-of a) _ refl,
-      narrow-kept (sheet-of a) (figure-of a) _ _ _ _ (sheet-laid a) (figure-laid a) _ (s .last .1 .1 .1 .1 .0) (s .last .1 .1 .1 .1 .1 .0) _ _ (w .result) (w .ensures .0) (w .ensures .1) (s .ensures),
-      sheet-laid a,
-      figure-laid a,
-      c .before .before .before .before .before .before .before .before .before .before .before .before .before .before .before .before .before .before .users-of .ensures,
-      c .before .before .before .before .before .before .before .before .before .before .before .before .before .before .before .users-of2 .ensures,
-    )
+    let w = c .before .before .before .before .before .before .before .before .narrow-all in record {
+      ready = ready a;
+      within = omega arith;
+      atoms-in = no-atoms (sheet-of a) _ refl;
+      kept = narrow-kept (sheet-of a) (figure-of a) _ _ _ _ (sheet-laid a) (figure-laid a) _ (s .last .1 .1 .1 .1 .0) (s .last .1 .1 .1 .1 .1 .0) _ _ (w .result) (w .ensures .0) (w .ensures .1) (s .ensures);
+      sheet-laid = sheet-laid a;
+      figure-laid = figure-laid a;
+      users-in = c .before .before .before .before .before .before .before .before .before .before .before .before .before .before .before .before .before .before .users-of .ensures;
+      owners-in = c .before .before .before .before .before .before .before .before .before .before .before .before .before .before .before .users-of2 .ensures;
+    }
 
 returns-4 : tie.Need-returns-4
 returns-4 c =

@@ -8,7 +8,7 @@ use lib.ListN.{length, getD, set}
 use lib.Seq.{getD-set-same, getD-set-other}
 use Rattle.candidates.specs.Words.{In}
 use Rattle.candidates.specs.Tables.{AtomIn, AtomsStay}
-use Rattle.candidates.proofs.Digits.{in-some, in-dec, none-in}
+use Rattle.candidates.proofs.Digits.{in-some, in-dec, none-in, alone-only, in-fewer}
 use Rattle.narrowing.specs.Steps.{Alone}
 use borrow.Author.Needs.{needs}
 use Rattle.narrowing.proofs.alone.alone.Statement.{statement}
@@ -33,8 +33,8 @@ single : (c : tie.After-strip) (u : ℕ) → AtomIn (c .before .before .before .
 single c u m = go (in-dec (c .before .before .before .before .before .before .before .before .before .before .one .result) u)
   where
     go : Dec (In (c .before .before .before .before .before .before .before .before .before .before .one .result) u) → u ≡ c .before .before .before .before .before .before .before .before .before .before .before .first .result
-    go (yes q) = c .before .before .before .before .before .before .before .before .before .before .one .ensures .1 u q
-    go (no n) = absurd (none-in u (subst (λ (w : ℕ). In w u) (c .before .before .before .before .before .before .before .before .if2 .left) (c .before .before .before .before .before .before .before .before .before .minus .ensures .1 u m n)))
+    go (yes q) = alone-only _ _ (c .before .before .before .before .before .before .before .before .before .before .one .ensures) u q
+    go (no n) = absurd (none-in u (subst (λ (w : ℕ). In w u) (c .before .before .before .before .before .before .before .before .if2 .left) (in-fewer _ _ _ (c .before .before .before .before .before .before .before .before .before .minus .ensures) u m n)))
 
 mul-row : tie.Need-mul-row
 mul-row c = search needs

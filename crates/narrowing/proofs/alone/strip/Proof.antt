@@ -5,6 +5,7 @@ use mathlib.Core.Path.{_≡_, refl}
 use lib.ListN.{length, length-set}
 use Rattle.candidates.specs.Words.{In}
 use Rattle.candidates.specs.Tables.{AtomsStay}
+use Rattle.candidates.proofs.Digits.{in-fewer}
 use Rattle.candidates.proofs.Staying.{atoms-put}
 use borrow.Author.Needs.{needs}
 use Rattle.narrowing.proofs.alone.strip.Statement.{statement}
@@ -56,7 +57,7 @@ loop-again : tie.Need-loop-again Inv-loop μ-loop
 loop-again c = let l = c .before .before .before .before in
     let s = l .before .args in
     let v = c .before .minus in
-    (omega arith, simp length-set (l .loop .inv .1), atoms-put (s .atoms .now) (l .loop .atoms) (λ i u. ¬ In (s .row) u) (l .loop .inv .2) (l .loop .j) (v .result) (λ t h n m. v .ensures .1 t m n))
+    (omega arith, simp length-set (l .loop .inv .1), atoms-put (s .atoms .now) (l .loop .atoms) (λ i u. ¬ In (s .row) u) (l .loop .inv .2) (l .loop .j) (v .result) (λ t h n m. in-fewer _ _ _ (v .ensures) t m n))
 
 returns : tie.Need-returns Inv-loop μ-loop
 returns c = (c .before .loop .inv .1, c .before .loop .inv .2)

@@ -1,4 +1,6 @@
 use borrow.Author.Needs.{needs}
+use Rattle.candidates.proofs.Digits.{fewer-in}
+use Rattle.candidates.proofs.Halves.{fewer-pair-in}
 use Rattle.narrowing.proofs.Barring.{barred-left, barred-gone}
 use Rattle.narrowing.proofs.barred.barred.Statement.{statement}
 use Rattle.narrowing.proofs.barred.barred.Tie as tie
@@ -20,7 +22,7 @@ minus-requires c κs = search needs
 
 returns : tie.Need-returns
 returns c = let s = c .before .before .before .before .before .before .args in
-    barred-left (s .users .now) (s .k) (s .left) (c .minus .result) (λ t u i. c .minus .ensures .0 t i .1 (c .before .users-at .ensures .1 t u))
+    barred-left (s .users .now) (s .k) (s .left) (c .minus .result) (λ t u i. fewer-in _ _ _ (c .minus .ensures) t i .1 (c .before .users-at .ensures .1 t u))
 
 users-at-requires-2 : tie.Need-users-at-requires-2
 users-at-requires-2 c κs = search needs
@@ -28,7 +30,7 @@ users-at-requires-2 c κs = search needs
 returns-2 : tie.Need-returns-2
 returns-2 c = let w = c .before .before .before .before in
     let s = w .before in
-    barred-gone (s .args .users .now) (s .args .k) (s .args .left) (s .pre) (w .without .result) (w .without .ensures .1) (c .users-at2 .result) (c .users-at2 .ensures .0)
+    barred-gone (s .args .users .now) (s .args .k) (s .args .left) (s .pre) (w .without .result) (λ y h. fewer-pair-in _ _ _ y h (w .without .ensures)) (c .users-at2 .result) (c .users-at2 .ensures .0)
 
 pub barred-spec : {M : Type 1} → statement M
 barred-spec =

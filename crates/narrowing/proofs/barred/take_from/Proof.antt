@@ -4,6 +4,7 @@ use Prim.Native.Nat.{ℕ, _<_}
 use Rattle.candidates.specs.Words.{In}
 use Rattle.candidates.specs.Tables.{AtomsStay}
 use Rattle.candidates.proofs.Staying.{atoms-put}
+use Rattle.candidates.proofs.Digits.{alone-in, fewer-in, in-fewer, fewer-smaller}
 use Rattle.narrowing.proofs.barred.take_from.Statement.{statement}
 use Rattle.narrowing.proofs.barred.take_from.Tie as tie
 
@@ -14,7 +15,7 @@ abbrev μ-loop : tie.MeasureT-loop
 μ-loop some out atoms₀ lost₀ due₀ rest₀ atoms lost due rest = rest
 
 fewer : (c : tie.After-minus Inv-loop μ-loop) → c .minus .result < c .before .before .before .before .loop .rest
-fewer c = let f = c .before .before .first in c .minus .ensures .2 (f .result) (f .ensures .1) (c .before .one .ensures .0)
+fewer c = let f = c .before .before .first in fewer-smaller _ _ _ (c .minus .ensures) (f .result) (f .ensures .1) (alone-in _ _ (c .before .one .ensures))
 
 loop-holds : tie.Need-loop-holds Inv-loop μ-loop
 loop-holds c = ((λ i m. m), λ i t h m p. m)
@@ -66,8 +67,8 @@ loop-again c = let d = c .before .before .before .before .before in
     let l = d .before .before .before .before in
     let s = l .before .args in
     let f = d .before .before .first in (
-      (λ i m. l .loop .inv .0 i (d .minus .ensures .0 i m .0)),
-      atoms-put (s .atoms .now) (l .loop .atoms) (λ i t. In (s .some) i → ¬ In (s .out) t) (l .loop .inv .1) (f .result) (c .before .before .minus2 .result) (λ t h p m. c .before .before .minus2 .ensures .1 t m (p (l .loop .inv .0 (f .result) (f .ensures .1)))),
+      (λ i m. l .loop .inv .0 i (fewer-in _ _ _ (d .minus .ensures) i m .0)),
+      atoms-put (s .atoms .now) (l .loop .atoms) (λ i t. In (s .some) i → ¬ In (s .out) t) (l .loop .inv .1) (f .result) (c .before .before .minus2 .result) (λ t h p m. in-fewer _ _ _ (c .before .before .minus2 .ensures) t m (p (l .loop .inv .0 (f .result) (f .ensures .1)))),
     )
 
 loop-less-2 : tie.Need-loop-less-2 Inv-loop μ-loop
@@ -76,7 +77,7 @@ loop-less-2 c = fewer (c .before .before)
 loop-again-2 : tie.Need-loop-again-2 Inv-loop μ-loop
 loop-again-2 c = let d = c .before .before in
     let l = d .before .before .before .before in
-    ((λ i m. l .loop .inv .0 i (d .minus .ensures .0 i m .0)), l .loop .inv .1)
+    ((λ i m. l .loop .inv .0 i (fewer-in _ _ _ (d .minus .ensures) i m .0)), l .loop .inv .1)
 
 returns : tie.Need-returns Inv-loop μ-loop
 returns c = c .before .loop .inv .1

@@ -2,6 +2,7 @@
 use borrow.Author.Needs.{needs}
 use Prim.Native.Nat.{_<_}
 use mathlib.Core.Path.{subst}
+use Rattle.candidates.proofs.Digits.{alone-in, alone-only, fewer-in, in-fewer, fewer-smaller}
 use Rattle.narrowing.proofs.Barring.{Joined, joined-none, joined-all, joined-skip, joined-more}
 use Rattle.narrowing.proofs.barred.union.Statement.{statement}
 use Rattle.narrowing.proofs.barred.union.Tie as tie
@@ -13,7 +14,7 @@ abbrev μ-loop : tie.MeasureT-loop
 μ-loop users at n s all₀ rest₀ all rest = rest
 
 fewer : (c : tie.After-minus Inv-loop μ-loop) → c .minus .result < c .before .before .before .before .loop .rest
-fewer c = let f = c .before .before .first in c .minus .ensures .2 (f .result) (f .ensures .1) (c .before .one .ensures .0)
+fewer c = let f = c .before .before .first in fewer-smaller _ _ _ (c .minus .ensures) (f .result) (f .ensures .1) (alone-in _ _ (c .before .one .ensures))
 
 loop-holds : tie.Need-loop-holds Inv-loop μ-loop
 loop-holds c = let s = c .args in joined-none (s .users .now) (s .at) (s .n) (s .s)
@@ -44,7 +45,7 @@ loop-again c = let d = c .before .before in
     let l = d .before .before .before .before in
     let s = l .before .args in
     let f = d .before .before .first in
-    joined-more (s .users .now) (s .at) (s .n) (s .s) (l .loop .all) (l .loop .rest) (l .loop .inv) (f .result) (d .before .one .result) (d .minus .result) (f .ensures .1) (d .before .one .ensures .1) (d .minus .ensures .0) (d .minus .ensures .1) (c .before .if1 .taken)
+    joined-more (s .users .now) (s .at) (s .n) (s .s) (l .loop .all) (l .loop .rest) (l .loop .inv) (f .result) (d .before .one .result) (d .minus .result) (f .ensures .1) (alone-only _ _ (d .before .one .ensures)) (fewer-in _ _ _ (d .minus .ensures)) (in-fewer _ _ _ (d .minus .ensures)) (c .before .if1 .taken)
 
 loop-less-2 : tie.Need-loop-less-2 Inv-loop μ-loop
 loop-less-2 c = fewer (c .before)
@@ -54,7 +55,7 @@ loop-again-2 c = let d = c .before in
     let l = d .before .before .before .before in
     let s = l .before .args in
     let f = d .before .before .first in
-    joined-skip (s .users .now) (s .at) (s .n) (s .s) (l .loop .all) (l .loop .rest) (l .loop .inv) (f .result) (d .before .one .result) (d .minus .result) (f .ensures .1) (d .before .one .ensures .1) (d .minus .ensures .0) (d .minus .ensures .1) (c .if1 .left)
+    joined-skip (s .users .now) (s .at) (s .n) (s .s) (l .loop .all) (l .loop .rest) (l .loop .inv) (f .result) (d .before .one .result) (d .minus .result) (f .ensures .1) (alone-only _ _ (d .before .one .ensures)) (fewer-in _ _ _ (d .minus .ensures)) (in-fewer _ _ _ (d .minus .ensures)) (c .if1 .left)
 
 returns : tie.Need-returns Inv-loop μ-loop
 returns c = let l = c .before in

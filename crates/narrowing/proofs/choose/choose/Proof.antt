@@ -1,7 +1,8 @@
--- The set of figure atom k keeps t.
-use lib.ListN.{getD}
-use Rattle.candidates.proofs.Digits.{in-and}
-use Rattle.narrowing.proofs.Choice.{choose-keeps}
+use Prim.Native.Nat.{ℕ}
+use mathlib.Core.Path.{_∙_, ap}
+use lib.Bits.{bitAnd}
+use lib.ListN.{getD, set}
+use Rattle.candidates.specs.Words.{fewer}
 use borrow.Author.Needs.{needs}
 use Rattle.narrowing.proofs.choose.choose.Statement.{statement}
 use Rattle.narrowing.proofs.choose.choose.Tie as tie
@@ -28,9 +29,11 @@ minus-requires : tie.Need-minus-requires
 minus-requires c κs = search needs
 
 returns : tie.Need-returns
-returns c = let s = c .before .before .before .before in
-    let o = c .before .before .one in
-    λ S F pre l. choose-keeps (s .args .atoms .now) l (s .args .k) (s .args .t) _ (s .pre .1) (λ m. in-and (getD (s .args .atoms .now) (s .args .k) 0) (o .result) (s .args .t) m (o .ensures .0)) S F pre
+returns c = let s = c .before .before .before .before .args in
+    let row = getD (s .atoms .now) (s .k) 0 in (
+      c .minus .ensures ∙ ap (fewer row) (c .before .one2 .ensures),
+      ap (λ (w : ℕ). set (s .atoms .now) (s .k) (bitAnd row w)) (c .before .before .one .ensures),
+    )
 
 pub choose-spec : {M : Type 1} → statement M
 choose-spec =

@@ -8,7 +8,8 @@ use Rattle.rows.specs.Limits.{sheetLinks}
 use Rattle.rows.specs.declared.Atom.{Atom}
 use Rattle.candidates.specs.Laid.{laidAtom}
 use Rattle.candidates.specs.Words.{In, InPair}
-use Rattle.candidates.proofs.Digits.{in-some}
+use Rattle.candidates.proofs.Digits.{in-some, alone-in, alone-only, in-fewer, fewer-smaller}
+use Rattle.candidates.proofs.Halves.{with-kept, with-there}
 use Rattle.narrowing.specs.Steps.{Given, GivenBy}
 use borrow.Author.Needs.{needs}
 use Rattle.narrowing.proofs.given.given.Statement.{statement}
@@ -30,13 +31,13 @@ given-less at n w v k t f y g = go (ℕ-discrete (g .0) t)
 
 -- a turn takes the first out of what is left
 less : (c : tie.After-minus Inv-loop μ-loop) → c .minus .result < c .before .before .before .before .loop .rest
-less c = c .minus .ensures .2 (c .before .before .first .result) (c .before .before .first .ensures .1) (c .before .one .ensures .0)
+less c = fewer-smaller _ _ _ (c .minus .ensures) (c .before .before .first .result) (c .before .before .first .ensures .1) (alone-in _ _ (c .before .one .ensures))
 
 rest : (c : tie.After-minus Inv-loop μ-loop) (y : ℕ) →
     let l = c .before .before .before .before in
     let s = l .before .args in
     Given (laidAtom (s .laid .now)) (s .n) (l .loop .rest) (s .k) y → GivenBy (laidAtom (s .laid .now)) (s .n) (l .loop .rest) (s .k) y (c .before .before .first .result) ⊎ Given (laidAtom (s .laid .now)) (s .n) (c .minus .result) (s .k) y
-rest c y g = given-less _ _ _ _ _ _ (λ u m d. c .minus .ensures .1 u m (λ q. d (c .before .one .ensures .1 u q))) y g
+rest c y g = given-less _ _ _ _ _ _ (λ u m d. in-fewer _ _ _ (c .minus .ensures) u m (λ q. d (alone-only _ _ (c .before .one .ensures) u q))) y g
 
 loop-holds : tie.Need-loop-holds Inv-loop μ-loop
 loop-holds c = λ y h g. inr g
@@ -67,8 +68,9 @@ loop-less c = less (c .before .before .before .before)
 loop-again : tie.Need-loop-again Inv-loop μ-loop
 loop-again c = let l = c .before .before .before .before .before .before .before .before in
     let a = c .before .before .link-at in
+    let small : a .result - 1 < sheetLinks = omega (arith, a .ensures .2) in
     let e = c .with .ensures in
-    λ y h g. ⊎-elim (λ p. inl (e .0 y h p)) (λ q. ⊎-elim (λ b. inl (subst (InPair (c .with .result)) (let z : a .result - 1 ≡ y = omega (arith, a .ensures .0 (b .place), b .there) in z) (e .1 .0))) inr (rest (c .before .before .before .before) y q)) (l .loop .inv y h g)
+    λ y h g. ⊎-elim (λ p. inl (with-kept _ _ small _ e y h p)) (λ q. ⊎-elim (λ b. inl (subst (InPair (c .with .result)) (let z : a .result - 1 ≡ y = omega (arith, a .ensures .0 (b .place), b .there) in z) (with-there _ _ small _ e))) inr (rest (c .before .before .before .before) y q)) (l .loop .inv y h g)
 
 loop-less-2 : tie.Need-loop-less-2 Inv-loop μ-loop
 loop-less-2 c = less (c .before .before .before)

@@ -1,29 +1,14 @@
 -- The links of a row lie behind its count.
 use borrow.Author.Needs.{needs}
-use Prim.Native.Nat.{ℕ, zero, suc, _+_, _<_}
-use mathlib.Core.Path.{_≡_, refl, sym, subst}
-use mathlib.Core.List.{List}
+use Prim.Native.Nat.{_+_}
+use mathlib.Core.Path.{refl, sym, subst}
 use native.Mathlib.Omega.{arith}
-use Rattle.rows.specs.Format.{mostLinks}
 use Rattle.rows.specs.Limits.{sheetLinks}
 use Rattle.placing.specs.Net.{Range}
-use Rattle.candidates.specs.Laid.{laidAt, laidAtom, linkOf}
+use Rattle.candidates.specs.Laid.{laidAt}
+use Rattle.candidates.proofs.Laying.{link-laid, count-laid}
 use Rattle.narrowing.proofs.given.link_at.Statement.{statement}
 use Rattle.narrowing.proofs.given.link_at.Tie as tie
-
-link-laid : (l : List ℕ) (t k : ℕ) → k < mostLinks → linkOf (laidAtom l t) k ≡ laidAt l t (2 + k)
-unfolding laidAtom
-link-laid l t zero h = refl
-link-laid l t (suc zero) h = refl
-link-laid l t (suc (suc zero)) h = refl
-link-laid l t (suc (suc (suc zero))) h = refl
-link-laid l t (suc (suc (suc (suc zero)))) h = refl
-link-laid l t (suc (suc (suc (suc (suc zero))))) h = refl
-link-laid l t (suc (suc (suc (suc (suc (suc k)))))) h = absurd (omega arith)
-
-count-laid : (l : List ℕ) (t : ℕ) → laidAtom l t .count ≡ laidAt l t 1
-unfolding laidAtom
-count-laid l t = refl
 
 mul-at : tie.Need-mul-at
 mul-at c = search needs

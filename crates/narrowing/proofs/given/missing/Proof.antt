@@ -6,9 +6,9 @@ use mathlib.Core.Logic.{⊎-elim}
 use mathlib.Core.List.{[], _∷_}
 use lib.ListN.{getD}
 use Rattle.rows.specs.Limits.{sheetLinks}
-use Rattle.candidates.specs.Words.{In, InPair}
-use Rattle.candidates.proofs.Digits.{none-in, in-and}
-use Rattle.candidates.proofs.Halves.{by-half}
+use Rattle.candidates.specs.Words.{wordDigits, In, InPair}
+use Rattle.candidates.proofs.Digits.{none-in, in-and, alone-in, fewer-smaller}
+use Rattle.candidates.proofs.Halves.{by-half, with-only}
 use borrow.Author.Needs.{needs}
 use Rattle.narrowing.proofs.given.missing.Statement.{statement}
 use Rattle.narrowing.proofs.given.missing.Tie as tie
@@ -21,10 +21,10 @@ abbrev μ-loop : tie.MeasureT-loop
 
 -- a turn takes the first out of what is left
 less : (c : tie.After-minus Inv-loop μ-loop) → c .minus .result < c .before .before .before .before .loop .rest
-less c = c .minus .ensures .2 (c .before .before .first .result) (c .before .before .first .ensures .1) (c .before .one .ensures .0)
+less c = fewer-smaller _ _ _ (c .minus .ensures) (c .before .before .first .result) (c .before .before .first .ensures .1) (alone-in _ _ (c .before .one .ensures))
 
 loop-holds : tie.Need-loop-holds Inv-loop μ-loop
-loop-holds c = λ y h p. absurd (by-half (λ (q : ℕ). ¬ In (getD (0 ∷ 0 ∷ []) q 0) (y % 64)) y h (none-in (y % 64)) (none-in (y % 64)) p)
+loop-holds c = λ y h p. absurd (by-half (λ (q : ℕ). ¬ In (getD (0 ∷ 0 ∷ []) q 0) (y % wordDigits)) y h (none-in (y % wordDigits)) (none-in (y % wordDigits)) p)
 
 first-requires : tie.Need-first-requires Inv-loop μ-loop
 first-requires c κs = search needs
@@ -68,7 +68,7 @@ loop-again : tie.Need-loop-again Inv-loop μ-loop
 loop-again c = let l = c .before .before .before .before .before .before .before .before .before .before in
     let s = l .before .args in
     let k = s .k in
-    λ y h p t r u. ⊎-elim (λ q. l .loop .inv y h q t r u) (λ e. none-in t (subst (λ (w : ℕ). In w t) (c .before .if3 .taken) (in-and _ (s .row) t (subst (λ (z : ℕ). In (getD (s .users .now) (k * sheetLinks + z) 0) t) e u) r))) (c .with .ensures .1 .1 y h p)
+    λ y h p t r u. ⊎-elim (λ q. l .loop .inv y h q t r u) (λ e. none-in t (subst (λ (w : ℕ). In w t) (c .before .if3 .taken) (in-and _ (s .row) t (subst (λ (z : ℕ). In (getD (s .users .now) (k * sheetLinks + z) 0) t) e u) r))) (with-only _ _ (omega (arith, c .before .before .before .before .link-at .ensures .2)) _ (c .with .ensures) y h p)
 
 loop-less-2 : tie.Need-loop-less-2 Inv-loop μ-loop
 loop-less-2 c = less (c .before .before .before .before .before)

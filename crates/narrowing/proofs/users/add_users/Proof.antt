@@ -8,6 +8,7 @@ use Rattle.rows.specs.Format.{mostLinks}
 use Rattle.rows.specs.Limits.{sheetLinks}
 use Rattle.placing.specs.Net.{Range}
 use Rattle.candidates.specs.Laid.{linkOf}
+use Rattle.candidates.proofs.Digits.{alone-in, alone-only}
 use Rattle.narrowing.proofs.Adding.{spot, Added, added-none, added-more}
 use Rattle.narrowing.proofs.users.add_users.Statement.{statement}
 use Rattle.narrowing.proofs.users.add_users.Tie as tie
@@ -76,7 +77,7 @@ loop-again c = let d = c .before .before .before in
     let s = l .before .args in (
       search needs,
       simp length-set (l .loop .inv .1),
-      added-more (s .t1) (s .t) (s .users .now) (l .loop .users) (l .loop .k) (l .loop .inv .2) (omega (arith, room d, l .loop .inv .1)) (c .one .result) (c .one .ensures .0) (c .one .ensures .1),
+      added-more (s .t1) (s .t) (s .users .now) (l .loop .users) (l .loop .k) (l .loop .inv .2) (omega (arith, room d, l .loop .inv .1)) (c .one .result) (alone-in _ _ (c .one .ensures)) (alone-only _ _ (c .one .ensures)),
     )
 
 returns : tie.Need-returns Inv-loop μ-loop

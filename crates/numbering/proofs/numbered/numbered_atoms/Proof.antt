@@ -6,7 +6,7 @@ use mathlib.Core.List.{List, []}
 use native.Mathlib.Omega.{arith}
 use lib.ListN.{length, take, drop, getD}
 use Rattle.rows.specs.Format.{mostLinks}
-use Rattle.rows.specs.Limits.{sheetAtoms}
+use Rattle.rows.specs.Limits.{atomRoom}
 use Rattle.rows.specs.declared.Atom.{Atom}
 use Rattle.rows.proofs.Lists.{mapped}
 use Rattle.numbering.specs.Numbering.{numbering, labelIn, withClasses, linkLabels, atomLabels, atomNumbered}
@@ -23,7 +23,7 @@ abbrev linked : Atom → List ℕ → Atom
 linked a w = record { name = a .name; count = a .count; links = w }
 
 abbrev Inv-loop : tie.InvT-loop
-Inv-loop numbers₀ count₀ links classes n atom-count hints atoms₀ i₀ numbers count atoms i = (i ≤ atom-count) × (length atoms₀ ≡ sheetAtoms + 1) × (count ≤ count₀ + mostLinks * i)
+Inv-loop numbers₀ count₀ links classes n atom-count hints atoms₀ i₀ numbers count atoms i = (i ≤ atom-count) × (length atoms₀ ≡ atomRoom) × (count ≤ count₀ + mostLinks * i)
     × (withClasses (numbering numbers count) (atomLabels (labelIn links classes n) (drop i (take atom-count atoms₀))) ≡ withClasses (numbering numbers₀ count₀) (atomLabels (labelIn links classes n) (take atom-count atoms₀)))
     × ((later : List ℕ) → atoms ≡ mapped (atomNumbered (withClasses (withClasses (numbering numbers₀ count₀) (atomLabels (labelIn links classes n) (take atom-count atoms₀))) later .numbers) (labelIn links classes n)) i atoms₀)
 

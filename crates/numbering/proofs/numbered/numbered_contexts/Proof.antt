@@ -6,7 +6,7 @@ use mathlib.Core.List.{List, []}
 use native.Mathlib.Omega.{arith}
 use lib.ListN.{length, take, drop, getD}
 use Rattle.rows.specs.Format.{mostLinks}
-use Rattle.rows.specs.Limits.{figureContexts}
+use Rattle.rows.specs.Limits.{contextRoom}
 use Rattle.rows.specs.declared.Context.{Context}
 use Rattle.rows.proofs.Lists.{mapped}
 use Rattle.numbering.specs.Numbering.{numbering, labelIn, withClasses, linkLabels, contextLabels, contextNumbered}
@@ -23,7 +23,7 @@ abbrev linked : Context → List ℕ → Context
 linked a w = record { number = a .number; count = a .count; links = w; row = a .row }
 
 abbrev Inv-loop : tie.InvT-loop
-Inv-loop numbers₀ count₀ links classes n context-count hints contexts₀ i₀ numbers count contexts i = (i ≤ context-count) × (length contexts₀ ≡ figureContexts + 1) × (count ≤ count₀ + mostLinks * i)
+Inv-loop numbers₀ count₀ links classes n context-count hints contexts₀ i₀ numbers count contexts i = (i ≤ context-count) × (length contexts₀ ≡ contextRoom) × (count ≤ count₀ + mostLinks * i)
     × (withClasses (numbering numbers count) (contextLabels (labelIn links classes n) (drop i (take context-count contexts₀))) ≡ withClasses (numbering numbers₀ count₀) (contextLabels (labelIn links classes n) (take context-count contexts₀)))
     × ((later : List ℕ) → contexts ≡ mapped (contextNumbered (withClasses (withClasses (numbering numbers₀ count₀) (contextLabels (labelIn links classes n) (take context-count contexts₀))) later .numbers) (labelIn links classes n)) i contexts₀)
 

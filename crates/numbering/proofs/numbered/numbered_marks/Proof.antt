@@ -5,7 +5,7 @@ use mathlib.Core.Path.{_≡_, refl, sym, _∙_}
 use mathlib.Core.List.{[], map}
 use native.Mathlib.Omega.{arith}
 use lib.ListN.{length, take, drop, getD, length-set}
-use Rattle.rows.specs.Limits.{sheetMarks}
+use Rattle.rows.specs.Limits.{markRoom}
 use Rattle.rows.specs.Held.{indexOf}
 use Rattle.rows.specs.Packed.{padded}
 use Rattle.numbering.specs.Numbering.{numbering, markLabelIn, withClasses, marksBy}
@@ -15,7 +15,7 @@ use Rattle.numbering.proofs.numbered.numbered_marks.Statement.{statemen
 use Rattle.numbering.proofs.numbered.numbered_marks.Tie as tie
 
 abbrev Inv-loop : tie.InvT-loop
-Inv-loop numbers₀ count₀ marks marked classes n ascending numbered₀ i₀ numbers count numbered i = (i ≤ n) × (length numbered ≡ sheetMarks + 1) × (count ≤ count₀ + i)
+Inv-loop numbers₀ count₀ marks marked classes n ascending numbered₀ i₀ numbers count numbered i = (i ≤ n) × (length numbered ≡ markRoom) × (count ≤ count₀ + i)
     × (withClasses (numbering numbers count) (map (markLabelIn marks marked classes n) (drop i (take n ascending))) ≡ withClasses (numbering numbers₀ count₀) (map (markLabelIn marks marked classes n) (take n ascending)))
     × (numbered ≡ marksBy (withClasses (withClasses (numbering numbers₀ count₀) (map (markLabelIn marks marked classes n) (take n ascending))) [] .numbers) (markLabelIn marks marked classes n) (take i ascending))
 
@@ -69,7 +69,7 @@ loop-again c = let l = c .before .before .before .before .before .before in
       simp length-set (v .inv .1),
       omega (arith, v .inv .2, pass-count f (a .ascending .now) (a .n) (v .i) (s .pre .2) h n n′ all (g .result) (p .result) (g .ensures) (p .ensures .0) (v .inv .3)),
       pass-left f (a .ascending .now) (a .n) (v .i) (s .pre .2) h n n′ all (g .result) (p .result) (g .ensures) (p .ensures .0) (v .inv .3),
-      pass-stored f (a .ascending .now) (a .n) (v .i) (s .pre .2) h n n′ all (g .result) (p .result) (g .ensures) (p .ensures .0) (v .inv .3) (sheetMarks + 1) [] (v .numbered) (p .ensures .1) (omega (arith, s .pre .1)) (v .inv .4),
+      pass-stored f (a .ascending .now) (a .n) (v .i) (s .pre .2) h n n′ all (g .result) (p .result) (g .ensures) (p .ensures .0) (v .inv .3) markRoom [] (v .numbered) (p .ensures .1) (omega (arith, s .pre .1)) (v .inv .4),
     )
 
 returns : tie.Need-returns Inv-loop μ-loop

@@ -4,7 +4,7 @@ use mathlib.Core.Path.{ap, _∙_}
 use native.Mathlib.Omega.{arith}
 use borrow.Author.Needs.{needs}
 use lib.ListN.{length}
-use Rattle.rows.specs.Limits.{sheetMarks}
+use Rattle.rows.specs.Limits.{markRoom}
 use Rattle.numbering.specs.Numbering.{numbering}
 use Rattle.numbering.proofs.Carrying.{sorted-width}
 use Rattle.reading.specs.Made.{arrays}
@@ -46,7 +46,7 @@ numbered-marks-requires c κs =
     let v = s .pre .1 in
     let i = s .pre .2 in
     let k = s .pre .3 in
-    let w = ap length (m .ensures) ∙ sorted-width (sheetMarks + 1) (s .args .m) (s .args .marks .now) (omega (arith, n .room .marks)) in (
+    let w = ap length (m .ensures) ∙ sorted-width markRoom (s .args .m) (s .args .marks .now) (omega (arith, n .room .marks)) in (
       (omega (arith, v .2, n .room .marks), omega (arith, v .3, n .room .marks), omega (arith, v .1), n .room .places, n .labels),
       n .room .marks,
       omega (arith, w, n .room .marks),

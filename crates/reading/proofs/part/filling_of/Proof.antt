@@ -1,10 +1,11 @@
--- Where the list passes, its part for the context; else nothing.
+-- Where the list passes, its part for the context, by the heads that were read; else nothing.
 use borrow.Author.Needs.{needs}
 use mathlib.Core.Path.{sym, _∙_, ap}
 use mathlib.Core.Bool.{false}
 use Rattle.sheet.specs.Filling.{isPassed}
 use Rattle.reading.specs.declared.read.Reading.{Reading}
 use Rattle.sheet.proofs.part.FillingLaws.{filling-by}
+use Rattle.reading.proofs.part.ListRead.{heads-read}
 use Rattle.reading.proofs.part.filling_of.Statement.{statement}
 use Rattle.reading.proofs.part.filling_of.Tie as tie
 
@@ -15,8 +16,8 @@ enum-told : tie.Need-enum-told
 enum-told c = search needs
 
 part-for-requires : tie.Need-part-for-requires
-part-for-requires c κs = let r = c .before .before in
-    ap isPassed (sym (ap (λ (x : Reading). x .answer) (r .read-list .ensures)) ∙ c .enum-told .given .1)
+part-for-requires c κs = let r = c .before .before .before in
+    heads-read (r .before .before .args .list .now) (r .read-list .result) (r .read-list .ensures) (c .before .enum-told .given .1)
 
 enum-told-2 : tie.Need-enum-told-2
 enum-told-2 c = search needs

@@ -2,7 +2,7 @@
 -- whole says: that is the invariant of the two loops. Assumes nothing.
 use borrow.Author.Needs.{needs}
 use Prim.Native.Nat.{ℕ, _≤_, _<_, _+_, _*_, _-_, _^_}
-use mathlib.Core.Path.{_≡_, _∙_, sym, refl}
+use mathlib.Core.Path.{_≡_, _∙_, sym, refl, ap}
 use mathlib.Core.Bool.{Bool, true, false}
 use mathlib.Core.List.{List}
 use mathlib.Core.Logic.{⊎-elim}
@@ -10,34 +10,32 @@ use native.Mathlib.Omega.{arith}
 use borrow.Author.Tests.{eq-eqb, ne-eqb, not-true, not-false}
 use lib.Dec.{eqb}
 use lib.ListN.{length, getD, drop, set, length-set}
-use lib.Seq.{getD-set-other}
 use Rattle.rows.specs.Pick.{pick}
-use Rattle.rows.specs.Format.{fieldCount}
-use Rattle.rows.specs.Row.{malformed, fieldOf, fieldsOf, rowOf, rowWith}
-use Rattle.rows.proofs.RowLaws.{digit-more, digit-none, digits-fit, letter-small, misplaced-digit, columns, field-end, field-column, fields-malformed, fields-held, row-strange, row-fields}
-use Rattle.rows.proofs.ShortRow.{fields-rest}
-use Rattle.rows.proofs.Padding.{getD-filled}
+use Rattle.rows.specs.Format.{fieldWidth, fieldCount, blank, ruleOf}
+use Rattle.rows.specs.Row.{malformed, fieldOf, suits, fieldsOf, rowOf, rowWith}
+use Rattle.rows.specs.declared.row.Rule.{Rule}
+use Rattle.rows.proofs.RowLaws.{digit-more, digit-none, digits-fit, letter-small, misplaced-digit, columns, field-end, field-column, fields-end, fields-malformed, fields-held, row-strange, row-fields}
 use Rattle.rows.proofs.row.read_row.Statement.{statement}
 use Rattle.rows.proofs.row.read_row.Tie as tie
 
 abbrev Inv-loop : tie.InvT-loop
-Inv-loop row letter own fields nums good₀ f at col₀ n₀ filled₀ good col n filled = (col ≤ 4) × (n < 10 ^ col) × (good ≡ good₀) × (fieldOf false 0 (columns row at) ≡ fieldOf filled n (drop col (columns row at)))
+Inv-loop row letter own nums good₀ f at col₀ n₀ filled₀ good col n filled = (col ≤ fieldWidth) × (n < 10 ^ col) × (good ≡ good₀) × (fieldOf false 0 (columns row at) ≡ fieldOf filled n (drop col (columns row at)))
 
 abbrev μ-loop : tie.MeasureT-loop
-μ-loop row letter own fields nums good₀ f at col₀ n₀ filled₀ good col n filled = 4 - col
+μ-loop row letter own nums good₀ f at col₀ n₀ filled₀ good col n filled = fieldWidth - col
 
 abbrev Inv-row : tie.InvT-row
-Inv-row row letter own fields nums₀ good₀ f₀ nums good f = (f ≤ fields) × (length nums ≡ fieldCount) × (good ≡ good₀) × (rowOf row ≡ fieldsOf row letter f nums (fieldCount - f)) × ((k : ℕ) → f ≤ k → getD nums k 0 ≡ 0)
+Inv-row row letter own nums₀ good₀ f₀ nums good f = (f ≤ fieldCount) × (length nums ≡ fieldCount) × (good ≡ true) × (rowOf row ≡ fieldsOf row letter f nums (fieldCount - f))
 
 abbrev μ-row : tie.MeasureT-row
-μ-row row letter own fields nums₀ good₀ f₀ nums good f = fields - f
+μ-row row letter own nums₀ good₀ f₀ nums good f = fieldCount - f
 
 -- at a column: the row's bytes, its letter's place, the field's first column, the column's byte
 abbrev bytes : tie.At-loop Inv-loop μ-loop Inv-row μ-row → List ℕ
-bytes l = l .before .before .before .before .before .before .before .before .before .before .args .row .now
+bytes l = l .before .before .before .before .before .before .before .before .args .row .now
 
 abbrev place : tie.At-loop Inv-loop μ-loop Inv-row μ-row → ℕ
-place l = l .before .before .before .before .before .before .before .letter-of .result
+place l = l .before .before .before .before .before .letter-of .result
 
 abbrev start : tie.At-loop Inv-loop μ-loop Inv-row μ-row → ℕ
 start l = l .before .before .row .f * 4 + 1
@@ -47,7 +45,7 @@ byte l = getD (bytes l) (start l + l .loop .col) 0
 
 -- the field is one of the row's
 small : (l : tie.At-loop Inv-loop μ-loop Inv-row μ-row) → l .before .before .row .f < fieldCount
-small l = omega (arith, l .before .row-test .taken, l .before .before .before .before .most-fields .ensures .0)
+small l = l .before .row-test .taken
 
 -- what the field holds, by the two tests of a column's byte
 column : (c : tie.After-misplaced Inv-loop μ-loop Inv-row μ-row) →
@@ -65,6 +63,12 @@ digit : (c : tie.Else2 Inv-loop μ-loop Inv-row μ-row) →
     (byte l ≡ 32 → ⊥) → (48 ≤ byte l) × (byte l ≤ 57)
 digit c h = misplaced-digit _ _ _ (sym (c .before .misplaced .ensures) ∙ c .if2 .left) h
 
+-- the rule of the field is the table's
+rule-taken : (l : tie.At-loop Inv-loop μ-loop Inv-row μ-row) →
+    getD (l .before .before .before .rules-of .result) (l .before .before .row .f) blank ≡ ruleOf (place l) (l .before .before .row .f)
+unfolding ruleOf
+rule-taken l = ap (λ (own : List Rule). getD own (l .before .before .row .f) blank) (l .before .before .before .rules-of .ensures)
+
 -- what the row is, by whether the field suits its rule
 judgement : (c : tie.After-field-suits Inv-loop μ-loop Inv-row μ-row) →
     let l = c .before .before .before in
@@ -76,7 +80,7 @@ judgement c good e =
     let r = l .before .before .row in
     let held = l .loop .inv .3 ∙ field-end (bytes l) (start l) (l .loop .col) (l .loop .filled) (l .loop .n) (c .before .before .loop-test .left) in
     r .inv .3 ∙ fields-held (bytes l) (place l) (r .f) (r .nums) (small l) (l .loop .filled) (l .loop .n) good held
-    (cc (c .before .rule-of .ensures (place l) (l .before .before .before .before .before .rules-of .ensures), c .field-suits .ensures))
+    (ap (λ (rule : Rule). suits rule (r .f) (getD (r .nums) 1 0) (l .loop .filled) (l .loop .n)) (sym (rule-taken l)) ∙ sym (c .field-suits .ensures) ∙ e)
 
 shared-slice-read-letter-of : tie.Need-shared-slice-read-letter-of Inv-loop μ-loop Inv-row μ-row
 shared-slice-read-letter-of c = search needs
@@ -95,14 +99,8 @@ rules-of-requires : tie.Need-rules-of-requires Inv-loop μ-loop Inv-row μ-row
 rules-of-requires c κs = let k = c .before .letter-of .ensures in
     rw k (letter-small _ (λ e. c .if1 .left (k ∙ e)))
 
-most-fields-requires : tie.Need-most-fields-requires Inv-loop μ-loop Inv-row μ-row
-most-fields-requires c κs = search needs
-
-rest-empty-requires : tie.Need-rest-empty-requires Inv-loop μ-loop Inv-row μ-row
-rest-empty-requires c κs = search needs
-
 row-holds : tie.Need-row-holds Inv-loop μ-loop Inv-row μ-row
-row-holds c = (omega arith, refl, refl, row-fields _ (c .before .before .before .before .letter-of .result) (c .before .before .before .before .letter-of .ensures) (c .before .before .before .if1 .left), λ k h. getD-filled 0 fieldCount k)
+row-holds c = (omega arith, refl, refl, row-fields _ (c .before .before .letter-of .result) (c .before .before .letter-of .ensures) (c .before .if1 .left))
 
 mul-at : tie.Need-mul-at Inv-loop μ-loop Inv-row μ-row
 mul-at c = search needs
@@ -118,6 +116,9 @@ add-b c = search needs
 
 shared-slice-read-b : tie.Need-shared-slice-read-b Inv-loop μ-loop Inv-row μ-row
 shared-slice-read-b c = search needs
+
+add-misplaced : tie.Need-add-misplaced Inv-loop μ-loop Inv-row μ-row
+add-misplaced c = search needs
 
 misplaced-requires : tie.Need-misplaced-requires Inv-loop μ-loop Inv-row μ-row
 misplaced-requires c κs = search needs
@@ -161,8 +162,11 @@ loop-again c = let l = c .before .before .before .before .before in
     ))
     (c .if3 .came)
 
-rule-of-requires : tie.Need-rule-of-requires Inv-loop μ-loop Inv-row μ-row
-rule-of-requires c κs = search needs
+mul-field-suits : tie.Need-mul-field-suits Inv-loop μ-loop Inv-row μ-row
+mul-field-suits c = search needs
+
+array-copy-out-field-suits : tie.Need-array-copy-out-field-suits Inv-loop μ-loop Inv-row μ-row
+array-copy-out-field-suits c = search needs
 
 array-read-field-suits : tie.Need-array-read-field-suits Inv-loop μ-loop Inv-row μ-row
 array-read-field-suits c = search needs
@@ -189,14 +193,11 @@ row-again c = let l = c .before .before .before .before in
       simp length-set (r .inv .1),
       l .loop .inv .2 ∙ r .inv .2,
       judgement (c .before) true (not-false _ (c .if4 .left)),
-      λ k h. getD-set-other (r .nums) (r .f) k (l .loop .n) 0 (λ e. omega arith) ∙ r .inv .4 k (omega arith),
     )
 
 returns-2 : tie.Need-returns-2 Inv-loop μ-loop Inv-row μ-row
 returns-2 c = let r = c .before .row in
-    let most = c .before .before .before .most-fields .ensures .1 in
-    let e : r .f ≡ c .before .before .before .most-fields .result = omega (arith, c .row-test .left) in
-    rw (r .inv .2 ∙ c .before .before .rest-empty .ensures) (sym (r .inv .3 ∙ fields-rest _ _ (r .f) (r .nums) (e ∙ most) (r .inv .4)))
+    rw (r .inv .2) (sym (r .inv .3 ∙ fields-end _ _ (r .f) (r .nums) (c .row-test .left)))
 
 returns-3 : tie.Need-returns-3 Inv-loop μ-loop Inv-row μ-row
 returns-3 c = let l = c .before .before .before .before in
@@ -219,14 +220,13 @@ read-row-spec =
     none-requires
     returns
     rules-of-requires
-    most-fields-requires
-    rest-empty-requires
     row-holds
     mul-at
     add-at
     loop-holds
     add-b
     shared-slice-read-b
+    add-misplaced
     misplaced-requires
     mul-n
     sub-n
@@ -235,7 +235,8 @@ read-row-spec =
     add-col
     loop-less
     loop-again
-    rule-of-requires
+    mul-field-suits
+    array-copy-out-field-suits
     array-read-field-suits
     field-suits-requires
     mul-nums

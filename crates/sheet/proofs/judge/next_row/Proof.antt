@@ -1,13 +1,10 @@
 use borrow.Author.Needs.{needs}
-use Prim.Native.Nat.{_+_, _*_}
-use mathlib.Core.Path.{ap, sym, _∙_}
+use Prim.Native.Nat.{_*_}
+use mathlib.Core.Path.{sym, _∙_}
 use lib.ListN.{drop}
 use Rattle.rows.specs.Format.{rowWidth}
-use Rattle.sheet.specs.Filling.{isPassed}
-use Rattle.sheet.specs.Reading.{Verdict}
-use Rattle.sheet.specs.Steps.{answerOf}
 use Rattle.sheet.proofs.read.Walk.{whole-fits}
-use Rattle.sheet.proofs.read.Judged.{answer-taken, early-whole, early-same}
+use Rattle.sheet.proofs.read.Judged.{next-made}
 use Rattle.sheet.proofs.judge.next_row.Statement.{statement}
 use Rattle.sheet.proofs.judge.next_row.Tie as tie
 
@@ -32,10 +29,7 @@ returns c = let a = c .before .before .before .before .args in
     let x = c .early-answer in
     let r = c .before .row-at in
     let g = c .before .before .is-ragged in
-    record {
-      answer = x .ensures ∙ ap (λ (v : Verdict). answerOf v (a .k + 1)) (early-same (a .kind) (a .heads) (a .k) (drop (a .k * rowWidth) (a .text .now)) (g .result) (r .result) (g .ensures) (r .ensures));
-      row = λ p. r .ensures (early-whole (a .kind) (a .heads) (a .k) (g .result) (r .result) (answer-taken _ (a .k + 1) (ap isPassed (sym (x .ensures)) ∙ p)));
-    }
+    next-made (a .kind) (a .heads) (a .k) (drop (a .k * rowWidth) (a .text .now)) (g .result) (r .result) (x .result) (g .ensures) (r .ensures) (x .ensures)
 
 pub next-row-spec : {M : Type 1} → statement M
 next-row-spec =

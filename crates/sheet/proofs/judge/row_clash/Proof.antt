@@ -1,5 +1,5 @@
 use borrow.Author.Needs.{needs}
-use mathlib.Core.Path.{_≡_, _∙_}
+use mathlib.Core.Path.{_∙_}
 use native.Mathlib.Omega.{arith}
 use Rattle.sheet.proofs.read.Clashes.{clash-head, clash-blank, clash-none}
 use Rattle.sheet.proofs.judge.row_clash.Statement.{statement}
@@ -19,23 +19,22 @@ cast-number : tie.Need-cast-number
 cast-number c = search needs
 
 mul-ports-clash : tie.Need-mul-ports-clash
-mul-ports-clash c = omega (arith, c .before .before .before .pre .context (c .if2 .taken))
+mul-ports-clash c = omega (arith, c .before .before .before .pre .context (c .if2 .taken) .0)
 
 array-read-ports-clash : tie.Need-array-read-ports-clash
-array-read-ports-clash c = c .before .before .before .pre .context (c .if2 .taken)
+array-read-ports-clash c = c .before .before .before .pre .context (c .if2 .taken) .0
 
 mul-ports-clash-2 : tie.Need-mul-ports-clash-2
-mul-ports-clash-2 c = omega (arith, c .before .before .before .pre .context (c .if2 .taken))
+mul-ports-clash-2 c = omega (arith, c .before .before .before .pre .context (c .if2 .taken) .0)
 
 array-read-ports-clash-2 : tie.Need-array-read-ports-clash-2
-array-read-ports-clash-2 c = c .before .before .before .pre .context (c .if2 .taken)
+array-read-ports-clash-2 c = c .before .before .before .pre .context (c .if2 .taken) .0
 
 array-read-ports-clash-3 : tie.Need-array-read-ports-clash-3
 array-read-ports-clash-3 c = search needs
 
 add-ports-clash : tie.Need-add-ports-clash
-add-ports-clash c = let e : c .before .before .before .args .row .letter ≡ 1 = c .if2 .taken in
-    omega (arith, c .before .before .before .pre .few (omega arith))
+add-ports-clash c = omega (arith, c .before .before .before .pre .context (c .if2 .taken) .1)
 
 ports-clash-requires : tie.Need-ports-clash-requires
 ports-clash-requires c κs = search needs
@@ -43,7 +42,7 @@ ports-clash-requires c κs = search needs
 returns-2 : tie.Need-returns-2
 returns-2 c = let s = c .before .before .before .before in
     let a = s .args in
-    λ l q p. c .ports-clash .ensures ∙ clash-blank (a .kind) (a .t2) (a .row) l (a .t3) p (c .before .before .if1 .left) (c .before .if2 .taken) (s .pre .context (c .before .if2 .taken))
+    λ l q p. c .ports-clash .ensures ∙ clash-blank (a .kind) (a .t2) (a .row) l (a .t3) p (c .before .before .if1 .left) (c .before .if2 .taken) (s .pre .context (c .before .if2 .taken) .0)
 
 returns-3 : tie.Need-returns-3
 returns-3 c = let a = c .before .before .before .args in

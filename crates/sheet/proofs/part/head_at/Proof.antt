@@ -1,88 +1,75 @@
--- `filling::head_at` meets its contract. The invariant: the search from here on finds what the search of the
--- whole list finds, and the rows before are taken in. Assumes nothing.
+-- Invariant: the search through the heads from i on finds what the walk over the list finds.
 use borrow.Author.Needs.{needs}
-use Prim.Native.Nat.{_≤_, _+_, _-_}
-use mathlib.Core.Path.{_≡_, refl, _∙_, sym}
-use mathlib.Core.Bool.{true, false}
-use mathlib.Core.Logic.{⊎-elim}
 use native.Mathlib.Omega.{arith}
-use borrow.Author.Tests.{eq-eqb, ne-eqb}
+use Prim.Native.Nat.{_≤_, _-_}
+use mathlib.Core.Path.{_≡_, sym, _∙_}
 use lib.ListN.{length, drop}
-use Rattle.rows.specs.Format.{rowWidth}
+use Rattle.rows.specs.Limits.{figureContexts}
 use Rattle.sheet.specs.Filling.{fromHead}
-use Rattle.sheet.proofs.part.FillingLaws.{head-none, head-other}
-use Rattle.sheet.proofs.part.Heads.{Walked, walked-start, walked-next, digit-low, head-found}
+use Rattle.sheet.proofs.part.HeadRows.{Inside, fromFirst, headsFrom, headAt, heads-few, search-start, search-end, search-inside, search-hit, search-miss}
 use Rattle.sheet.proofs.part.head_at.Statement.{statement}
 use Rattle.sheet.proofs.part.head_at.Tie as tie
 
 abbrev Inv-loop : tie.InvT-loop
-Inv-loop list number at₀ at = (at ≤ length list) × (fromHead (length list) number list ≡ fromHead (length list) number (drop at list)) × Walked list at
+Inv-loop list count number heads i₀ i = (i ≤ count) × (fromHead (length list) number list ≡ fromFirst (headsFrom list i) number list (drop (length list) list))
 
 abbrev μ-loop : tie.MeasureT-loop
-μ-loop list number at₀ at = length list - at
+μ-loop list count number heads i₀ i = count - i
+
+few : (s : tie.Start Inv-loop μ-loop) → s .args .count ≤ figureContexts
+few s = heads-few (s .args .list .now) (s .args .t2) (s .args .count) (s .pre)
+
+inside : (c : tie.In-loop Inv-loop μ-loop) → Inside (c .before .before .args .list .now) (headAt (c .before .before .args .t2) (c .before .loop .i))
+inside c = let s = c .before .before in
+    search-inside (s .args .list .now) (s .args .t2) (s .args .count) (s .pre) (s .args .number) (c .before .loop .i) (c .loop-test .taken)
 
 loop-holds : tie.Need-loop-holds Inv-loop μ-loop
-loop-holds c = (omega arith, refl, walked-start _)
+loop-holds c = (omega arith, search-start (c .args .list .now) (c .args .t2) (c .args .count) (c .pre) (c .args .number))
 
-sub-if1 : tie.Need-sub-if1 Inv-loop μ-loop
-sub-if1 c = search needs
+mul-if1 : tie.Need-mul-if1 Inv-loop μ-loop
+mul-if1 c = omega (arith, few (c .before .before))
+
+element-copy-out-if1 : tie.Need-element-copy-out-if1 Inv-loop μ-loop
+element-copy-out-if1 c = omega (arith, few (c .before .before))
+
+mul-result : tie.Need-mul-result Inv-loop μ-loop
+mul-result c = omega (arith, few (c .before .before .before))
+
+element-copy-out-result : tie.Need-element-copy-out-result Inv-loop μ-loop
+element-copy-out-result c = omega (arith, few (c .before .before .before))
+
+cast-result : tie.Need-cast-result Inv-loop μ-loop
+cast-result c = omega (arith, inside (c .before))
+
+sub-result : tie.Need-sub-result Inv-loop μ-loop
+sub-result c = inside (c .before) .0
+
+mul-result-2 : tie.Need-mul-result-2 Inv-loop μ-loop
+mul-result-2 c = omega (arith, inside (c .before))
 
 returns : tie.Need-returns Inv-loop μ-loop
 returns c = let l = c .before .before in
-    let a = l .before .args in
-    (omega arith, sym (l .loop .inv .1 ∙ head-none (a .list .now) (l .loop .at) (c .if1 .taken) (a .number)))
+    let s = l .before in
+    let a = s .args in
+    (omega (arith, inside (c .before)), sym (l .loop .inv .1 ∙ search-hit (a .list .now) (a .t2) (a .count) (s .pre) (a .number) (l .loop .i) (c .before .loop-test .taken) (c .if1 .taken) _))
 
-shared-slice-read-if2 : tie.Need-shared-slice-read-if2 Inv-loop μ-loop
-shared-slice-read-if2 c = search needs
-
-add-digit : tie.Need-add-digit Inv-loop μ-loop
-add-digit c = search needs
-
-shared-slice-read-digit : tie.Need-shared-slice-read-digit Inv-loop μ-loop
-shared-slice-read-digit c = search needs
-
-sub-digit : tie.Need-sub-digit Inv-loop μ-loop
-sub-digit c = let t = c .before in
-    let b = t .before .before .before in
-    let l = b .before in
-    digit-low (l .before .args .list .now) (l .before .pre) (l .loop .at) (l .loop .inv .2) (b .loop-test .taken) (omega arith) (t .if2 .taken)
-
-cast-if3 : tie.Need-cast-if3 Inv-loop μ-loop
-cast-if3 c = let l = c .before .before .before .before .before in omega (arith, c .shared-slice-known2 .given (l .loop .at + 4))
-
-returns-2 : tie.Need-returns-2 Inv-loop μ-loop
-returns-2 c = let t = c .before .before in
-    let b = t .before .before .before in
-    let l = b .before in
-    let a = l .before .args in (
-      l .loop .inv .0,
-      sym (l .loop .inv .1 ∙ head-found (a .list .now) (l .before .pre) (l .loop .at) (l .loop .inv .2) (b .loop-test .taken) (omega arith) (t .if2 .taken) (a .number) true (eq-eqb _ _ (c .if3 .taken))),
-    )
-
-add-at : tie.Need-add-at Inv-loop μ-loop
-add-at c = search needs
+add-i : tie.Need-add-i Inv-loop μ-loop
+add-i c = search needs
 
 loop-less : tie.Need-loop-less Inv-loop μ-loop
 loop-less c = search needs
 
 loop-again : tie.Need-loop-again Inv-loop μ-loop
-loop-again c = let b = c .before .before .before in
-    let l = b .before in
-    let s = l .before .args .list .now in
-    let k = l .before .args .number in
-    let room : rowWidth ≤ length s - l .loop .at = omega arith in (
-      omega arith,
-      l .loop .inv .1 ∙ ⊎-elim
-          (λ w. head-found s (l .before .pre) (l .loop .at) (l .loop .inv .2) (b .loop-test .taken) room (w .0 .taken) k false (ne-eqb _ _ (w .2 .left)))
-          (λ w. head-other s (l .loop .at) room k (w .left))
-          (c .if2 .came),
-      walked-next s (l .before .pre) (l .loop .at) (l .loop .inv .2) (b .loop-test .taken),
-    )
+loop-again c = let l = c .before .before in
+    let s = l .before in
+    let a = s .args in
+    (omega arith, l .loop .inv .1 ∙ search-miss (a .list .now) (a .t2) (a .count) (s .pre) (a .number) (l .loop .i) (c .before .loop-test .taken) (c .if1 .left) _)
 
-returns-3 : tie.Need-returns-3 Inv-loop μ-loop
-returns-3 c = let l = c .before in
-    let a = l .before .args in
-    (omega arith, sym (l .loop .inv .1 ∙ head-none (a .list .now) (l .loop .at) (omega arith) (a .number)))
+returns-2 : tie.Need-returns-2 Inv-loop μ-loop
+returns-2 c = let l = c .before in
+    let s = l .before in
+    let a = s .args in
+    (omega arith, sym (l .loop .inv .1 ∙ search-end (a .list .now) (a .t2) (a .count) (s .pre) (a .number) (l .loop .i) (c .loop-test .left)))
 
 pub head-at-spec : {M : Type 1} → statement M
 head-at-spec =
@@ -91,15 +78,15 @@ head-at-spec =
     Inv-loop
     μ-loop
     loop-holds
-    sub-if1
+    mul-if1
+    element-copy-out-if1
+    mul-result
+    element-copy-out-result
+    cast-result
+    sub-result
+    mul-result-2
     returns
-    shared-slice-read-if2
-    add-digit
-    shared-slice-read-digit
-    sub-digit
-    cast-if3
-    returns-2
-    add-at
+    add-i
     loop-less
     loop-again
-    returns-3)
+    returns-2)

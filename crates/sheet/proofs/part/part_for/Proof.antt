@@ -25,7 +25,7 @@ returns : tie.Need-returns
 returns c = let h = c .before .before in
     let s = h .before .before in
     let a = s .args in
-    sym (filling-by (a .list .now) (a .number) true (s .pre) ∙ filling-none (a .list .now) (a .number) (h .head-at .result) (h .head-at .ensures .1) (c .before .if1 .taken))
+    sym (filling-by (a .list .now) (a .number) true (s .pre .passes) ∙ filling-none (a .list .now) (a .number) (h .head-at .result) (h .head-at .ensures .1) (c .before .if1 .taken))
 
 add-rows-end : tie.Need-add-rows-end
 add-rows-end c = search needs
@@ -47,7 +47,7 @@ returns-2 c = let h = c .before .before .before in
     let s = h .before .before in
     let a = s .args in
     let e = c .before .rows-end in
-    filling-part (a .list .now) (a .number) (h .head-at .result) (h .head-at .ensures .1) (e .result) (e .ensures .0) (e .ensures .2) ∙ sym (filling-by (a .list .now) (a .number) true (s .pre))
+    filling-part (a .list .now) (a .number) (h .head-at .result) (h .head-at .ensures .1) (e .result) (e .ensures .0) (e .ensures .2) ∙ sym (filling-by (a .list .now) (a .number) true (s .pre .passes))
 
 pub part-for-spec : {M : Type 1} → statement M
 part-for-spec =

@@ -8,7 +8,7 @@ use lib.Bits.{bitOr}
 use Rattle.placing.proofs.FirstLaws.{both-ways}
 use Rattle.candidates.specs.Laid.{laidAtom}
 use Rattle.candidates.specs.Words.{In}
-use Rattle.candidates.proofs.Digits.{in-or-left, in-or-right}
+use Rattle.candidates.proofs.Digits.{in-or-left, in-or-right, alone-in}
 use Rattle.starting.specs.Steps.{Alike}
 use Rattle.starting.proofs.alike.alike_to.Statement.{statement}
 use Rattle.starting.proofs.alike.alike_to.Tie as tie
@@ -43,7 +43,7 @@ loop-again c = let l = c .before .before .before in
     ⊎-elim
     (λ w. (
       search needs,
-      rw (w .2) (below-more (λ (u : ℕ). Alike (s .here) (laidAtom (s .sheet .now) u) → In (bitOr (l .loop .row) (w .1 .result)) u) (l .loop .t) (λ u h a. in-or-left (l .loop .row) (w .1 .result) u (l .loop .inv .1 u h a)) (λ a. in-or-right (l .loop .row) (w .1 .result) (l .loop .t) (w .1 .ensures .0))),
+      rw (w .2) (below-more (λ (u : ℕ). Alike (s .here) (laidAtom (s .sheet .now) u) → In (bitOr (l .loop .row) (w .1 .result)) u) (l .loop .t) (λ u h a. in-or-left (l .loop .row) (w .1 .result) u (l .loop .inv .1 u h a)) (λ a. in-or-right (l .loop .row) (w .1 .result) (l .loop .t) (alone-in _ _ (w .1 .ensures)))),
     ))
     (λ w. (
       search needs,

@@ -6,7 +6,9 @@ use Prim.Native.Nat.{ℕ, _≤_, _-_, _<_}
 use mathlib.Core.Logic.{⊎-elim}
 use lib.ListN.{getD}
 use Rattle.placing.proofs.FirstLaws.{both-ways}
+use Rattle.rows.specs.Limits.{sheetLinks}
 use Rattle.candidates.specs.Words.{InPair}
+use Rattle.candidates.proofs.Halves.{with-kept, with-there}
 use Rattle.starting.specs.Steps.{Enough}
 use Rattle.starting.proofs.start.enough_links.Statement.{statement}
 use Rattle.starting.proofs.start.enough_links.Tie as tie
@@ -42,10 +44,11 @@ loop-less c = search needs
 loop-again : tie.Need-loop-again Inv-loop μ-loop
 loop-again c = let l = c .before .before .before .before in
     let s = l .before .args in
+    let small : l .loop .y < sheetLinks = omega (arith, c .before .before .before .loop-test .taken, l .before .pre) in
     ⊎-elim
     (λ w. (
       search needs,
-      rw (w .2) (below-more (λ (v : ℕ). Enough (s .closed) (s .wanted) (getD (s .counts .now) v 0) → InPair (w .1 .result) v) (l .loop .y) (λ v h e. w .1 .ensures .0 v (omega (arith, h, l .loop .inv .0, l .before .pre)) (l .loop .inv .1 v h e)) (λ e. w .1 .ensures .1 .0)),
+      rw (w .2) (below-more (λ (v : ℕ). Enough (s .closed) (s .wanted) (getD (s .counts .now) v 0) → InPair (w .1 .result) v) (l .loop .y) (λ v h e. with-kept _ _ small _ (w .1 .ensures) v (omega (arith, h, l .loop .inv .0, l .before .pre)) (l .loop .inv .1 v h e)) (λ e. with-there _ _ small _ (w .1 .ensures))),
     ))
     (λ w. (
       search needs,

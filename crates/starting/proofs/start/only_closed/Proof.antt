@@ -1,14 +1,15 @@
 -- Invariant: what is not taken out stays.
 use borrow.Author.Needs.{needs}
-use Prim.Native.Nat.{ℕ, _≤_, _+_, _-_}
+use Prim.Native.Nat.{ℕ, _≤_, _<_, _+_, _-_}
 use mathlib.Core.Path.{_≡_, sym, subst}
 use mathlib.Core.Logic.{⊎-elim}
 use mathlib.Core.List.{List}
 use lib.ListN.{getD}
+use Rattle.rows.specs.Limits.{sheetLinks}
 use Rattle.candidates.specs.Words.{InPair}
 use Rattle.candidates.specs.Tables.{LinksStay}
 use Rattle.candidates.proofs.Staying.{links-put}
-use Rattle.candidates.proofs.Halves.{pair-in}
+use Rattle.candidates.proofs.Halves.{pair-in, in-fewer-pair, with-only}
 use Rattle.starting.proofs.Filling.{empty-pair}
 use Rattle.starting.proofs.start.only_closed.Statement.{statement}
 use Rattle.starting.proofs.start.only_closed.Tie as tie
@@ -53,13 +54,14 @@ loop-again : tie.Need-loop-again Inv-loop μ-loop
 loop-again c = let l = c .before .before .before in
     let s = l .before .before .args in
     let only = l .before .with in
+    let small : s .y - 1 < sheetLinks = search needs in
     let P : ℕ → ℕ → Type 0 = λ z v. v ≡ s .y - 1 → getD (s .closed .now) z 0 ≡ 1 → z + 1 ≡ s .x in
     ⊎-elim
     (λ w. (
       search needs,
       rw (w .7) (rw (w .6 .ensures) (links-put (s .links .now) (l .loop .links) P (l .loop .inv .1) (l .loop .z) (w .5 .result)
-          (λ v h p m. w .5 .ensures .0 v h (subst (λ (k : List ℕ). InPair k v) (sym (w .3 .ensures)) (pair-in (l .loop .links) (l .loop .z) v h m))
-          (λ i. ⊎-elim (empty-pair v) (λ e. w .1 .taken (p e (w .0 .taken))) (only .ensures .1 .1 v h i))))),
+          (λ v h p m. in-fewer-pair _ _ _ v h (w .5 .ensures) (subst (λ (k : List ℕ). InPair k v) (sym (w .3 .ensures)) (pair-in (l .loop .links) (l .loop .z) v h m))
+          (λ i. ⊎-elim (empty-pair v) (λ e. w .1 .taken (p e (w .0 .taken))) (with-only _ _ small _ (only .ensures) v h i))))),
     ))
     (λ w. ⊎-elim (λ u. (search needs, rw (u .2) (l .loop .inv .1))) (λ u. (search needs, rw (u .1) (l .loop .inv .1))) w)
     (c .if1 .came)

@@ -7,7 +7,7 @@ use mathlib.Core.Logic.{⊎-elim}
 use mathlib.Core.List.{List}
 use Rattle.candidates.specs.Words.{InPair}
 use Rattle.candidates.proofs.Staying.{links-put}
-use Rattle.candidates.proofs.Halves.{pair-in}
+use Rattle.candidates.proofs.Halves.{pair-in, in-common, with-there}
 use Rattle.starting.proofs.start.only_link.Statement.{statement}
 use Rattle.starting.proofs.start.only_link.Tie as tie
 
@@ -36,8 +36,8 @@ returns : tie.Need-returns
 returns c = let j = c .before .before .before .before .before in
     let s = j .before .args in
     rw (c .set-pair .ensures) (links-put (s .links .now) (s .links .now) (λ z v. z ≡ s .x - 1 → v + 1 ≡ s .y) (λ z v h m p. m) (s .x - 1) (c .before .common .result)
-    (λ v h p m. c .before .common .ensures v h (subst (λ (l : List ℕ). InPair l v) (sym (c .before .before .before .pair-at .ensures)) (pair-in (s .links .now) (s .x - 1) v h m))
-    (⊎-elim (λ w. rw (w .2) (subst (InPair (w .1 .result)) (let q : s .y - 1 ≡ v = omega (arith, p refl) in q) (w .1 .ensures .1 .0))) (λ w. absurd (omega (arith, p refl, w .0 .left))) (j .if1 .came))))
+    (λ v h p m. in-common _ _ _ v h (c .before .common .ensures) (subst (λ (l : List ℕ). InPair l v) (sym (c .before .before .before .pair-at .ensures)) (pair-in (s .links .now) (s .x - 1) v h m))
+    (⊎-elim (λ w. rw (w .2) (subst (InPair (w .1 .result)) (let q : s .y - 1 ≡ v = omega (arith, p refl) in q) (with-there _ _ (omega (arith, j .before .pre .1, w .0 .taken)) _ (w .1 .ensures)))) (λ w. absurd (omega (arith, p refl, w .0 .left))) (j .if1 .came))))
 
 pub only-link-spec : {M : Type 1} → statement M
 only-link-spec =

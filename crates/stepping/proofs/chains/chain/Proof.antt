@@ -6,13 +6,13 @@ use native.Mathlib.Omega.{arith}
 use lib.ListN.{length, getD, set, length-set}
 use Rattle.rows.specs.Limits.{sheetLinks}
 use Rattle.placing.specs.Net.{Net}
-use Rattle.stepping.specs.Chains.{nodeOf, Chained, RowIn}
+use Rattle.stepping.specs.Chains.{nodeOf, Chained, RowIn, nodeCount}
 use Rattle.stepping.proofs.Chaining.{chained-more, row-node, chained-row}
 use Rattle.stepping.proofs.chains.chain.Statement.{statement}
 use Rattle.stepping.proofs.chains.chain.Tie as tie
 
 abbrev Inv-loop : tie.InvT-loop
-Inv-loop table₀ j count links k₀ table k = (k ≤ count) × (length table ≡ 480) × ((S : Net) → RowIn S j links count → Chained S (nodeOf j 0) table₀ → Chained S (nodeOf j k) table)
+Inv-loop table₀ j count links k₀ table k = (k ≤ count) × (length table ≡ nodeCount) × ((S : Net) → RowIn S j links count → Chained S (nodeOf j 0) table₀ → Chained S (nodeOf j k) table)
 
 abbrev μ-loop : tie.MeasureT-loop
 μ-loop table₀ j count links k₀ table k = count - k

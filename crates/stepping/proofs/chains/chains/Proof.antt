@@ -9,19 +9,19 @@ use Rattle.rows.specs.declared.Atom.{Atom}
 use Rattle.rows.specs.declared.Sheet.{Sheet as NormalForm}
 use Rattle.network.specs.NetIn.{netIn, Used}
 use Rattle.candidates.specs.Laid.{LaidOut}
-use Rattle.stepping.specs.Chains.{nodeOf, Chained, RowIn}
+use Rattle.stepping.specs.Chains.{nodeOf, Chained, RowIn, nodeCount}
 use Rattle.stepping.proofs.Chaining.{chained-start, laid-in}
 use Rattle.stepping.proofs.chains.chains.Statement.{statement}
 use Rattle.stepping.proofs.chains.chains.Tie as tie
 
 abbrev Inv-loop : tie.InvT-loop
-Inv-loop table₀ laid atoms j₀ table j = (j ≤ atoms) × (length table ≡ 480) × ((sheet : NormalForm) → LaidOut sheet laid atoms → Chained (netIn sheet) (nodeOf j 0) table)
+Inv-loop table₀ laid atoms j₀ table j = (j ≤ atoms) × (length table ≡ nodeCount) × ((sheet : NormalForm) → LaidOut sheet laid atoms → Chained (netIn sheet) (nodeOf j 0) table)
 
 abbrev μ-loop : tie.MeasureT-loop
 μ-loop table₀ laid atoms j₀ table j = atoms - j
 
 loop-holds : tie.Need-loop-holds Inv-loop μ-loop
-loop-holds c = (omega arith, ap length (c .pre .1) ∙ length-replicate {A = ℕ} 480 0, λ sheet o. subst (Chained (netIn sheet) (nodeOf 0 0)) (sym (c .pre .1)) (chained-start (netIn sheet)))
+loop-holds c = (omega arith, ap length (c .pre .1) ∙ length-replicate {A = ℕ} nodeCount 0, λ sheet o. subst (Chained (netIn sheet) (nodeOf 0 0)) (sym (c .pre .1)) (chained-start (netIn sheet)))
 
 laid-atom-requires : tie.Need-laid-atom-requires Inv-loop μ-loop
 laid-atom-requires c κs = let s = c .before .before in omega (arith, s .pre .0 .few, c .loop-test .taken)

@@ -5,13 +5,13 @@ use mathlib.Core.Path.{_≡_, _∙_, subst}
 use mathlib.Core.Logic.{_↔_}
 use native.Mathlib.Omega.{arith}
 use lib.ListN.{length, getD, length-set}
-use Rattle.rows.specs.Limits.{sheetLinks, figureContexts}
+use Rattle.rows.specs.Limits.{sheetLinks, contextRoom}
 use Rattle.stepping.proofs.Tables.{below-set, above-set}
 use Rattle.stepping.proofs.contexts.cut_at.Statement.{statement}
 use Rattle.stepping.proofs.contexts.cut_at.Tie as tie
 
 abbrev Inv-loop : tie.InvT-loop
-Inv-loop cuts₀ ports y contexts mark c₀ cuts c = (c ≤ contexts) × (length cuts ≡ figureContexts + 1) × ((i : ℕ) → i < c → (getD cuts i 0 ≡ 0) ↔ ((getD cuts₀ i 0 ≡ 0) × (getD ports (i * sheetLinks + y) 0 ≡ 1))) × ((i : ℕ) → c ≤ i → getD cuts i 0 ≡ getD cuts₀ i 0)
+Inv-loop cuts₀ ports y contexts mark c₀ cuts c = (c ≤ contexts) × (length cuts ≡ contextRoom) × ((i : ℕ) → i < c → (getD cuts i 0 ≡ 0) ↔ ((getD cuts₀ i 0 ≡ 0) × (getD ports (i * sheetLinks + y) 0 ≡ 1))) × ((i : ℕ) → c ≤ i → getD cuts i 0 ≡ getD cuts₀ i 0)
 
 abbrev μ-loop : tie.MeasureT-loop
 μ-loop cuts₀ ports y contexts mark c₀ cuts c = contexts - c

@@ -4,14 +4,14 @@ use Prim.Native.Nat.{ℕ, _+_, _-_, _≤_, _<_}
 use mathlib.Core.Path.{_≡_, refl}
 use native.Mathlib.Omega.{arith}
 use lib.ListN.{length, getD, length-set}
-use Rattle.rows.specs.Limits.{figureContexts}
+use Rattle.rows.specs.Limits.{contextRoom}
 use Rattle.stepping.specs.Contexts.{numberOf}
 use Rattle.stepping.proofs.Tables.{below-set}
 use Rattle.stepping.proofs.contexts.numbers.Statement.{statement}
 use Rattle.stepping.proofs.contexts.numbers.Tie as tie
 
 abbrev Inv-loop : tie.InvT-loop
-Inv-loop count contexts list₀ c₀ list c = (c ≤ count) × (length list ≡ figureContexts + 1) × ((i : ℕ) → i < c → getD list i 0 ≡ numberOf contexts i)
+Inv-loop count contexts list₀ c₀ list c = (c ≤ count) × (length list ≡ contextRoom) × ((i : ℕ) → i < c → getD list i 0 ≡ numberOf contexts i)
 
 abbrev μ-loop : tie.MeasureT-loop
 μ-loop count contexts list₀ c₀ list c = count - c

@@ -5,13 +5,14 @@ use mathlib.Core.Path.{_≡_, sym, subst}
 use mathlib.Core.Logic.{⊎-elim}
 use native.Mathlib.Omega.{arith}
 use lib.ListN.{length, getD, set, length-set}
+use Rattle.rows.specs.Limits.{contextRoom, sheetLinks}
 use Rattle.stepping.specs.Flags.{atPort}
 use Rattle.stepping.proofs.Tables.{Marked, marked-start, marked-more, marked-skip, store-flag, flag-as}
 use Rattle.stepping.proofs.lookup.port_row.Statement.{statement}
 use Rattle.stepping.proofs.lookup.port_row.Tie as tie
 
 abbrev Inv-loop : tie.InvT-loop
-Inv-loop table₀ c count to none ports k₀ table k = (k ≤ count) × (length table ≡ 864) × Marked (λ p. getD table₀ p 0 ≡ 1) (atPort to none ports c) k table
+Inv-loop table₀ c count to none ports k₀ table k = (k ≤ count) × (length table ≡ contextRoom * sheetLinks) × Marked (λ p. getD table₀ p 0 ≡ 1) (atPort to none ports c) k table
 
 abbrev μ-loop : tie.MeasureT-loop
 μ-loop table₀ c count to none ports k₀ table k = count - k
@@ -64,15 +65,15 @@ loop-again c = let l = c .before .before .before .loop in
     let a = s .args in
     let r = s .pre .2 .1 (l .k) (c .before .before .loop-test .taken) .1 in
     let y = getD (a .to .now) (getD (a .t3) (l .k) 0 - 1) 0 in
-    let n = a .c * 96 + (y - 1) in
-    let w : (length (c .if1 .table) ≡ 864) × Marked (λ p. getD (a .table .now) p 0 ≡ 1) (atPort (a .to .now) (a .none) (a .t3) (a .c)) (l .k + 1) (c .if1 .table) = ⊎-elim
-    (λ w. subst (λ m. (length m ≡ 864) × Marked (λ p. getD (a .table .now) p 0 ≡ 1) (atPort (a .to .now) (a .none) (a .t3) (a .c)) (l .k + 1) m) (sym (w .1)) (
+    let n = a .c * sheetLinks + (y - 1) in
+    let w : (length (c .if1 .table) ≡ contextRoom * sheetLinks) × Marked (λ p. getD (a .table .now) p 0 ≡ 1) (atPort (a .to .now) (a .none) (a .t3) (a .c)) (l .k + 1) (c .if1 .table) = ⊎-elim
+    (λ w. subst (λ m. (length m ≡ contextRoom * sheetLinks) × Marked (λ p. getD (a .table .now) p 0 ≡ 1) (atPort (a .to .now) (a .none) (a .t3) (a .c)) (l .k + 1) m) (sym (w .1)) (
       simp length-set (l .inv .1),
       marked-more (λ p. getD (a .table .now) p 0 ≡ 1) (atPort (a .to .now) (a .none) (a .t3) (a .c)) (l .k) (l .table) (set (l .table) n 1) (l .inv .2)
           (flag-as (atPort (a .to .now) (a .none) (a .t3) (a .c) (l .k)) (λ p. p ≡ n) (l .table) (set (l .table) n 1) (store-flag (l .table) n (let i = w .0 .taken in omega (arith, r .0, r .1)))
           (λ p. ((λ e. (w .0 .taken, e)), (λ t. t .1)))),
     ))
-    (λ w. subst (λ m. (length m ≡ 864) × Marked (λ p. getD (a .table .now) p 0 ≡ 1) (atPort (a .to .now) (a .none) (a .t3) (a .c)) (l .k + 1) m) (sym (w .1)) (l .inv .1, marked-skip (λ p. getD (a .table .now) p 0 ≡ 1) (atPort (a .to .now) (a .none) (a .t3) (a .c)) (l .k) (l .table) (l .inv .2) (λ p t. t .0 (w .0 .left))))
+    (λ w. subst (λ m. (length m ≡ contextRoom * sheetLinks) × Marked (λ p. getD (a .table .now) p 0 ≡ 1) (atPort (a .to .now) (a .none) (a .t3) (a .c)) (l .k + 1) m) (sym (w .1)) (l .inv .1, marked-skip (λ p. getD (a .table .now) p 0 ≡ 1) (atPort (a .to .now) (a .none) (a .t3) (a .c)) (l .k) (l .table) (l .inv .2) (λ p t. t .0 (w .0 .left))))
     (c .if1 .came) in
     (omega arith, w .0, w .1)
 

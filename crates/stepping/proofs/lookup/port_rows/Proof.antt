@@ -5,14 +5,14 @@ use mathlib.Core.Path.{_≡_, sym, subst}
 use mathlib.Core.Logic.{⊎-elim}
 use native.Mathlib.Omega.{arith}
 use lib.ListN.{length, getD}
-use Rattle.rows.specs.Limits.{sheetLinks}
+use Rattle.rows.specs.Limits.{sheetLinks, contextRoom}
 use Rattle.stepping.specs.Flags.{portFrom, atPort}
 use Rattle.stepping.proofs.Tables.{Marked, marked-start, marked-more, marked-skip, flag-as}
 use Rattle.stepping.proofs.lookup.port_rows.Statement.{statement}
 use Rattle.stepping.proofs.lookup.port_rows.Tie as tie
 
 abbrev Inv-loop : tie.InvT-loop
-Inv-loop table₀ numbers count row to none ports c₀ table c = (c ≤ count) × (length table ≡ 9 * sheetLinks) × Marked (λ p. getD table₀ p 0 ≡ 1) (portFrom numbers row to none) c table
+Inv-loop table₀ numbers count row to none ports c₀ table c = (c ≤ count) × (length table ≡ contextRoom * sheetLinks) × Marked (λ p. getD table₀ p 0 ≡ 1) (portFrom numbers row to none) c table
 
 abbrev μ-loop : tie.MeasureT-loop
 μ-loop table₀ numbers count row to none ports c₀ table c = count - c
@@ -43,13 +43,13 @@ loop-less c = search needs
 loop-again : tie.Need-loop-again Inv-loop μ-loop
 loop-again c = let l = c .before .before .before .before .loop in
     let a = c .before .before .before .before .before .before .args in
-    let w : (length (c .if1 .table) ≡ 9 * sheetLinks) × Marked (λ p. getD (a .table .now) p 0 ≡ 1) (portFrom (a .numbers .now) (a .row) (a .to .now) (a .none)) (l .c + 1) (c .if1 .table) = ⊎-elim
-    (λ w. subst (λ m. (length m ≡ 9 * sheetLinks) × Marked (λ p. getD (a .table .now) p 0 ≡ 1) (portFrom (a .numbers .now) (a .row) (a .to .now) (a .none)) (l .c + 1) m) (sym (w .4)) (
+    let w : (length (c .if1 .table) ≡ contextRoom * sheetLinks) × Marked (λ p. getD (a .table .now) p 0 ≡ 1) (portFrom (a .numbers .now) (a .row) (a .to .now) (a .none)) (l .c + 1) (c .if1 .table) = ⊎-elim
+    (λ w. subst (λ m. (length m ≡ contextRoom * sheetLinks) × Marked (λ p. getD (a .table .now) p 0 ≡ 1) (portFrom (a .numbers .now) (a .row) (a .to .now) (a .none)) (l .c + 1) m) (sym (w .4)) (
       w .3 .ensures .0,
       marked-more (λ p. getD (a .table .now) p 0 ≡ 1) (portFrom (a .numbers .now) (a .row) (a .to .now) (a .none)) (l .c) (l .table) (w .3 .last .0) (l .inv .2)
           (flag-as (portFrom (a .numbers .now) (a .row) (a .to .now) (a .none) (l .c)) (λ p. (k : ℕ) × (k < a .row .count) × atPort (a .to .now) (a .none) (a .row .links) (l .c) k p) (l .table) (w .3 .last .0) (w .3 .ensures .1) (λ p. ((λ t. (w .0 .taken, t)), (λ t. t .1)))),
     ))
-    (λ w. subst (λ m. (length m ≡ 9 * sheetLinks) × Marked (λ p. getD (a .table .now) p 0 ≡ 1) (portFrom (a .numbers .now) (a .row) (a .to .now) (a .none)) (l .c + 1) m) (sym (w .1)) (l .inv .1, marked-skip (λ p. getD (a .table .now) p 0 ≡ 1) (portFrom (a .numbers .now) (a .row) (a .to .now) (a .none)) (l .c) (l .table) (l .inv .2) (λ p t. w .0 .left (t .0))))
+    (λ w. subst (λ m. (length m ≡ contextRoom * sheetLinks) × Marked (λ p. getD (a .table .now) p 0 ≡ 1) (portFrom (a .numbers .now) (a .row) (a .to .now) (a .none)) (l .c + 1) m) (sym (w .1)) (l .inv .1, marked-skip (λ p. getD (a .table .now) p 0 ≡ 1) (portFrom (a .numbers .now) (a .row) (a .to .now) (a .none)) (l .c) (l .table) (l .inv .2) (λ p t. w .0 .left (t .0))))
     (c .if1 .came) in
     (omega arith, w .0, w .1)
 

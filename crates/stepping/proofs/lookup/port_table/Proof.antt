@@ -4,7 +4,7 @@ use Prim.Native.Nat.{ℕ, _*_, _-_, _≤_}
 use mathlib.Core.Path.{_≡_, sym, _∙_, ap, subst}
 use native.Mathlib.Omega.{arith}
 use lib.ListN.{length, replicate, length-replicate}
-use Rattle.rows.specs.Limits.{sheetLinks}
+use Rattle.rows.specs.Limits.{sheetLinks, contextRoom}
 use Rattle.network.specs.NetIn.{rowAt}
 use Rattle.stepping.specs.Flags.{portOfRow}
 use Rattle.stepping.proofs.Tables.{Marked, marked-start, marked-more, zeros-not}
@@ -14,7 +14,7 @@ use Rattle.stepping.proofs.lookup.port_table.Statement.{statement}
 use Rattle.stepping.proofs.lookup.port_table.Tie as tie
 
 abbrev Inv-loop : tie.InvT-loop
-Inv-loop table₀ numbers count to none contexts d₀ table d = (d ≤ count) × (length table ≡ 9 * sheetLinks) × Marked (λ p. ⊥) (λ i. portOfRow numbers count (rowAt contexts i) to none) d table
+Inv-loop table₀ numbers count to none contexts d₀ table d = (d ≤ count) × (length table ≡ contextRoom * sheetLinks) × Marked (λ p. ⊥) (λ i. portOfRow numbers count (rowAt contexts i) to none) d table
 
 abbrev μ-loop : tie.MeasureT-loop
 μ-loop table₀ numbers count to none contexts d₀ table d = count - d
@@ -22,9 +22,9 @@ abbrev μ-loop : tie.MeasureT-loop
 loop-holds : tie.Need-loop-holds Inv-loop μ-loop
 loop-holds c = let a = c .args in (
   omega arith,
-  ap length (c .pre .2) ∙ length-replicate {A = ℕ} 864 0,
+  ap length (c .pre .2) ∙ length-replicate {A = ℕ} (contextRoom * sheetLinks) 0,
   subst (Marked (λ p. ⊥) (λ d. portOfRow (a .numbers .now) (a .count) (rowAt (a .t3) d) (a .to .now) (a .none)) 0) (sym (c .pre .2))
-      (marked-start (λ p. ⊥) (λ d. portOfRow (a .numbers .now) (a .count) (rowAt (a .t3) d) (a .to .now) (a .none)) (replicate 864 0) (λ p. ((λ q. zeros-not 864 p q), (λ b. absurd b)))),
+      (marked-start (λ p. ⊥) (λ d. portOfRow (a .numbers .now) (a .count) (rowAt (a .t3) d) (a .to .now) (a .none)) (replicate (contextRoom * sheetLinks) 0) (λ p. ((λ q. zeros-not (contextRoom * sheetLinks) p q), (λ b. absurd b)))),
 )
 
 mul-row : tie.Need-mul-row Inv-loop μ-loop

@@ -19,7 +19,7 @@ abbrev μ-loop : tie.MeasureT-loop
 μ-loop count to none flags₀ x₀ flags x = count - x
 
 loop-holds : tie.Need-loop-holds Inv-loop μ-loop
-loop-holds c = (omega arith, refl, marked-start (λ p. ⊥) (goesTo (c .args .to .now) (c .args .none)) (replicate 96 0) (λ p. ((λ q. zeros-not 96 p q), (λ b. absurd b))))
+loop-holds c = (omega arith, refl, marked-start (λ p. ⊥) (goesTo (c .args .to .now) (c .args .none)) (replicate sheetLinks 0) (λ p. ((λ q. zeros-not sheetLinks p q), (λ b. absurd b))))
 
 mul-y : tie.Need-mul-y Inv-loop μ-loop
 mul-y c = search needs

@@ -21,7 +21,7 @@ step-labels-requires : tie.Need-step-labels-requires Inv-loop μ-loop
 step-labels-requires c κs = let s = c .before in (s .pre .0 .few, context-row (s .args .contexts) (s .args .rows) (s .args .count) (s .pre .0), search needs, s .pre .0 .links-few)
 
 loop-holds : tie.Need-loop-holds Inv-loop μ-loop
-loop-holds c = let a = c .before .before .args in (omega arith, refl, owners-start (a .to .now) (c .step-labels .last .0) (a .none) 96)
+loop-holds c = let a = c .before .before .args in (omega arith, refl, owners-start (a .to .now) (c .step-labels .last .0) (a .none) sheetLinks)
 
 mul-y : tie.Need-mul-y Inv-loop μ-loop
 mul-y c = search needs

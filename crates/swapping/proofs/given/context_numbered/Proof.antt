@@ -4,14 +4,14 @@ use native.Mathlib.Omega.{arith}
 use Prim.Native.Nat.{ℕ, _≤_, _<_, _+_, _-_}
 use mathlib.Core.Path.{_≡_, ap, sym, _∙_}
 use lib.ListN.{length}
-use Rattle.rows.specs.Limits.{figureContexts}
+use Rattle.rows.specs.Limits.{contextRoom}
 use Rattle.numbering.proofs.Turns.{unmapped}
 use Rattle.network.specs.NetIn.{rowAt}
 use Rattle.swapping.proofs.given.context_numbered.Statement.{statement}
 use Rattle.swapping.proofs.given.context_numbered.Tie as tie
 
 abbrev Inv-loop : tie.InvT-loop
-Inv-loop count number contexts j₀ j = (length contexts ≡ figureContexts + 1) × ((k : ℕ) × (j ≤ k) × (k < count) × (rowAt contexts k .number ≡ number))
+Inv-loop count number contexts j₀ j = (length contexts ≡ contextRoom) × ((k : ℕ) × (j ≤ k) × (k < count) × (rowAt contexts k .number ≡ number))
 
 abbrev μ-loop : tie.MeasureT-loop
 μ-loop count number contexts j₀ j = count - j

@@ -7,7 +7,7 @@ use mathlib.Core.List.{List, _++_, append-nil, append-assoc}
 use lib.ListN.{length, getD, take, drop, length-take}
 use Rattle.hyperlmntal.specs.Link.{_∈_}
 use Rattle.rows.specs.Format.{mostLinks}
-use Rattle.rows.specs.Limits.{sheetAtoms, figureContexts}
+use Rattle.rows.specs.Limits.{atomRoom, contextRoom}
 use Rattle.rows.specs.declared.Atom.{Atom}
 use Rattle.numbering.specs.Numbering.{numbering}
 use Rattle.numbering.proofs.Turns.{unmapped}
@@ -25,7 +25,7 @@ use Rattle.swapping.proofs.given.whole_given.Statement.{statement}
 use Rattle.swapping.proofs.given.whole_given.Tie as tie
 
 abbrev Inv-loop : tie.InvT-loop
-Inv-loop count sheet pattern links-to given labels₀ contexts blanks whole₀ i₀ labels whole i = (i ≤ count) × (length contexts ≡ figureContexts + 1) × FreshFrom ((i + 1) * partRoom) labels × (whole .count ≤ sheetAtoms + 1)
+Inv-loop count sheet pattern links-to given labels₀ contexts blanks whole₀ i₀ labels whole i = (i ≤ count) × (length contexts ≡ contextRoom) × FreshFrom ((i + 1) * partRoom) labels × (whole .count ≤ atomRoom)
     × ((list : List ℕ) → ((c : NetCell) → c ∈ netIn pattern .contexts → GivenPart sheet links-to given list c)
     → (joinedAll labels (allPairs list (i + 1) (drop i (take count contexts))) ≡ joinedAll labels₀ (allPairs list 1 (take count contexts)))
     × (roomFor (wholeAtoms whole ++ contextAtoms list (i + 1) (drop i (take count contexts))) ≡ roomFor (wholeAtoms whole₀ ++ contextAtoms list 1 (take count contexts))))

@@ -11,8 +11,9 @@ use Rattle.answers.specs.Done.{slipAfter}
 use Rattle.answers.specs.declared.outcome.Done.the-variants.{Written}
 use Rattle.finding.proofs.PlaceCode.{inputs-ready, found-links}
 use Rattle.swapping.specs.Inputs.{SwapInputs}
+use Rattle.swapping.specs.FilledFrom.{PlacingSwaps}
 use Rattle.swapping.proofs.ReplacementBlanks.{replacement-blanks}
-use Rattle.swapping.proofs.SwapCode.{marks-room, marks-differ, swap-nothing, PlacingSwaps, swap-placing, done-many, done-wide, done-writable, done-written, done-slip}
+use Rattle.swapping.proofs.SwapCode.{marks-room, marks-differ, swap-nothing, swap-placing, done-many, done-wide, done-writable, done-written, done-slip}
 use Rattle.swapping.proofs.swap.swap_read.Statement.{statement}
 use Rattle.swapping.proofs.swap.swap_read.Tie as tie
 

@@ -5,7 +5,7 @@ use mathlib.Core.Path.{_≡_, refl, _∙_}
 use native.Mathlib.Omega.{arith}
 use borrow.Author.Tests.{ltb-true}
 use lib.ListN.{length, take}
-use Rattle.rows.specs.Format.{fieldCount}
+use Rattle.rows.specs.Format.{fieldWidth, fieldCount}
 use Rattle.writing.specs.RowText.{fieldsBytes}
 use Rattle.writing.proofs.RowBytes.{over, over-none, fields-put}
 use borrow.Author.Needs.{needs}
@@ -13,7 +13,7 @@ use Rattle.writing.proofs.write.put_fields.Statement.{statement}
 use Rattle.writing.proofs.write.put_fields.Tie as tie
 
 abbrev Inv-loop : tie.InvT-loop
-Inv-loop out₀ at count nums f₀ out f = (f ≤ fieldCount) × (length out ≡ length out₀) × (out ≡ over out₀ at (fieldsBytes f (take count nums)) (f * 4))
+Inv-loop out₀ at count nums f₀ out f = (f ≤ fieldCount) × (length out ≡ length out₀) × (out ≡ over out₀ at (fieldsBytes f (take count nums)) (f * fieldWidth))
 
 abbrev μ-loop : tie.MeasureT-loop
 μ-loop out₀ at count nums f₀ out f = fieldCount - f

@@ -6,7 +6,7 @@ use mathlib.Core.Path.{_≡_, _∙_, ap, subst}
 use mathlib.Core.Logic.{⊎-elim}
 use mathlib.Core.List.{List, [], _∷_, map}
 use lib.ListN.{length, getD, take, length-set}
-use Rattle.rows.specs.Limits.{sheetAtoms}
+use Rattle.rows.specs.Limits.{atomRoom}
 use Rattle.rows.specs.declared.Atom.{Atom}
 use Rattle.normalising.specs.NormalRows.{pastAtoms}
 use Rattle.numbering.proofs.Turns.{unmapped}
@@ -17,7 +17,7 @@ use Rattle.filling.proofs.whole.Whole.with_part.Statement.{statement}
 use Rattle.filling.proofs.whole.Whole.with_part.Tie as tie
 
 abbrev Inv-loop : tie.InvT-loop
-Inv-loop p count self₀ atoms i₀ self i = (i ≤ count) × (length atoms ≡ sheetAtoms + 1) × (length (self .atoms) ≡ sheetAtoms + 1) × Grown self₀ self (map (placedAtom p) (take i atoms))
+Inv-loop p count self₀ atoms i₀ self i = (i ≤ count) × (length atoms ≡ atomRoom) × (length (self .atoms) ≡ atomRoom) × Grown self₀ self (map (placedAtom p) (take i atoms))
 
 abbrev μ-loop : tie.MeasureT-loop
 μ-loop p count self₀ atoms i₀ self i = count - i
@@ -60,7 +60,7 @@ loop-again c = let l = c .before .before .before .before .before in
     let w = l .loop .self in
     let r = c .if1 .self in
     let n = l .loop .inv .2 in
-    let g : (length (r .atoms) ≡ sheetAtoms + 1) × Grown w r (y ∷ []) = ⊎-elim
+    let g : (length (r .atoms) ≡ atomRoom) × Grown w r (y ∷ []) = ⊎-elim
     (λ t. (ap (λ (u : Whole). length (u .atoms)) (t .1) ∙ simp length-set n, grown-one w r y n (t .0 .taken) (t .1)))
     (λ t. (ap (λ (u : Whole). length (u .atoms)) (t .1) ∙ n, grown-full w r y n (l .loop .inv .3 .few) (t .0 .left) (t .1)))
     (c .if1 .came) in

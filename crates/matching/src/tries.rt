@@ -1,0 +1,131 @@
+// One try of the search: a figure atom goes to a sheet atom.
+use candidates::LAID;
+use candidates::LINK_SETS;
+use candidates::frame::Frame;
+use narrowing::PLACES;
+use narrowing::choose::choose;
+use narrowing::narrow::narrow_after;
+use rows::Sheet;
+use symmetry::excuse::excuse;
+ghost use mathlib.Core.Path.{_≡_};
+ghost use mathlib.Core.List.{List, [], _∷_, _++_};
+ghost use Prim.Native.Nat.{ℕ, _<_, _≤_, suc};
+ghost use lib.ListN.{length, take};
+ghost use Rattle.rows.specs.Limits.{sheetAtoms, sheetMarks};
+ghost use Rattle.rows.specs.declared.Sheet.{Sheet as NormalForm};
+ghost use Rattle.candidates.specs.Laid.{Rowed, LaidOut};
+ghost use Rattle.narrowing.specs.Users.{UsersIn};
+ghost use Rattle.lawful.specs.Checks.{Lent};
+ghost use Rattle.symmetry.specs.Follows.{Excuses};
+ghost use Rattle.matching.specs.Search.{KeepsIn, Kept, withAtom};
+
+// A search on its way: the sheet and the figure without their atoms, where the first `placed` figure atoms go, and
+// whether it is known that no good placing begins so.
+pub(crate) struct State {
+    pub(crate) sheet: Frame,
+    pub(crate) figure: Frame,
+    pub(crate) chosen: [u16; Sheet::ATOMS],
+    pub(crate) placed: usize,
+    pub(crate) hopeless: bool,
+}
+
+// Figure atom k, the next after those placed, goes to sheet atom t.
+pub(crate) fn with_atom(
+    sheet: Frame,
+    figure: Frame,
+    placed: [u16; Sheet::ATOMS],
+    k: usize,
+    t: usize,
+    hopeless: bool,
+) -> State
+    requires { ⌜ (k < sheetAtoms) × (t < sheetAtoms) ⌝ }
+    ensures { λ r. ⌜ r ≡ withAtom sheet figure placed k t hopeless ⌝ }
+{
+    let mut chosen = placed;
+    chosen[k] = (t + 1) as u16;
+    State {
+        sheet,
+        figure,
+        chosen,
+        placed: k + 1,
+        hopeless,
+    }
+}
+
+// Work is counted no further.
+const MOST_WORK: u32 = 1_000_000;
+
+// The sum, where it is within what is counted.
+pub(crate) fn tally(a: u32, b: u32) -> u32
+    requires { ⌜ 1 ≤ a ⌝ }
+    ensures { λ r. ⌜ 1 ≤ r ⌝ }
+{
+    if a < MOST_WORK {
+        if b < MOST_WORK {
+            return a + b;
+        }
+    }
+    MOST_WORK
+}
+
+// Figure atom k goes to sheet atom t, and the sets are narrowed. Whether some atom may go nowhere.
+pub(crate) fn try_atom<'a>(
+    users: &'a [u64; PLACES],
+    owners: &'a [u64; PLACES],
+    laid: &'a [u16; LAID],
+    n: usize,
+    parts: &'a [u16; LAID],
+    m: usize,
+    k: usize,
+    t: usize,
+    atoms: &mut [u64; Sheet::ATOMS],
+    links: &mut [u64; LINK_SETS],
+    lost: &mut [u64; Sheet::ATOMS],
+    gone: &mut [u64; LINK_SETS],
+) -> bool
+    requires { ⌜ Rowed (now laid) n × UsersIn (now laid) n (now users) × Rowed (now parts) m × UsersIn (now parts) m (now owners) × (k < m) × (t < n) ⌝ }
+    ensures { λ r. ⌜ ((sheet figure : NormalForm) → LaidOut sheet (now (laid .entry)) n → LaidOut figure (now (parts .entry)) m → (pre : List ℕ) → length pre ≡ k → KeepsIn sheet figure pre (now (atoms .entry)) (now (links .entry)) → Kept sheet figure (pre ++ (suc t ∷ [])) (now (atoms .exit)) (now (links .exit)) r) ⌝ }
+{
+    let went = choose(k, t, atoms);
+    narrow_after(
+        users,
+        owners,
+        laid,
+        n,
+        parts,
+        m,
+        k,
+        went,
+        atoms,
+        links,
+        lost,
+        gone,
+    )
+}
+
+// Sheet atom t failed after the first k chosen, at this cost: it is marked, and those that fail as surely.
+pub(crate) fn excuse_failed<'a>(
+    sheet: Frame,
+    laid: &'a [u16; LAID],
+    chosen: &'a [u16; Sheet::ATOMS],
+    k: usize,
+    t: usize,
+    cost: u32,
+    failed: &mut [u8; Sheet::ATOMS],
+)
+    requires { ⌜ Rowed (now laid) (sheet .«atom_count») × (sheet .«mark_count» ≤ sheetMarks) × (k ≤ sheetAtoms) × (t < sheet .«atom_count») ⌝ }
+    ensures { λ _. ⌜ ((net : NormalForm) → Lent net (now (laid .entry)) (sheet .«atom_count») (sheet .marked) (sheet .«mark_count») (sheet .«class_count») → Excuses net (take k (now (chosen .entry))) t (now (failed .entry)) (now (failed .exit))) ⌝ }
+{
+    excuse(
+        laid,
+        sheet.atom_count,
+        &sheet.marked,
+        sheet.mark_count,
+        sheet.class_count,
+        chosen,
+        k,
+        t,
+        cost,
+        failed,
+    );
+}

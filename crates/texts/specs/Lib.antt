@@ -1,0 +1,4 @@
+pub mod Texts
+pub mod Reached
+pub mod NormalOrder
+pub mod Fitting
