@@ -19,3 +19,5 @@ pub mod Settling
 pub mod SettlingLoop
 pub mod State
 pub mod Leaf
+-- What is known of the completions.
+pub mod Known

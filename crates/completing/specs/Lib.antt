@@ -3,3 +3,4 @@ pub mod Reach
 pub mod Fault
 pub mod Growing
 pub mod Leaf
+pub mod Known

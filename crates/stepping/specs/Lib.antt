@@ -2,3 +2,4 @@ pub mod Labels
 pub mod Flags
 pub mod Contexts
 pub mod Chains
+pub mod Standing

@@ -1,0 +1,45 @@
+-- The contexts of each figure link as a word, and what a test over such words says of the completions.
+use Prim.Native.Nat.{ℕ, suc, _%_, _<_}
+use mathlib.Core.Path.{_≡_}
+use mathlib.Core.List.{List}
+use mathlib.Core.Bool.{Bool, true}
+use lib.ListN.{length, getD}
+use Rattle.hyperlmntal.specs.Link.{_∈_}
+use Rattle.rows.specs.Limits.{sheetLinks}
+use Rattle.rows.specs.declared.Sheet as form
+use Rattle.network.specs.NetIn.{netIn}
+use Rattle.network.specs.Ready.{Ready, LinksIn, TakenIn, stateIn}
+use Rattle.candidates.specs.Words.{In}
+use Rattle.completing.specs.Completion.{Partial, Completable}
+use Rattle.completing.specs.Known.{Stands}
+use Rattle.stepping.specs.Chains.{ChainsIn}
+
+-- how many digits a word of contexts has
+abbrev pub contextDigits : ℕ
+contextDigits = 16
+
+-- the digit of context k; contexts with one digit are not told apart
+abbrev pub digitOf : ℕ → ℕ
+digitOf k = k % contextDigits
+
+-- for each figure link, from 0, a word with its contexts
+pub record Standing (figure : form.Sheet) (words : List ℕ) : Type 0 where
+  pub room : length words ≡ sheetLinks
+  pub holds : (x : ℕ) → x < figure .«class_count» → (k : ℕ) → Stands (netIn figure) (suc x) k → In (getD words x 0) (digitOf k)
+
+-- The counts are those of this sheet and this figure; the chains are the sheet's, the words the figure's; `to` says where the
+-- figure links go.
+pub record Described (sheet figure : form.Sheet) (atoms links count : ℕ) (chains words to : List ℕ) : Type 0 where
+  pub ready : Ready sheet figure
+  pub sheet-atoms : sheet .«atom_count» ≡ atoms
+  pub sheet-links : sheet .«class_count» ≡ links
+  pub figure-links : figure .«class_count» ≡ count
+  pub chains-in : ChainsIn sheet chains
+  pub standing : Standing figure words
+  pub links-in : LinksIn sheet figure to
+
+-- r says that no completion is left, where the unsettled links have a flag
+abbrev pub Refuses : form.Sheet → form.Sheet → List ℕ → List ℕ → List ℕ → Bool → Type 0
+Refuses sheet figure taken to flags r =
+    r ≡ true → (atoms un : List ℕ) → TakenIn sheet figure (stateIn figure atoms to) taken → Partial (netIn sheet) (netIn figure) (stateIn figure atoms to) un
+    → ((x : ℕ) → suc x ∈ un → getD flags x 0 ≡ 1) → ¬ Completable (netIn sheet) (netIn figure) (stateIn figure atoms to) un
