@@ -21,3 +21,4 @@ pub mod State
 pub mod Leaf
 -- What is known of the completions.
 pub mod Known
+pub mod Remaining

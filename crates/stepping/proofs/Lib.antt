@@ -1,6 +1,7 @@
 -- Arrays as flags and tables.
 pub mod Tables
 pub mod Rows
+pub mod StandingWords
 pub mod Reading
 pub mod Chaining
 -- Contexts that are left.

@@ -2,6 +2,7 @@
 pub mod chains;
 pub mod contexts;
 pub mod lookup;
+pub mod standing;
 pub mod steps;
 pub mod torn;
 
