@@ -1,18 +1,30 @@
-// Sets of contexts that are unions of classes: a figure link that may go to a sheet link has all its contexts
-// in the set or none.
+// Words of contexts that are unions of classes at a sheet link: a figure link that may go there has all its
+// contexts in the word or none.
 use crate::ALL;
 use rows::Sheet;
 use stepping::standing::CONTEXT_DIGITS;
+ghost use Prim.Native.Nat.{_≤_};
+ghost use Rattle.rows.specs.Limits.{sheetLinks};
+ghost use Rattle.remaining.specs.Joining.{Joined, Spread, Closure};
 
-// With all contexts of a link that has some in the word.
-fn joined(word: u16, kind: u16) -> u16 {
+// The word with all contexts of a figure link that has some in it, and that may go to y: it has a flag, or goes
+// there.
+fn joined(flag: u8, at: u16, y: u16, word: u16, kind: u16) -> u16
+    ensures { λ r. ⌜ Joined flag at y word kind r ⌝ }
+{
     if word & kind == 0 {
         return word;
     }
-    word | kind
+    if flag == 1 {
+        return word | kind;
+    }
+    if at == y {
+        return word | kind;
+    }
+    word
 }
 
-// One pass over the figure links that may go to y: those that go there, and those with a flag.
+// The same with the figure links one after the other.
 fn spread(
     standing: &[u16; Sheet::LINKS],
     flags: &[u8; Sheet::LINKS],
@@ -20,13 +32,14 @@ fn spread(
     count: usize,
     y: u16,
     word: u16,
-) -> u16 {
+) -> u16
+    requires { ⌜ count ≤ sheetLinks ⌝ }
+    ensures { λ r. ⌜ Spread (now (standing .entry)) (now (flags .entry)) (now (to .entry)) count y word r ⌝ }
+{
     let mut next = word;
     let mut x = 0;
     while x < count {
-        if flags[x] == 1 || to[x] == y {
-            next = joined(next, standing[x]);
-        }
+        next = joined(flags[x], to[x], y, next, standing[x]);
         x += 1;
     }
     next
@@ -40,7 +53,10 @@ pub(crate) fn closure(
     count: usize,
     y: u16,
     word: u16,
-) -> u16 {
+) -> u16
+    requires { ⌜ count ≤ sheetLinks ⌝ }
+    ensures { λ r. ⌜ Closure (now (standing .entry)) (now (flags .entry)) (now (to .entry)) count y word r ⌝ }
+{
     let mut closed = word;
     let mut n = 0;
     while n < CONTEXT_DIGITS {

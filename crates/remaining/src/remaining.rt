@@ -9,6 +9,18 @@ use crate::joins::closure;
 use rows::Sheet;
 use stepping::CHAINS;
 use stepping::lookup::used_links;
+ghost use Prim.Native.Nat.{ℕ, _+_, _<_, _≤_};
+ghost use mathlib.Core.Path.{_≡_};
+ghost use mathlib.Core.Bool.{true};
+ghost use mathlib.Core.List.{List};
+ghost use lib.ListN.{length};
+ghost use Rattle.rows.specs.Limits.{sheetAtoms, sheetLinks};
+ghost use Rattle.rows.specs.declared.Sheet.{Sheet as NormalForm};
+ghost use Rattle.placing.specs.Net.{Net};
+ghost use Rattle.stepping.specs.Chains.{nodeCount, Falls, Chained};
+ghost use Rattle.stepping.specs.Flags.{Within};
+ghost use Rattle.stepping.specs.Standing.{Described, Refuses};
+ghost use Rattle.remaining.specs.Allowing.{Allows, SettledIn, Together, TornAt, ApartFrom};
 
 // How often all sheet links are gone through at most.
 const ROUNDS: usize = 64;
@@ -21,19 +33,52 @@ fn apart_from(
     y: u16,
     word: u16,
     x: usize,
-) -> bool {
+) -> bool
+    requires { ⌜ count ≤ sheetLinks ⌝ }
+    ensures { λ r. ⌜ ApartFrom (now (standing .entry)) (now (to .entry)) count y word x r ⌝ }
+{
     let mut z = 0;
     while z < count {
-        if to[z] == y && z != x && standing[z] & word == 0 {
-            return true;
+        if z != x {
+            if to[z] == y {
+                if standing[z] & word == 0 {
+                    return true;
+                }
+            }
         }
         z += 1;
     }
     false
 }
 
-// At the links where figure links go: the atoms there keep what is joined to these. True where two of them are
-// joined to nothing in common.
+// Where figure link x goes the atoms keep what is joined to it. True where another link goes there to which it is
+// not joined.
+fn settled_cut(
+    words: &mut [u16; Sheet::ATOMS],
+    chains: &[u16; CHAINS],
+    standing: &[u16; Sheet::LINKS],
+    to: &[u16; Sheet::LINKS],
+    flags: &[u8; Sheet::LINKS],
+    count: usize,
+    none: u16,
+    x: usize,
+) -> bool
+    requires { ⌜ (count ≤ sheetLinks) × (x < count) × (none ≤ sheetLinks + 1) × Within none count (now to) × (length (now words) ≡ sheetAtoms) × Falls nodeCount (now chains) ⌝ }
+    ensures { λ r. ⌜ (length (now (words .exit)) ≡ sheetAtoms) × (r ≡ true → TornAt (now (standing .entry)) (now (flags .entry)) (now (to .entry)) count none) × ((S : Net) (n : ℕ) → Chained S n (now (chains .entry)) → (taken : List ℕ) (digits : ℕ → ℕ) → SettledIn S taken digits (now (standing .entry)) (now (flags .entry)) (now (to .entry)) count none → Allows S taken digits (now (words .entry)) → Allows S taken digits (now (words .exit))) ⌝ }
+{
+    let y = to[x];
+    if y == none {
+        return false;
+    }
+    let word = closure(standing, flags, to, count, y, standing[x]);
+    if apart_from(standing, to, count, y, word, x) {
+        return true;
+    }
+    cut(words, chains, (y - 1) as usize, word);
+    false
+}
+
+// The same for all figure links.
 fn settled_cuts(
     words: &mut [u16; Sheet::ATOMS],
     chains: &[u16; CHAINS],
@@ -42,24 +87,51 @@ fn settled_cuts(
     flags: &[u8; Sheet::LINKS],
     count: usize,
     none: u16,
-) -> bool {
+) -> bool
+    requires { ⌜ (count ≤ sheetLinks) × (none ≤ sheetLinks + 1) × Within none count (now to) × (length (now words) ≡ sheetAtoms) × Falls nodeCount (now chains) ⌝ }
+    ensures { λ r. ⌜ (length (now (words .exit)) ≡ sheetAtoms) × (r ≡ true → TornAt (now (standing .entry)) (now (flags .entry)) (now (to .entry)) count none) × ((S : Net) (n : ℕ) → Chained S n (now (chains .entry)) → (taken : List ℕ) (digits : ℕ → ℕ) → SettledIn S taken digits (now (standing .entry)) (now (flags .entry)) (now (to .entry)) count none → Allows S taken digits (now (words .entry)) → Allows S taken digits (now (words .exit))) ⌝ }
+{
     let mut x = 0;
     while x < count {
-        let y = to[x];
-        if y != none {
-            let word = closure(standing, flags, to, count, y, standing[x]);
-            if apart_from(standing, to, count, y, word, x) {
-                return true;
-            }
-            cut(words, chains, (y - 1) as usize, word);
+        if settled_cut(words, chains, standing, to, flags, count, none, x) {
+            return true;
         }
         x += 1;
     }
     false
 }
 
-// At the links where none goes: the atoms there keep what is joined to the words of all of them. From the last
-// link back, or from the first on.
+// The link that is the n-th to be gone through: from the last back, or from the first on.
+fn turn(n: usize, links: usize, back: bool) -> usize
+    requires { ⌜ n < links ⌝ }
+    ensures { λ r. ⌜ r < links ⌝ }
+{
+    if back {
+        return links - 1 - n;
+    }
+    n
+}
+
+// Where no figure link goes the atoms keep what is joined to the words of all of them.
+fn unused_cut(
+    words: &mut [u16; Sheet::ATOMS],
+    chains: &[u16; CHAINS],
+    taken: &[u8; Sheet::ATOMS],
+    table: &[u16; WORDS],
+    used: &[u8; Sheet::LINKS],
+    y: usize,
+)
+    requires { ⌜ (y < sheetLinks) × (length (now words) ≡ sheetAtoms) × Falls nodeCount (now chains) ⌝ }
+    ensures { λ _. ⌜ (length (now (words .exit)) ≡ sheetAtoms) × ((S : Net) (n : ℕ) → Chained S n (now (chains .entry)) → (digits : ℕ → ℕ) → Together S (now (taken .entry)) digits (now (table .entry)) (now (used .entry)) → Allows S (now (taken .entry)) digits (now (words .entry)) → Allows S (now (taken .entry)) digits (now (words .exit))) ⌝ }
+{
+    if used[y] == 1 {
+        return;
+    }
+    let word = shared(words, chains, taken, table, y);
+    cut(words, chains, y, word);
+}
+
+// The same for all sheet links.
 fn round(
     words: &mut [u16; Sheet::ATOMS],
     chains: &[u16; CHAINS],
@@ -68,14 +140,14 @@ fn round(
     used: &[u8; Sheet::LINKS],
     links: usize,
     back: bool,
-) {
+)
+    requires { ⌜ (links ≤ sheetLinks) × (length (now words) ≡ sheetAtoms) × Falls nodeCount (now chains) ⌝ }
+    ensures { λ _. ⌜ (length (now (words .exit)) ≡ sheetAtoms) × ((S : Net) (n : ℕ) → Chained S n (now (chains .entry)) → (digits : ℕ → ℕ) → Together S (now (taken .entry)) digits (now (table .entry)) (now (used .entry)) → Allows S (now (taken .entry)) digits (now (words .entry)) → Allows S (now (taken .entry)) digits (now (words .exit))) ⌝ }
+{
     let mut n = 0;
     while n < links {
-        let y = if back { links - 1 - n } else { n };
-        if used[y] != 1 {
-            let word = shared(words, chains, taken, table, y);
-            cut(words, chains, y, word);
-        }
+        let y = turn(n, links, back);
+        unused_cut(words, chains, taken, table, used, y);
         n += 1;
     }
 }
@@ -102,7 +174,10 @@ pub fn refused(
     standing: &[u16; Sheet::LINKS],
     to: &[u16; Sheet::LINKS],
     flags: &[u8; Sheet::LINKS],
-) -> bool {
+) -> bool
+    requires { ⌜ ((sheet : NormalForm) × (figure : NormalForm) × Described sheet figure atoms links count (now chains) (now standing) (now to)) ⌝ }
+    ensures { λ r. ⌜ ((sheet figure : NormalForm) → Described sheet figure atoms links count (now (chains .entry)) (now (standing .entry)) (now (to .entry)) → Refuses sheet figure (now (taken .entry)) (now (to .entry)) (now (flags .entry)) r) ⌝ }
+{
     let none = (links + 1) as u16;
     let mut words = [ALL; Sheet::ATOMS];
     if settled_cuts(&mut words, chains, standing, to, flags, count, none) {
