@@ -14,8 +14,8 @@ use Rattle.network.specs.NetIn.{netIn, ContextsIn}
 use Rattle.network.specs.Ready.{Ready, LinksIn, stateIn}
 use Rattle.candidates.specs.Laid.{LaidOut}
 use Rattle.stepping.specs.Chains.{ChainsIn}
-use Rattle.completing.specs.Fault.{Torn}
-use Rattle.completing.proofs.Completing.{no-fault-completable, torn-refused}
+use Rattle.stepping.specs.Standing.{Standing, Described, Refuses}
+use Rattle.completing.proofs.Completing.{no-fault-completable}
 use Rattle.faults.specs.declared.nets.Nets.{Nets}
 use Rattle.faults.specs.Finds.{NetsIn, Over, FindsAll}
 use Rattle.deciding.specs.Kinds.{KindsIn}
@@ -40,26 +40,39 @@ pub over-of : {sheet figure : form.Sheet} {nets : Nets} {laid to : List ℕ} (ch
     → Over sheet figure nets laid chains to
 over-of {sheet} chains f n l = record { nets-in = n; chains-in = f sheet (n .laid-out); links-in = l }
 
-pub tables-of : {sheet figure : form.Sheet} {nets : Nets} {laid chains to : List ℕ} (kinds : List ℕ) → ((f : form.Sheet) (links : ℕ) → ContextsIn f (nets .contexts) (nets .rows) links → KindsIn f kinds)
-    → Over sheet figure nets laid chains to → Tables sheet figure nets laid chains kinds to
-tables-of {figure = figure} {nets = nets} kinds f o = record { over = o; kinds-in = f figure (nets .count) (o .nets-in .contexts-in) }
+pub tables-of : {sheet figure : form.Sheet} {nets : Nets} {laid chains to : List ℕ} (kinds standing : List ℕ) → ((f : form.Sheet) (links : ℕ) → ContextsIn f (nets .contexts) (nets .rows) links → KindsIn f kinds)
+    → ((f : form.Sheet) (links : ℕ) → ContextsIn f (nets .contexts) (nets .rows) links → Standing f standing) → Over sheet figure nets laid chains to → Tables sheet figure nets laid chains kinds standing to
+tables-of {figure = figure} {nets = nets} kinds standing f g o = record { over = o; kinds-in = f figure (nets .count) (o .nets-in .contexts-in); standing-in = g figure (nets .count) (o .nets-in .contexts-in) }
 
 -- with the figure links elsewhere
-pub tables-links : {sheet figure : form.Sheet} {nets : Nets} {laid chains kinds to next : List ℕ} → Tables sheet figure nets laid chains kinds to → LinksIn sheet figure next → Tables sheet figure nets laid chains kinds next
-tables-links t l = record { over = record { nets-in = t .over .nets-in; chains-in = t .over .chains-in; links-in = l }; kinds-in = t .kinds-in }
+pub tables-links : {sheet figure : form.Sheet} {nets : Nets} {laid chains kinds standing to next : List ℕ} → Tables sheet figure nets laid chains kinds standing to → LinksIn sheet figure next → Tables sheet figure nets laid chains kinds standing next
+tables-links t l = record { over = record { nets-in = t .over .nets-in; chains-in = t .over .chains-in; links-in = l }; kinds-in = t .kinds-in; standing-in = t .standing-in }
 
 -- with one link settled
-pub tables-put : {sheet figure : form.Sheet} {nets : Nets} {laid chains kinds to : List ℕ} → Tables sheet figure nets laid chains kinds to → (x y : ℕ) → x < nets .count → y < nets .links → Tables sheet figure nets laid chains kinds (set to x (y + 1))
+pub tables-put : {sheet figure : form.Sheet} {nets : Nets} {laid chains kinds standing to : List ℕ} → Tables sheet figure nets laid chains kinds standing to → (x y : ℕ) → x < nets .count → y < nets .links → Tables sheet figure nets laid chains kinds standing (set to x (y + 1))
 tables-put {sheet} {figure} {to = to} t x y h k = let n = t .over .nets-in in
     tables-links t (links-set sheet figure to (t .over .links-in) x (y + 1) (omega (arith, n .contexts-in .link-count)) (n .ready .figure-fit .class-count) (omega arith, omega (arith, n .sheet-links)))
 
--- another array with the same links but for x
-pub tables-next : {sheet figure : form.Sheet} {nets : Nets} {laid chains kinds to : List ℕ} (next : List ℕ) → Tables sheet figure nets laid chains kinds to → (x y : ℕ) → x < nets .count → y < nets .links
-    → set next x (y + 1) ≡ set to x (y + 1) → Tables sheet figure nets laid chains kinds (set next x (y + 1))
-tables-next {sheet} {figure} {nets} {laid} {chains} {kinds} {to} next t x y h k e = subst (Tables sheet figure nets laid chains kinds) (sym e) (tables-put t x y h k)
+-- what the search over words reads of them
+pub described-of : {sheet figure : form.Sheet} {nets : Nets} {laid chains to : List ℕ} (standing : List ℕ) → Over sheet figure nets laid chains to → Standing figure standing
+    → Described sheet figure (nets .atoms) (nets .links) (nets .count) chains standing to
+described-of standing o s = record {
+  ready = o .nets-in .ready;
+  sheet-atoms = o .nets-in .laid-out .count;
+  sheet-links = o .nets-in .sheet-links;
+  figure-links = o .nets-in .contexts-in .link-count;
+  chains-in = o .chains-in;
+  standing = s;
+  links-in = o .links-in;
+}
 
-pub completes-next : {sheet figure : form.Sheet} {nets : Nets} {laid chains kinds to : List ℕ} (next : List ℕ) (t : Tables sheet figure nets laid chains kinds to) (x y : ℕ) → x < nets .count → y < nets .links
-    → set next x (y + 1) ≡ set to x (y + 1) → (taken rest : List ℕ) (r : Bool) → (Tables sheet figure nets laid chains kinds (set next x (y + 1)) → Completes sheet figure taken (set next x (y + 1)) rest r)
+-- another array with the same links but for x
+pub tables-next : {sheet figure : form.Sheet} {nets : Nets} {laid chains kinds standing to : List ℕ} (next : List ℕ) → Tables sheet figure nets laid chains kinds standing to → (x y : ℕ) → x < nets .count → y < nets .links
+    → set next x (y + 1) ≡ set to x (y + 1) → Tables sheet figure nets laid chains kinds standing (set next x (y + 1))
+tables-next {sheet} {figure} {nets} {laid} {chains} {kinds} {standing} {to} next t x y h k e = subst (Tables sheet figure nets laid chains kinds standing) (sym e) (tables-put t x y h k)
+
+pub completes-next : {sheet figure : form.Sheet} {nets : Nets} {laid chains kinds standing to : List ℕ} (next : List ℕ) (t : Tables sheet figure nets laid chains kinds standing to) (x y : ℕ) → x < nets .count → y < nets .links
+    → set next x (y + 1) ≡ set to x (y + 1) → (taken rest : List ℕ) (r : Bool) → (Tables sheet figure nets laid chains kinds standing (set next x (y + 1)) → Completes sheet figure taken (set next x (y + 1)) rest r)
     → Completes sheet figure taken (set to x (y + 1)) rest r
 completes-next {sheet} {figure} next t x y h k e taken rest r f = subst (λ (l : List ℕ). Completes sheet figure taken l rest r) e (f (tables-next next t x y h k e))
 
@@ -162,19 +175,18 @@ module _ (sheet figure : form.Sheet) (ready : Ready sheet figure) (taken to flag
         way-out sheet figure ready taken to flags atoms room u (t .1) (r .links) (t .2);
   }
 
-  -- links that are torn cannot be mended
-  pub torn-hinders : (y : ℕ) → ((atoms : List ℕ) → Torn (netIn sheet) (netIn figure) (stateIn figure atoms to) (unsettled figure flags) y)
-      → (r : Fault) → r .found ≡ true → Hinders sheet figure taken to flags r
-  torn-hinders y t r f = record {
-    free = λ atoms u e. both-ways f e;
-    held = λ atoms u e c. absurd (torn-refused (netIn sheet) (netIn figure) (ready .sheet-normal) (ready .figure-normal) (stateIn figure atoms to) (unsettled figure flags) (u .partial) y (t atoms) c);
-  }
-
   -- the links that are unsettled have a flag
   pub flag-of : (x : ℕ) → suc x ∈ unsettled figure flags → getD flags x 0 ≡ 1
   flag-of x m = let t = flagged-out (figure .«class_count») flags (suc x) m in
       let e : t .index ≡ x = (let k : suc x ≡ suc (t .index) = t .number in omega arith) in
       subst (λ (i : ℕ). getD flags i 0 ≡ 1) e (t .flag)
+
+  -- where no completion is left, nothing can mend it
+  pub refused-hinders : (b : Bool) → b ≡ true → Refuses sheet figure taken to flags b → (r : Fault) → r .found ≡ true → Hinders sheet figure taken to flags r
+  refused-hinders b e w r f = record {
+    free = λ atoms u g. both-ways f g;
+    held = λ atoms u g c. absurd (w e atoms (unsettled figure flags) (u .taken-in) (u .partial) flag-of c);
+  }
 
   module _ (r : Fault) (hinders : Hinders sheet figure taken to flags r) where
     pub found-none : r .found ≡ false → Completes sheet figure taken to flags true

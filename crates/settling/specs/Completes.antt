@@ -11,6 +11,7 @@ use Rattle.network.specs.Ready.{LinksIn, stateIn, TakenIn}
 use Rattle.completing.specs.Completion.{Partial, Completable}
 use Rattle.completing.specs.Fault.{completed}
 use Rattle.completing.specs.Leaf.{LeastCompletion, Settling}
+use Rattle.stepping.specs.Standing.{Standing}
 use Rattle.faults.specs.declared.fault.Fault.{Fault}
 use Rattle.faults.specs.declared.nets.Nets.{Nets}
 use Rattle.faults.specs.Finds.{Over}
@@ -19,9 +20,10 @@ use Rattle.deciding.specs.Kinds.{KindsIn}
 use Rattle.settling.specs.declared.complete.Completed.{Completed}
 
 -- what every function of the search over open links reads of this sheet and this figure
-pub record Tables (sheet figure : form.Sheet) (nets : Nets) (laid chains kinds to : List ℕ) : Type 0 where
+pub record Tables (sheet figure : form.Sheet) (nets : Nets) (laid chains kinds standing to : List ℕ) : Type 0 where
   pub over : Over sheet figure nets laid chains to
   pub kinds-in : KindsIn figure kinds
+  pub standing-in : Standing figure standing
 
 -- the links that are flagged are unsettled
 abbrev pub unsettled : form.Sheet → List ℕ → List ℕ

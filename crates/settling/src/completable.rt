@@ -31,21 +31,20 @@ fn first_of_kind(flags: &[u8; Sheet::LINKS], kinds: &[u16; Sheet::LINKS], x: usi
 }
 
 // A fault can be mended only by an unsettled link at one of its links. One link of each kind is enough to try.
-// The last link was settled at sheet link y, 0 where there was none.
 pub(crate) fn completable(
     nets: Nets,
     laid: &[u16; LAID],
     chains: &[u16; CHAINS],
     taken: &[u8; Sheet::ATOMS],
     kinds: &[u16; Sheet::LINKS],
+    standing: &[u16; Sheet::LINKS],
     to: &[u16; Sheet::LINKS],
     flags: &[u8; Sheet::LINKS],
-    y: u16,
 ) -> bool
-    requires { ⌜ ((sheet : NormalForm) × (figure : NormalForm) × Tables sheet figure nets (now laid) (now chains) (now kinds) (now to)) × (length (now flags) ≡ sheetLinks) × (y ≤ nets .links) ⌝ }
-    ensures { λ r. ⌜ ((sheet figure : NormalForm) → Tables sheet figure nets (now (laid .entry)) (now (chains .entry)) (now (kinds .entry)) (now (to .entry)) → Completes sheet figure (now (taken .entry)) (now (to .entry)) (now (flags .entry)) r) ⌝ }
+    requires { ⌜ ((sheet : NormalForm) × (figure : NormalForm) × Tables sheet figure nets (now laid) (now chains) (now kinds) (now standing) (now to)) × (length (now flags) ≡ sheetLinks) ⌝ }
+    ensures { λ r. ⌜ ((sheet figure : NormalForm) → Tables sheet figure nets (now (laid .entry)) (now (chains .entry)) (now (kinds .entry)) (now (standing .entry)) (now (to .entry)) → Completes sheet figure (now (taken .entry)) (now (to .entry)) (now (flags .entry)) r) ⌝ }
 {
-    let fault = obstacle(nets, laid, chains, taken, to, flags, y);
+    let fault = obstacle(nets, laid, chains, taken, standing, to, flags);
     if !fault.found {
         return true;
     }
@@ -53,7 +52,7 @@ pub(crate) fn completable(
     let mut x = 0;
     while x < nets.count {
         if first_of_kind(flags, kinds, x) {
-            if mendable(nets, laid, chains, taken, kinds, to, flags, &links, x) {
+            if mendable(nets, laid, chains, taken, kinds, standing, to, flags, &links, x) {
                 return true;
             }
         }
@@ -69,13 +68,14 @@ fn mendable(
     chains: &[u16; CHAINS],
     taken: &[u8; Sheet::ATOMS],
     kinds: &[u16; Sheet::LINKS],
+    standing: &[u16; Sheet::LINKS],
     to: &[u16; Sheet::LINKS],
     flags: &[u8; Sheet::LINKS],
     links: &[u8; Sheet::LINKS],
     x: usize,
 ) -> bool
-    requires { ⌜ ((sheet : NormalForm) × (figure : NormalForm) × Tables sheet figure nets (now laid) (now chains) (now kinds) (now to)) × (length (now flags) ≡ sheetLinks) × (x < nets .count) × (getD (now flags) x 0 ≡ 1) ⌝ }
-    ensures { λ r. ⌜ ((sheet figure : NormalForm) → Tables sheet figure nets (now (laid .entry)) (now (chains .entry)) (now (kinds .entry)) (now (to .entry)) → CompletesAt sheet figure (now (taken .entry)) (now (to .entry)) (now (flags .entry)) (now (links .entry)) x r) ⌝ }
+    requires { ⌜ ((sheet : NormalForm) × (figure : NormalForm) × Tables sheet figure nets (now laid) (now chains) (now kinds) (now standing) (now to)) × (length (now flags) ≡ sheetLinks) × (x < nets .count) × (getD (now flags) x 0 ≡ 1) ⌝ }
+    ensures { λ r. ⌜ ((sheet figure : NormalForm) → Tables sheet figure nets (now (laid .entry)) (now (chains .entry)) (now (kinds .entry)) (now (standing .entry)) (now (to .entry)) → CompletesAt sheet figure (now (taken .entry)) (now (to .entry)) (now (flags .entry)) (now (links .entry)) x r) ⌝ }
 {
     let mut next = *to;
     let mut rest = *flags;
@@ -85,7 +85,7 @@ fn mendable(
         if links[y] == 1 {
             let at = (y + 1) as u16;
             next[x] = at;
-            if completable(nets, laid, chains, taken, kinds, &next, &rest, at) {
+            if completable(nets, laid, chains, taken, kinds, standing, &next, &rest) {
                 return true;
             }
         }

@@ -12,6 +12,7 @@ use faults::nets::Nets;
 use rows::Sheet;
 use stepping::CHAINS;
 use stepping::chains::chains;
+use stepping::standing::standing;
 ghost use mathlib.Core.Path.{_≡_};
 ghost use mathlib.Core.Bool.{true, false};
 ghost use mathlib.Core.Logic.{_↔_, _≢_};
@@ -87,10 +88,11 @@ fn least(
     }
     let contexts = nets.contexts;
     let kind = kinds(contexts, nets.rows);
-    if !completable(nets, laid, &table, taken, &kind, to, flags, 0) {
+    let words = standing(contexts, nets.rows);
+    if !completable(nets, laid, &table, taken, &kind, &words, to, flags) {
         return nothing();
     }
-    let links_to = settled(nets, laid, &table, taken, &kind, to, flags);
+    let links_to = settled(nets, laid, &table, taken, &kind, &words, to, flags);
     let last = find(nets, laid, &table, taken, &links_to);
     let given = last.given;
     Completed {

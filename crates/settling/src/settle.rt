@@ -18,12 +18,13 @@ fn first_link(
     chains: &[u16; CHAINS],
     taken: &[u8; Sheet::ATOMS],
     kinds: &[u16; Sheet::LINKS],
+    standing: &[u16; Sheet::LINKS],
     to: &[u16; Sheet::LINKS],
     flags: &[u8; Sheet::LINKS],
     x: usize,
 ) -> u16
-    requires { ⌜ ((sheet : NormalForm) × (figure : NormalForm) × Tables sheet figure nets (now laid) (now chains) (now kinds) (now to)) × (length (now flags) ≡ sheetLinks) × (x < nets .count) × (getD (now flags) x 0 ≡ 1) ⌝ }
-    ensures { λ r. ⌜ ((sheet figure : NormalForm) → Tables sheet figure nets (now (laid .entry)) (now (chains .entry)) (now (kinds .entry)) (now (to .entry)) → FirstFor sheet figure (now (taken .entry)) (now (to .entry)) (now (flags .entry)) x r) ⌝ }
+    requires { ⌜ ((sheet : NormalForm) × (figure : NormalForm) × Tables sheet figure nets (now laid) (now chains) (now kinds) (now standing) (now to)) × (length (now flags) ≡ sheetLinks) × (x < nets .count) × (getD (now flags) x 0 ≡ 1) ⌝ }
+    ensures { λ r. ⌜ ((sheet figure : NormalForm) → Tables sheet figure nets (now (laid .entry)) (now (chains .entry)) (now (kinds .entry)) (now (standing .entry)) (now (to .entry)) → FirstFor sheet figure (now (taken .entry)) (now (to .entry)) (now (flags .entry)) x r) ⌝ }
 {
     let mut next = *to;
     let mut rest = *flags;
@@ -32,7 +33,7 @@ fn first_link(
     while y < nets.links {
         let at = (y + 1) as u16;
         next[x] = at;
-        if completable(nets, laid, chains, taken, kinds, &next, &rest, at) {
+        if completable(nets, laid, chains, taken, kinds, standing, &next, &rest) {
             return at;
         }
         y += 1;
@@ -46,18 +47,19 @@ pub(crate) fn settled(
     chains: &[u16; CHAINS],
     taken: &[u8; Sheet::ATOMS],
     kinds: &[u16; Sheet::LINKS],
+    standing: &[u16; Sheet::LINKS],
     to: &[u16; Sheet::LINKS],
     flags: &[u8; Sheet::LINKS],
 ) -> [u16; Sheet::LINKS]
-    requires { ⌜ ((sheet : NormalForm) × (figure : NormalForm) × Tables sheet figure nets (now laid) (now chains) (now kinds) (now to)) × (length (now flags) ≡ sheetLinks) ⌝ }
-    ensures { λ r. ⌜ ((sheet figure : NormalForm) → Tables sheet figure nets (now (laid .entry)) (now (chains .entry)) (now (kinds .entry)) (now (to .entry)) → Settles sheet figure (now (taken .entry)) (now (to .entry)) (now (flags .entry)) r) ⌝ }
+    requires { ⌜ ((sheet : NormalForm) × (figure : NormalForm) × Tables sheet figure nets (now laid) (now chains) (now kinds) (now standing) (now to)) × (length (now flags) ≡ sheetLinks) ⌝ }
+    ensures { λ r. ⌜ ((sheet figure : NormalForm) → Tables sheet figure nets (now (laid .entry)) (now (chains .entry)) (now (kinds .entry)) (now (standing .entry)) (now (to .entry)) → Settles sheet figure (now (taken .entry)) (now (to .entry)) (now (flags .entry)) r) ⌝ }
 {
     let mut next = *to;
     let mut rest = *flags;
     let mut x = 0;
     while x < nets.count {
         if rest[x] == 1 {
-            let y = first_link(nets, laid, chains, taken, kinds, &next, &rest, x);
+            let y = first_link(nets, laid, chains, taken, kinds, standing, &next, &rest, x);
             next[x] = y;
             rest[x] = 0;
         }

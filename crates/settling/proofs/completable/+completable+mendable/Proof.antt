@@ -29,37 +29,37 @@ use Rattle.settling.proofs.obstacle.obstacle.Reads as obstacle-reads
 use Rattle.settling.proofs.completable.+completable+mendable.{statement}
 use Rattle.settling.proofs.completable.+completable+mendable.Tie.{close}
 
-abbrev μ-completable : Measures 6 completable-kinds.ps ℕ
-μ-completable κs a = let n = length (flagged (a .0 .count) (a .1 .1 .1 .1 .1 .1 .0 .now)) in suc (n + n)
+abbrev μ-completable : Measures 7 completable-kinds.ps ℕ
+μ-completable κs a = let n = length (flagged (a .0 .count) (a .1 .1 .1 .1 .1 .1 .1 .0 .now)) in suc (n + n)
 
-abbrev μ-mendable : Measures 7 mendable-kinds.ps ℕ
-μ-mendable κs a = let n = length (flagged (a .0 .count) (a .1 .1 .1 .1 .1 .1 .0 .now)) in n + n
+abbrev μ-mendable : Measures 8 mendable-kinds.ps ℕ
+μ-mendable κs a = let n = length (flagged (a .0 .count) (a .1 .1 .1 .1 .1 .1 .1 .0 .now)) in n + n
 
-abbrev completable-at : ℕ → In 6 completable-kinds.ps
-completable-at t = and 6 completable-kinds.ps (is 6 completable-kinds.ps μ-completable t) completable.Pre
+abbrev completable-at : ℕ → In 7 completable-kinds.ps
+completable-at t = and 7 completable-kinds.ps (is 7 completable-kinds.ps μ-completable t) completable.Pre
 
-abbrev completable-below : ℕ → In 6 completable-kinds.ps
-completable-below t = and 6 completable-kinds.ps (falls 6 completable-kinds.ps _<_ μ-completable t) completable.Pre
+abbrev completable-below : ℕ → In 7 completable-kinds.ps
+completable-below t = and 7 completable-kinds.ps (falls 7 completable-kinds.ps _<_ μ-completable t) completable.Pre
 
-abbrev mendable-at : ℕ → In 7 mendable-kinds.ps
-mendable-at t = and 7 mendable-kinds.ps (is 7 mendable-kinds.ps μ-mendable t) mendable.Pre
+abbrev mendable-at : ℕ → In 8 mendable-kinds.ps
+mendable-at t = and 8 mendable-kinds.ps (is 8 mendable-kinds.ps μ-mendable t) mendable.Pre
 
-abbrev mendable-below : ℕ → In 7 mendable-kinds.ps
-mendable-below t = and 7 mendable-kinds.ps (falls 7 mendable-kinds.ps _<_ μ-mendable t) mendable.Pre
+abbrev mendable-below : ℕ → In 8 mendable-kinds.ps
+mendable-below t = and 8 mendable-kinds.ps (falls 8 mendable-kinds.ps _<_ μ-mendable t) mendable.Pre
 
 abbrev completable-Inv-loop : completable-lts.InvT-loop
-completable-Inv-loop nets laid chains taken kinds to flags y links x₀ x =
-    (x ≤ nets .count) × ((sheet figure : form.Sheet) → Tables sheet figure nets laid chains kinds to → TriedTo sheet figure taken to flags links x)
+completable-Inv-loop nets laid chains taken kinds standing to flags links x₀ x =
+    (x ≤ nets .count) × ((sheet figure : form.Sheet) → Tables sheet figure nets laid chains kinds standing to → TriedTo sheet figure taken to flags links x)
 
 abbrev completable-μ-loop : completable-lts.MeasureT-loop
-completable-μ-loop nets laid chains taken kinds to flags y links x₀ x = nets .count - x
+completable-μ-loop nets laid chains taken kinds standing to flags links x₀ x = nets .count - x
 
 abbrev mendable-Inv-loop : mendable-lts.InvT-loop
-mendable-Inv-loop nets laid chains taken kinds to flags links x next₀ rest y₀ next y =
-    (y ≤ nets .links) × ((v : ℕ) → set next x v ≡ set to x v) × ((sheet figure : form.Sheet) → Tables sheet figure nets laid chains kinds to → TriedAt sheet figure taken to x links rest y)
+mendable-Inv-loop nets laid chains taken kinds standing to flags links x next₀ rest y₀ next y =
+    (y ≤ nets .links) × ((v : ℕ) → set next x v ≡ set to x v) × ((sheet figure : form.Sheet) → Tables sheet figure nets laid chains kinds standing to → TriedAt sheet figure taken to x links rest y)
 
 abbrev mendable-μ-loop : mendable-lts.MeasureT-loop
-mendable-μ-loop nets laid chains taken kinds to flags links x next₀ rest y₀ next y = nets .links - y
+mendable-μ-loop nets laid chains taken kinds standing to flags links x next₀ rest y₀ next y = nets .links - y
 
 abbrev completable-claims : ℕ → completable-lts.Claims
 completable-claims t = (obstacle-reads.Asked, obstacle-reads.Learnt, first-of-kind-reads.Asked, first-of-kind-reads.Learnt, mendable-below t, mendable.Post)
@@ -69,13 +69,13 @@ mendable-claims t = (completable-below t, completable.Post)
 
 module _ (t : ℕ) where
   completable-obstacle-requires : completable-lts.Need-obstacle-requires (completable-claims t) (completable-at t) completable.Post completable-Inv-loop completable-μ-loop
-  completable-obstacle-requires c κs = let p = c .pre .1 in ((p .0 .0, p .0 .1, p .0 .2 .over), p .1, p .2)
+  completable-obstacle-requires c κs = let p = c .pre .1 in ((p .0 .0, p .0 .1, p .0 .2 .over, p .0 .2 .standing-in), p .1)
 
   completable-returns : completable-lts.Need-returns (completable-claims t) (completable-at t) completable.Post completable-Inv-loop completable-μ-loop
   completable-returns c = let b = c .before .before .before in
       let a = b .args in
       let o = c .before .before .obstacle in
-      λ sheet figure u. found-none sheet figure (u .over .nets-in .ready) (a .taken .now) (a .to .now) (a .flags .now) (b .pre .1 .1) (o .result) (o .ensures sheet figure (u .over)) (not-true _ (c .if1 .taken))
+      λ sheet figure u. found-none sheet figure (u .over .nets-in .ready) (a .taken .now) (a .to .now) (a .flags .now) (b .pre .1 .1) (o .result) (o .ensures sheet figure (u .over) (u .standing-in)) (not-true _ (c .if1 .taken))
 
   completable-loop-holds : completable-lts.Need-loop-holds (completable-claims t) (completable-at t) completable.Post completable-Inv-loop completable-μ-loop
   completable-loop-holds c = (omega arith, λ sheet figure u atoms w z h. absurd (omega arith))
@@ -92,7 +92,7 @@ module _ (t : ℕ) where
       let a = b .args in
       let o = c .before .before .before .before .before .before .before .before .before .before .before .obstacle in
       let x = c .before .before .before .before .before .before .before .loop .x in
-      λ sheet figure u. found-tried sheet figure (u .over .nets-in .ready) (a .taken .now) (a .to .now) (a .flags .now) (b .pre .1 .1) (o .result) (o .ensures sheet figure (u .over)) x
+      λ sheet figure u. found-tried sheet figure (u .over .nets-in .ready) (a .taken .now) (a .to .now) (a .flags .now) (b .pre .1 .1) (o .result) (o .ensures sheet figure (u .over) (u .standing-in)) x
       (subst (CompletesAt sheet figure (a .taken .now) (a .to .now) (a .flags .now) (o .result .links) x) (c .if4 .taken) (c .before .mendable .ensures sheet figure u))
 
   completable-add-x : completable-lts.Need-add-x (completable-claims t) (completable-at t) completable.Post completable-Inv-loop completable-μ-loop
@@ -118,7 +118,7 @@ module _ (t : ℕ) where
   completable-returns-3 c = let b = c .before .before .before .before .before .before .before in
       let a = b .args in
       let o = c .before .before .before .before .before .before .obstacle in
-      λ sheet figure u. found-refused sheet figure (u .over .nets-in .ready) (a .taken .now) (a .to .now) (a .flags .now) (b .pre .1 .1) (o .result) (o .ensures sheet figure (u .over)) (not-false _ (c .before .before .before .before .if1 .left)) (c .before .before .loop .x)
+      λ sheet figure u. found-refused sheet figure (u .over .nets-in .ready) (a .taken .now) (a .to .now) (a .flags .now) (b .pre .1 .1) (o .result) (o .ensures sheet figure (u .over) (u .standing-in)) (not-false _ (c .before .before .before .before .if1 .left)) (c .before .before .loop .x)
       (omega (arith, c .if2 .left, u .over .nets-in .contexts-in .link-count)) (c .before .before .loop .inv .1 sheet figure u)
 
   mendable-array-write-rest : mendable-lts.Need-array-write-rest (mendable-claims t) (mendable-at t) mendable.Post mendable-Inv-loop mendable-μ-loop
@@ -152,7 +152,6 @@ module _ (t : ℕ) where
         (
           (p .0 .0, p .0 .1, tables-next (l .next) (p .0 .2) (a .x) (l .y) (p .2) h (l .inv .1 (l .y + 1))),
           length-set (a .flags .now) (a .x) 0 ∙ p .1,
-          omega (arith, h),
         ),
       )
 

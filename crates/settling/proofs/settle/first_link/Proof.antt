@@ -14,11 +14,11 @@ use Rattle.settling.proofs.settle.first_link.Statement.{statement}
 use Rattle.settling.proofs.settle.first_link.Tie as tie
 
 abbrev Inv-loop : tie.InvT-loop
-Inv-loop nets laid chains taken kinds to flags x next₀ rest y₀ next y =
-    (y ≤ nets .links) × ((v : ℕ) → set next x v ≡ set to x v) × ((sheet figure : form.Sheet) → Tables sheet figure nets laid chains kinds to → TriedAll sheet figure taken to x rest y)
+Inv-loop nets laid chains taken kinds standing to flags x next₀ rest y₀ next y =
+    (y ≤ nets .links) × ((v : ℕ) → set next x v ≡ set to x v) × ((sheet figure : form.Sheet) → Tables sheet figure nets laid chains kinds standing to → TriedAll sheet figure taken to x rest y)
 
 abbrev μ-loop : tie.MeasureT-loop
-μ-loop nets laid chains taken kinds to flags x next₀ rest y₀ next y = nets .links - y
+μ-loop nets laid chains taken kinds standing to flags x next₀ rest y₀ next y = nets .links - y
 
 array-write-rest : tie.Need-array-write-rest Inv-loop μ-loop
 array-write-rest c = omega (arith, c .before .before .pre .2, ports-of (c .before .before .pre .0 .2 .over .nets-in .contexts-in) .links-few)
@@ -44,7 +44,7 @@ completable-requires c κs = let b = c .before .before .before .before .before .
     let l = c .before .before .before .before .loop in
     let p = b .pre in
     let h = c .before .before .if1 .taken in
-    ((p .0 .0, p .0 .1, tables-next (l .next) (p .0 .2) (a .x) (l .y) (p .2) h (l .inv .1 (l .y + 1))), length-set (a .flags .now) (a .x) 0 ∙ p .1, omega (arith, h))
+    ((p .0 .0, p .0 .1, tables-next (l .next) (p .0 .2) (a .x) (l .y) (p .2) h (l .inv .1 (l .y + 1))), length-set (a .flags .now) (a .x) 0 ∙ p .1)
 
 returns : tie.Need-returns Inv-loop μ-loop
 returns c = let b = c .before .before .before .before .before .before .before .before .before in

@@ -12,11 +12,11 @@ use Rattle.settling.proofs.settle.settled.Statement.{statement}
 use Rattle.settling.proofs.settle.settled.Tie as tie
 
 abbrev Inv-loop : tie.InvT-loop
-Inv-loop nets laid chains taken kinds to flags next₀ rest₀ x₀ next rest x =
-    (x ≤ nets .count) × ((sheet figure : form.Sheet) → Tables sheet figure nets laid chains kinds to → SettledTo sheet figure taken to flags next rest x)
+Inv-loop nets laid chains taken kinds standing to flags next₀ rest₀ x₀ next rest x =
+    (x ≤ nets .count) × ((sheet figure : form.Sheet) → Tables sheet figure nets laid chains kinds standing to → SettledTo sheet figure taken to flags next rest x)
 
 abbrev μ-loop : tie.MeasureT-loop
-μ-loop nets laid chains taken kinds to flags next₀ rest₀ x₀ next rest x = nets .count - x
+μ-loop nets laid chains taken kinds standing to flags next₀ rest₀ x₀ next rest x = nets .count - x
 
 loop-holds : tie.Need-loop-holds Inv-loop μ-loop
 loop-holds c = let b = c .before .before in
