@@ -22,3 +22,4 @@ pub mod Leaf
 -- What is known of the completions.
 pub mod Known
 pub mod Remaining
+pub mod Barring
