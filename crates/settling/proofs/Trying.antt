@@ -14,15 +14,13 @@ use Rattle.network.specs.NetIn.{netIn, ContextsIn}
 use Rattle.network.specs.Ready.{Ready, LinksIn, stateIn}
 use Rattle.candidates.specs.Laid.{LaidOut}
 use Rattle.stepping.specs.Chains.{ChainsIn}
-use Rattle.completing.specs.Fault.{Torn}
-use Rattle.completing.proofs.Completing.{no-fault-completable, torn-refused}
+use Rattle.completing.proofs.Completing.{no-fault-completable}
 use Rattle.faults.specs.declared.nets.Nets.{Nets}
 use Rattle.faults.specs.Finds.{NetsIn, Over, FindsAll}
 use Rattle.deciding.specs.Kinds.{KindsIn}
 use Rattle.faults.specs.declared.fault.Fault.{Fault}
 use Rattle.settling.specs.Completes.{unsettled, Tables, Working, CompletableIn, CompletableAt, Completes, CompletesAt, Hinders, FirstFor, FirstOfKind}
 use Rattle.deciding.proofs.Sets.{below-cases}
-use Rattle.deciding.proofs.Flagged.{flagged-out}
 use Rattle.settling.proofs.States.{links-set, working-put, put-back, way-out, earlier-refused}
 
 -- what is read of a net, as it stands there
@@ -161,20 +159,6 @@ module _ (sheet figure : form.Sheet) (ready : Ready sheet figure) (taken to flag
     held = λ atoms u e. let t = finds atoms (unsettled figure flags) (u .taken-in) (u .partial) .some-found e in
         way-out sheet figure ready taken to flags atoms room u (t .1) (r .links) (t .2);
   }
-
-  -- links that are torn cannot be mended
-  pub torn-hinders : (y : ℕ) → ((atoms : List ℕ) → Torn (netIn sheet) (netIn figure) (stateIn figure atoms to) (unsettled figure flags) y)
-      → (r : Fault) → r .found ≡ true → Hinders sheet figure taken to flags r
-  torn-hinders y t r f = record {
-    free = λ atoms u e. both-ways f e;
-    held = λ atoms u e c. absurd (torn-refused (netIn sheet) (netIn figure) (ready .sheet-normal) (ready .figure-normal) (stateIn figure atoms to) (unsettled figure flags) (u .partial) y (t atoms) c);
-  }
-
-  -- the links that are unsettled have a flag
-  pub flag-of : (x : ℕ) → suc x ∈ unsettled figure flags → getD flags x 0 ≡ 1
-  flag-of x m = let t = flagged-out (figure .«class_count») flags (suc x) m in
-      let e : t .index ≡ x = (let k : suc x ≡ suc (t .index) = t .number in omega arith) in
-      subst (λ (i : ℕ). getD flags i 0 ≡ 1) e (t .flag)
 
   module _ (r : Fault) (hinders : Hinders sheet figure taken to flags r) where
     pub found-none : r .found ≡ false → Completes sheet figure taken to flags true

@@ -5,7 +5,6 @@ use faults::fault::find;
 use faults::nets::Nets;
 use rows::Sheet;
 use stepping::CHAINS;
-use stepping::torn::torn;
 ghost use Prim.Native.Nat.{_≤_};
 ghost use mathlib.Core.Path.{_≡_};
 ghost use lib.ListN.{length};
@@ -28,13 +27,5 @@ pub(crate) fn obstacle(
     requires { ⌜ ((sheet : NormalForm) × (figure : NormalForm) × Over sheet figure nets (now laid) (now chains) (now to)) × (length (now flags) ≡ sheetLinks) × (y ≤ nets .links) ⌝ }
     ensures { λ r. ⌜ ((sheet figure : NormalForm) → Over sheet figure nets (now (laid .entry)) (now (chains .entry)) (now (to .entry)) → Hinders sheet figure (now (taken .entry)) (now (to .entry)) (now (flags .entry)) r) ⌝ }
 {
-    let contexts = nets.contexts;
-    if torn(contexts, nets.rows, nets.count, to, flags, y) {
-        return Fault {
-            found: true,
-            links: [0; Sheet::LINKS],
-            given: [0; Sheet::ATOMS],
-        };
-    }
     find(nets, laid, chains, taken, to)
 }

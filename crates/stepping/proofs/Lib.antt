@@ -9,4 +9,3 @@ pub mod Least
 pub mod Labels
 pub mod Owners
 pub mod Linking
-pub mod Tearing

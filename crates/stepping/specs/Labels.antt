@@ -65,30 +65,3 @@ pub record Apart (contexts : List Context) (rows links : ℕ) (to : List ℕ) (n
   pub labelled : Labelled contexts rows to labels
   pub all-one : y ≡ 0 → (x z w : ℕ) → Meet links to none x z w → getD labels x 0 ≡ getD labels z 0
   pub two-apart : y ≢ 0 → (x : ℕ) × (z : ℕ) × Meet links to none x z y × (getD labels x 0 ≢ getD labels z 0)
-
--- link x, from 0, is at y where it has a flag, else where `to` has it
-pub record GatheredAt (to flags : List ℕ) (y x v : ℕ) : Type 0 where
-  pub with-flag : getD flags x 0 ≡ 1 → v ≡ y
-  pub kept : getD flags x 0 ≢ 1 → v ≡ getD to x 0
-
-abbrev pub Gathered : List ℕ → List ℕ → ℕ → ℕ → List ℕ → Type 0
-Gathered to flags y n r = (x : ℕ) → x < n → GatheredAt to flags y x (getD r x 0)
-
--- two of the first n links go to y
-pub record Two (to : List ℕ) (y n : ℕ) : Type 0 where
-  pub one : ℕ
-  pub two : ℕ
-  pub before : one < two
-  pub two-in : two < n
-  pub one-at : getD to one 0 ≡ y
-  pub two-at : getD to two 0 ≡ y
-
--- two of the first n links go to y and have different labels
-pub record Differ (labels to : List ℕ) (y n : ℕ) : Type 0 where
-  pub one : ℕ
-  pub two : ℕ
-  pub one-in : one < n
-  pub two-in : two < n
-  pub one-at : getD to one 0 ≡ y
-  pub two-at : getD to two 0 ≡ y
-  pub other-label : getD labels one 0 ≢ getD labels two 0

@@ -3,7 +3,6 @@ pub mod chains;
 pub mod contexts;
 pub mod lookup;
 pub mod steps;
-pub mod torn;
 
 use rows::Sheet;
 

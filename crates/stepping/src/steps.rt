@@ -84,7 +84,7 @@ fn with_context(
 }
 
 // Labels of all links, by the ports of the contexts, which are among the first n links.
-pub(crate) fn step_labels(
+fn step_labels(
     labels: &mut [u16; Sheet::LINKS],
     to: &[u16; Sheet::LINKS],
     contexts: [Context; Sheet::CONTEXT_ROOM],
