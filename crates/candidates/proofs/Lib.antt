@@ -8,5 +8,6 @@ pub mod NetRows
 pub mod Sending
 -- Atoms laid out in one array, and marks.
 pub mod Laying
+pub mod PortRows
 pub mod Framing
 pub mod Marks

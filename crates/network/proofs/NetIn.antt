@@ -103,6 +103,15 @@ module _ (n : form.Sheet) (f : Fit n) where
             ∙ getD-of (netIn n .contexts) (t .0) (0, []) row (t .2)),
       )
 
+  pub context-in : (i : ℕ) → i < n .«context_count» → contextIn (contextAt n i) ∈ netIn n .contexts
+  context-in i h = subst (λ (r : NetCell). r ∈ netIn n .contexts) (context-index i h) (getD-in (netIn n .contexts) (i + 1 - 1) (0, []) (omega (arith, contexts-length)))
+
+  pub context-range : (i : ℕ) → i < n .«context_count» → (y : ℕ) → y ∈ contextIn (contextAt n i) .1 → Range (n .«class_count») y
+  context-range i h y m =
+      let u = f .contexts i h in
+      let t = in-place (contextAt n i .count) (contextAt n i .links) (u .there) y m in
+      subst (Range (n .«class_count»)) (t .2) (u .numbered (t .0) (t .1))
+
   pub atom-used : (t : ℕ) → Range (n .«atom_count») t → Used (n .«class_count») (atomAt n (t - 1) .count) (atomAt n (t - 1) .links)
   atom-used t r = f .atoms (t - 1) (let h : 1 ≤ t = r .0 in let k : t ≤ n .«atom_count» = r .1 in omega arith)
 

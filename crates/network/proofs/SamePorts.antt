@@ -1,5 +1,5 @@
--- Of a context only its number and the set of its links matter: two figures that differ in the order of these links, or in how often
--- each stands there, have the same good placings.
+-- Of a figure's context only its number and the set of its links matter: two figures that differ in the order of these links, or in
+-- how often each stands there, have the same good placings. Of a sheet's contexts nothing matters.
 use Prim.Native.Nat.{ℕ}
 use mathlib.Core.Path.{_≡_, refl, sym, _∙_}
 use mathlib.Core.Logic.{_⊎_, inl, inr, ⊎-elim}
@@ -24,7 +24,7 @@ pub record SamePorts (cs ds : List NetCell) : Type 0 where
 pub turned : {cs ds : List NetCell} → SamePorts cs ds → SamePorts ds cs
 turned s = record { onward = s .back; back = s .onward }
 
--- a figure with other contexts
+-- a net with other contexts
 abbrev pub withContexts : Net → List NetCell → Net
 withContexts F cs = record { atoms = F .atoms; contexts = cs; marks = F .marks; links = F .links }
 
@@ -51,26 +51,29 @@ module _ (F : Net) (ds : List NetCell) (same : SamePorts (F .contexts) ds) where
     one-link = n .one-link;
   }
 
-  module _ (S : Net) (p : Placing) where
-    taken : (j : ℕ) → Taken S G p j → Taken S F p j
+  module _ (S : Net) (es : List NetCell) (p : Placing) where
+    abbrev T : Net
+    T = withContexts S es
+
+    taken : (j : ℕ) → Taken T G p j → Taken S F p j
     taken j t = record { by = t .by; of-figure = t .of-figure; there = t .there }
 
-    not-taken : (j : ℕ) → ¬ Taken S G p j → ¬ Taken S F p j
+    not-taken : (j : ℕ) → ¬ Taken T G p j → ¬ Taken S F p j
     not-taken j n t = n (record { by = t .by; of-figure = t .of-figure; there = t .there })
 
-    at : (x y : ℕ) → At S F p x y → At S G p x y
+    at : (x y : ℕ) → At S F p x y → At T G p x y
     at x y h = record { figure-link = h .figure-link; sheet-link = h .sheet-link; there = h .there }
 
-    from : (x y : ℕ) → At S G p x y → At S F p x y
+    from : (x y : ℕ) → At T G p x y → At S F p x y
     from x y h = record { figure-link = h .figure-link; sheet-link = h .sheet-link; there = h .there }
 
-    linked : {y x z : ℕ} → Linked S F p y x z → Linked S G p y x z
+    linked : {y x z : ℕ} → Linked S F p y x z → Linked T G p y x z
     linked here = here
     linked {y = y} (step {x = x} {x′ = z} s l) =
         let o = same .onward (s .row) (s .of-figure) in
         step (record { row = o .0; of-figure = o .1; first = o .3 x (s .first); second = o .3 z (s .second); first-at = at x y (s .first-at); second-at = at z y (s .second-at) }) (linked l)
 
-    own : (k y : ℕ) → PortAt S F p k y ⊎ Inside S F p k y → PortAt S G p k y ⊎ Inside S G p k y
+    own : (k y : ℕ) → PortAt S F p k y ⊎ Inside S F p k y → PortAt T G p k y ⊎ Inside T G p k y
     own k y (inl r) =
         let o = same .onward (r .row) (r .of-figure) in
         inl (record { row = o .0; of-figure = o .1; number = o .2 ∙ r .number; link = r .link; port = o .3 (r .link) (r .port); there = r .there })
@@ -80,7 +83,7 @@ module _ (F : Net) (ds : List NetCell) (same : SamePorts (F .contexts) ds) where
       only-there = λ j h m. let o = r .only-there j h m in ((λ t. o .0 (taken j t)), o .1);
     })
 
-    pub good-with : Good S F p → Good S G p
+    pub good-with : Good S F p → Good T G p
     good-with g =
         let s = g .sending in
         record {
@@ -101,15 +104,18 @@ module _ (F : Net) (ds : List NetCell) (same : SamePorts (F .contexts) ds) where
         }
 
 -- and so the same smallest
-pub smallest-with : (S F : Net) (ds : List NetCell) → SamePorts (F .contexts) ds → smallest S F ≡ smallest S (withContexts F ds)
-smallest-with S F ds same = go (smallest S F) refl
+pub smallest-with : (S F : Net) (es ds : List NetCell) → SamePorts (F .contexts) ds → smallest S F ≡ smallest (withContexts S es) (withContexts F ds)
+smallest-with S F es ds same = go (smallest S F) refl
   where
+    T : Net
+    T = withContexts S es
+
     G : Net
     G = withContexts F ds
 
-    back : (p : Placing) → Good S G p → Good S F p
-    back p g = good-with G (F .contexts) (turned same) S p g
+    back : (p : Placing) → Good T G p → Good S F p
+    back p g = good-with G (F .contexts) (turned same) T (S .contexts) p g
 
-    go : (o : Option Placing) → smallest S F ≡ o → o ≡ smallest S G
-    go none e = sym (smallest-none S G .1 (λ p g. smallest-none S F .0 e p (back p g)))
-    go (some p) e = sym (smallest-only S G p (good-with F ds same S p (smallest-good S F p e)) (λ q g. smallest-least S F p e q (back q g)))
+    go : (o : Option Placing) → smallest S F ≡ o → o ≡ smallest T G
+    go none e = sym (smallest-none T G .1 (λ p g. smallest-none S F .0 e p (back p g)))
+    go (some p) e = sym (smallest-only T G p (good-with F ds same S es p (smallest-good S F p e)) (λ q g. smallest-least S F p e q (back q g)))
