@@ -227,9 +227,9 @@ module _ (a b r : List ℕ) (y : ℕ) (h : y < sheetLinks) where
   fewer-pair-in e = by-half (λ z. In (getD r z 0) (y % wordDigits) → ¬ In (getD b z 0) (y % wordDigits)) y (in-pair h)
       (λ i. fewer-in _ _ _ (ap (λ (l : List ℕ). getD l 0 0) e) (y % wordDigits) i .1) (λ i. fewer-in _ _ _ (ap (λ (l : List ℕ). getD l 1 0) e) (y % wordDigits) i .1)
 
-pub none-in-pair : (a : List ℕ) → emptyPair a ≡ true → (y : ℕ) → y < sheetLinks → ¬ InPair a y
+pub none-in-pair : (a : List ℕ) → emptyPair a ≡ true → (y : ℕ) → y < pairDigits → ¬ InPair a y
 unfolding emptyPair
-none-in-pair a e y h = by-half (λ z. ¬ In (getD a z 0) (y % wordDigits)) y (in-pair h)
+none-in-pair a e y h = by-half (λ z. ¬ In (getD a z 0) (y % wordDigits)) y h
     (λ i. none-in (y % wordDigits) (subst (λ (w : ℕ). In w (y % wordDigits)) (eqb-true _ _ e) (in-or-left (getD a 0 0) (getD a 1 0) (y % wordDigits) i)))
     (λ i. none-in (y % wordDigits) (subst (λ (w : ℕ). In w (y % wordDigits)) (eqb-true _ _ e) (in-or-right (getD a 0 0) (getD a 1 0) (y % wordDigits) i)))
 

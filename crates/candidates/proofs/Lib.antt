@@ -1,6 +1,7 @@
 -- Digits of words.
 pub mod Digits
 pub mod Halves
+pub mod Members
 pub mod Staying
 -- What a good placing does at links and atoms.
 pub mod GoodPlaces

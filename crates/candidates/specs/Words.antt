@@ -1,5 +1,5 @@
 -- Sets as words: t is in the set where digit t of the word, counted from 0, is 1.
-use Prim.Native.Nat.{ℕ, _+_, _^_, _/_, _%_}
+use Prim.Native.Nat.{ℕ, _+_, _^_, _/_, _%_, _<_}
 use mathlib.Core.Path.{_≡_}
 use mathlib.Core.Bool.{Bool}
 use mathlib.Core.List.{List, [], _∷_}
@@ -35,6 +35,10 @@ pairDigits = wordDigits + wordDigits
 
 abbrev pub InPair : List ℕ → ℕ → Type 0
 InPair s y = In (getD s (y / wordDigits) 0) (y % wordDigits)
+
+-- what is in a is in b
+abbrev pub PartOf : List ℕ → List ℕ → Type 0
+PartOf a b = (y : ℕ) → y < pairDigits → InPair a y → InPair b y
 
 unfoldable pub emptyPair : List ℕ → Bool
 emptyPair a = eqb (bitOr (getD a 0 0) (getD a 1 0)) 0

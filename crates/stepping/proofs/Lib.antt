@@ -1,5 +1,6 @@
 -- Arrays as flags and tables.
 pub mod Tables
+pub mod Ports
 pub mod Rows
 pub mod Reading
 pub mod Chaining
