@@ -148,7 +148,7 @@ module _ {net : NormalForm} {sets : List PortSet} {rows links : ℕ} (c : Contex
     few = omega (arith, c .fit .context-count, c .row-count);
     links-few = omega (arith, c .fit .class-count, c .link-count);
     room = c .room;
-    within = λ i x h k p. port-range i x h k p .1;
+    within = λ i h x k p. port-range i x h k p .1;
   }
 
 -- the rows of two nets with the same sets

@@ -20,12 +20,16 @@ setAt sets c = getD sets c (record { number = 0; links = [] })
 abbrev pub PortIn : List PortSet → ℕ → ℕ → Type 0
 PortIn sets c x = InPair (setAt sets c .links) x
 
+-- the links of a set are among the first n
+abbrev pub Below : ℕ → List ℕ → Type 0
+Below n set = (x : ℕ) → x < pairDigits → InPair set x → x < n
+
 -- so many contexts, whose links are among the first `links`
 pub record Ports (sets : List PortSet) (rows links : ℕ) : Type 0 where
   pub few : rows ≤ figureContexts
   pub links-few : links ≤ sheetLinks
   pub room : length sets ≡ contextRoom
-  pub within : (c x : ℕ) → c < rows → x < pairDigits → PortIn sets c x → x < links
+  pub within : (c : ℕ) → c < rows → Below links (setAt sets c .links)
 
 -- the set of the first `count` links, which are counted from 1 here
 abbrev pub LinksOf : List ℕ → ℕ → List ℕ → Type 0

@@ -10,12 +10,12 @@ use Rattle.rows.specs.Held.{relabelled}
 use Rattle.rows.specs.Limits.{sheetLinks}
 use Rattle.placing.proofs.Joined.{relabelled-hit, relabelled-miss}
 use Rattle.candidates.specs.Words.{pairDigits, InPair, PartOf, withoutLink}
+use Rattle.candidates.specs.PortSets.{Below}
 use Rattle.candidates.specs.declared.ports.PortSet.{PortSet}
 use Rattle.candidates.proofs.Halves.{in-without}
 use Rattle.candidates.proofs.Members.{Seen, seen-more}
 use Rattle.completing.specs.Reach.{Reach, stay, move}
 use Rattle.completing.proofs.Reaching.{reach-then}
-use Rattle.stepping.specs.Flags.{Below}
 use Rattle.stepping.specs.Labels.{Tie, Sound, Relabelled, Bounded, Grew, GrewWith, Tied, AllTied}
 use Rattle.stepping.proofs.Tables.{below-set, above-set, below-next}
 

@@ -14,11 +14,7 @@ use Rattle.candidates.specs.declared.ports.PortSet.{PortSet}
 abbrev pub Within : ℕ → ℕ → List ℕ → Type 0
 Within n count l = (k : ℕ) → k < count → Range n (getD l k 0)
 
--- the links of a set are among the first n
-abbrev pub Below : ℕ → List ℕ → Type 0
-Below n set = (x : ℕ) → x < pairDigits → InPair set x → x < n
-
--- and where each goes is at most none
+-- the links of a set are numbers of links, and where each goes is at most none
 abbrev pub Ported : List ℕ → ℕ → List ℕ → Type 0
 Ported to none set = (x : ℕ) → x < pairDigits → InPair set x → (x < sheetLinks) × Range none (getD to x 0)
 

@@ -10,8 +10,8 @@ ghost use Prim.Native.Nat.{ℕ, _+_, _<_, _≤_};
 ghost use lib.ListN.{length, getD};
 ghost use Rattle.rows.specs.Limits.{sheetLinks};
 ghost use Rattle.candidates.specs.Words.{pairDigits, InPair};
-ghost use Rattle.candidates.specs.PortSets.{Ports};
-ghost use Rattle.stepping.specs.Flags.{Within, Below};
+ghost use Rattle.candidates.specs.PortSets.{Below, Ports};
+ghost use Rattle.stepping.specs.Flags.{Within};
 ghost use Rattle.stepping.specs.Labels.{Relabelled, Bounded, Grew, GrewWith, Tied, AllTied, Labelled, Apart};
 
 // Each link its own label.

@@ -37,7 +37,7 @@ port-rows-requires : tie.Need-port-rows-requires Inv-loop μ-loop
 port-rows-requires c κs = let s = c .before .before .before .before in
     let w = s .pre .1 in
     let l = c .before .before .before .loop in
-    (w .1 .few, s .pre .0, ported (s .args .t3) (s .args .count) (w .0) (w .1) (l .d) (c .before .before .loop-test .taken) (s .args .to .now) (s .args .none) (w .2), l .inv .1)
+    (w .1 .few, s .pre .0, ported (s .args .t3) (s .args .count) (w .0) (w .1) (s .args .to .now) (s .args .none) (w .2) (l .d) (c .before .before .loop-test .taken), l .inv .1)
 
 add-d : tie.Need-add-d Inv-loop μ-loop
 add-d c = omega (arith, c .before .before .before .loop-test .taken, c .before .before .before .before .before .pre .1 .1 .few)

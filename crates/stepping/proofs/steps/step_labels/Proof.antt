@@ -8,7 +8,6 @@ use Rattle.rows.specs.Limits.{sheetLinks}
 use Rattle.candidates.specs.PortSets.{setAt}
 use Rattle.stepping.specs.Labels.{Sound, Bounded, AllTied}
 use Rattle.stepping.proofs.Labels.{own-sound, own-bounded, all-kept}
-use Rattle.stepping.proofs.Rows.{row-below}
 use Rattle.stepping.proofs.Tables.{below-next}
 use Rattle.stepping.proofs.steps.step_labels.Statement.{statement}
 use Rattle.stepping.proofs.steps.step_labels.Tie as tie
@@ -42,7 +41,7 @@ array-copy-out-row c = omega (arith, c .loop-test .taken, c .before .before .bef
 with-context-requires : tie.Need-with-context-requires Inv-loop μ-loop
 with-context-requires c κs = let l = c .before .before .before .before .loop in
     let s = c .before .before .before .before .before .before .before in
-    (row-below (s .args .t3) (s .args .count) (s .args .n) (s .pre .0) (l .c) (omega arith), l .inv .1, s .pre .0 .links-few, l .inv .4)
+    (s .pre .0 .within (l .c) (omega arith), l .inv .1, s .pre .0 .links-few, l .inv .4)
 
 add-c : tie.Need-add-c Inv-loop μ-loop
 add-c c = let l = c .before .before .before .before .before in omega (arith, c .before .before .before .before .loop-test .taken, l .before .before .before .pre .0 .few)
@@ -60,7 +59,7 @@ loop-again c = let l = c .before .before .before .before .before .loop in
       g .0,
       g .1 .sound (a .t3) (a .count) (l .c) (omega arith) refl (l .inv .2),
       below-next (λ i. AllTied (a .to .now) (setAt (a .t3) i .links) m) (l .c)
-          (λ i h. all-kept (a .to .now) (setAt (a .t3) i .links) (λ x k j. omega (arith, row-below (a .t3) (a .count) (a .n) (s .pre .0) i (omega arith) x k j, s .pre .0 .links-few)) (l .labels) m (g .1 .kept) (l .inv .3 i h)) (g .2),
+          (λ i h. all-kept (a .to .now) (setAt (a .t3) i .links) (λ x k j. omega (arith, s .pre .0 .within i (omega arith) x k j, s .pre .0 .links-few)) (l .labels) m (g .1 .kept) (l .inv .3 i h)) (g .2),
       g .3,
     )
 
