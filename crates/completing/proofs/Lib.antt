@@ -21,3 +21,6 @@ pub mod State
 pub mod Leaf
 -- What is known of the completions.
 pub mod Known
+-- Ways between two halves of the contexts.
+pub mod Halves
+pub mod Ways

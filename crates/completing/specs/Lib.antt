@@ -4,3 +4,4 @@ pub mod Fault
 pub mod Growing
 pub mod Leaf
 pub mod Known
+pub mod Ways
