@@ -2,6 +2,7 @@
 mod flow;
 mod halves;
 pub mod outnumbered;
+mod search;
 mod trail;
 
 use rows::Sheet;

@@ -1,21 +1,20 @@
 -- No index leaves its array.
 use borrow.Author.Needs.{needs}
 use Prim.Native.Nat.{_*_, _-_, _≤_, _<_}
+use mathlib.Core.Path.{_≡_}
+use lib.ListN.{length}
 use Rattle.rows.specs.Limits.{sheetLinks}
 use Rattle.ways.proofs.flow.augment.Statement.{statement}
 use Rattle.ways.proofs.flow.augment.Tie as tie
 
 abbrev Inv-loop : tie.InvT-loop
-Inv-loop marks₀ entered left laid atoms taken end z₀ n₀ marks z n = (z < sheetLinks) × (n ≤ 2 * sheetLinks)
+Inv-loop marks₀ look laid atoms taken end z₀ n₀ marks z n = (z < sheetLinks) × (n ≤ 3 * sheetLinks) × (length marks ≡ sheetLinks)
 
 abbrev μ-loop : tie.MeasureT-loop
-μ-loop marks₀ entered left laid atoms taken end z₀ n₀ marks z n = 2 * sheetLinks - n
+μ-loop marks₀ look laid atoms taken end z₀ n₀ marks z n = 3 * sheetLinks - n
 
 loop-holds : tie.Need-loop-holds Inv-loop μ-loop
 loop-holds c = search needs
-
-mul-loop : tie.Need-mul-loop Inv-loop μ-loop
-mul-loop c = search needs
 
 mul-mark : tie.Need-mul-mark Inv-loop μ-loop
 mul-mark c = search needs
@@ -32,8 +31,8 @@ element-write-marks c = search needs
 returns : tie.Need-returns Inv-loop μ-loop
 returns c = search needs
 
-change-requires : tie.Need-change-requires Inv-loop μ-loop
-change-requires c κs = search needs
+before-requires : tie.Need-before-requires Inv-loop μ-loop
+before-requires c κs = search needs
 
 add-n : tie.Need-add-n Inv-loop μ-loop
 add-n c = search needs
@@ -54,13 +53,12 @@ augment-spec =
     Inv-loop
     μ-loop
     loop-holds
-    mul-loop
     mul-mark
     element-copy-out-mark
     mul-marks
     element-write-marks
     returns
-    change-requires
+    before-requires
     add-n
     loop-less
     loop-again

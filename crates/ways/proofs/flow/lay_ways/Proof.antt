@@ -1,11 +1,14 @@
 -- As many turns as ways.
 use borrow.Author.Needs.{needs}
 use Prim.Native.Nat.{_-_, _≤_}
+use mathlib.Core.Path.{_≡_}
+use lib.ListN.{length}
+use Rattle.rows.specs.Limits.{sheetLinks}
 use Rattle.ways.proofs.flow.lay_ways.Statement.{statement}
 use Rattle.ways.proofs.flow.lay_ways.Tie as tie
 
 abbrev Inv-loop : tie.InvT-loop
-Inv-loop marks₀ laid chains atoms links taken sorted most n₀ marks n = n ≤ most
+Inv-loop marks₀ laid chains atoms links taken sorted most n₀ marks n = (n ≤ most) × (length marks ≡ sheetLinks)
 
 abbrev μ-loop : tie.MeasureT-loop
 μ-loop marks₀ laid chains atoms links taken sorted most n₀ marks n = most - n

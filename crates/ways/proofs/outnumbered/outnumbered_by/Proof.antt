@@ -37,7 +37,7 @@ add-lay-ways : tie.Need-add-lay-ways
 add-lay-ways c = search needs
 
 lay-ways-requires : tie.Need-lay-ways-requires
-lay-ways-requires c κs = let s = c .before .before .before .before .before .before .before .before .before .before in (laid-rowed (s .pre .0) (s .args .laid .now) (s .args .atoms) (s .pre .3), chains-fall (s .pre .0) (s .pre .1) (s .args .atoms) (s .args .links) (s .args .count) (s .args .chains .now) (s .args .standing .now) (s .args .to .now) (s .pre .2), links-few (s .pre .0) (s .pre .1) (s .args .atoms) (s .args .links) (s .args .count) (s .args .chains .now) (s .args .standing .now) (s .args .to .now) (s .pre .2))
+lay-ways-requires c κs = let s = c .before .before .before .before .before .before .before .before .before .before in (laid-rowed (s .pre .0) (s .args .laid .now) (s .args .atoms) (s .pre .3), chains-fall (s .pre .0) (s .pre .1) (s .args .atoms) (s .args .links) (s .args .count) (s .args .chains .now) (s .args .standing .now) (s .args .to .now) (s .pre .2), links-few (s .pre .0) (s .pre .1) (s .args .atoms) (s .args .links) (s .args .count) (s .args .chains .now) (s .args .standing .now) (s .args .to .now) (s .pre .2), refl)
 
 ways-requires : tie.Need-ways-requires
 ways-requires c κs = let s = c .before .before .before .before .before .before .before .before .before .before .before .before .before in (laid-rowed (s .pre .0) (s .args .laid .now) (s .args .atoms) (s .pre .3), links-few (s .pre .0) (s .pre .1) (s .args .atoms) (s .args .links) (s .args .count) (s .args .chains .now) (s .args .standing .now) (s .args .to .now) (s .pre .2))

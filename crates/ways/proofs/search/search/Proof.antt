@@ -2,20 +2,20 @@
 use borrow.Author.Needs.{needs}
 use Prim.Native.Nat.{_-_, _≤_}
 use Rattle.rows.specs.Limits.{sheetLinks}
-use Rattle.ways.proofs.flow.search.Statement.{statement}
-use Rattle.ways.proofs.flow.search.Tie as tie
+use Rattle.ways.proofs.search.search.Statement.{statement}
+use Rattle.ways.proofs.search.search.Tie as tie
 
 abbrev Inv-loop : tie.InvT-loop
-Inv-loop entered left₀ laid chains atoms links taken sorted marks queue₀ tail₀ s₀ left queue tail s = (s ≤ links) × (tail ≤ sheetLinks)
+Inv-loop look₀ laid chains atoms links taken sorted marks tail₀ s₀ look tail s = (s ≤ links) × (tail ≤ sheetLinks)
 
 abbrev μ-loop : tie.MeasureT-loop
-μ-loop entered left₀ laid chains atoms links taken sorted marks queue₀ tail₀ s₀ left queue tail s = links - s
+μ-loop look₀ laid chains atoms links taken sorted marks tail₀ s₀ look tail s = links - s
 
 abbrev Inv-loop2 : tie.InvT-loop2
-Inv-loop2 entered₀ left₀ laid chains atoms links taken sorted marks queue₀ tail₀ s head₀ entered left queue tail head = (head ≤ sheetLinks) × (tail ≤ sheetLinks)
+Inv-loop2 look₀ laid chains atoms links taken sorted marks tail₀ s head₀ look tail head = (head ≤ sheetLinks) × (tail ≤ sheetLinks)
 
 abbrev μ-loop2 : tie.MeasureT-loop2
-μ-loop2 entered₀ left₀ laid chains atoms links taken sorted marks queue₀ tail₀ s head₀ entered left queue tail head = sheetLinks - head
+μ-loop2 look₀ laid chains atoms links taken sorted marks tail₀ s head₀ look tail head = sheetLinks - head
 
 loop-holds : tie.Need-loop-holds Inv-loop μ-loop Inv-loop2 μ-loop2
 loop-holds c = search needs
@@ -35,11 +35,14 @@ loop-again c = search needs
 loop2-holds : tie.Need-loop2-holds Inv-loop μ-loop Inv-loop2 μ-loop2
 loop2-holds c = search needs
 
+add-wide : tie.Need-add-wide Inv-loop μ-loop Inv-loop2 μ-loop2
+add-wide c = search needs
+
 mul-wide : tie.Need-mul-wide Inv-loop μ-loop Inv-loop2 μ-loop2
 mul-wide c = search needs
 
-array-read-wide : tie.Need-array-read-wide Inv-loop μ-loop Inv-loop2 μ-loop2
-array-read-wide c = search needs
+element-copy-out-wide : tie.Need-element-copy-out-wide Inv-loop μ-loop Inv-loop2 μ-loop2
+element-copy-out-wide c = search needs
 
 wide-requires : tie.Need-wide-requires Inv-loop μ-loop Inv-loop2 μ-loop2
 wide-requires c κs = search needs
@@ -88,8 +91,9 @@ search-spec =
     loop-less
     loop-again
     loop2-holds
+    add-wide
     mul-wide
-    array-read-wide
+    element-copy-out-wide
     wide-requires
     mul-if1
     add-if1

@@ -5,14 +5,14 @@ use mathlib.Core.Logic.{⊎-elim}
 use native.Mathlib.Omega.{arith}
 use Rattle.rows.specs.Limits.{sheetLinks}
 use Rattle.stepping.specs.Chains.{nodeOf}
-use Rattle.ways.proofs.flow.onward.Statement.{statement}
-use Rattle.ways.proofs.flow.onward.Tie as tie
+use Rattle.ways.proofs.search.onward.Statement.{statement}
+use Rattle.ways.proofs.search.onward.Tie as tie
 
 abbrev Inv-loop : tie.InvT-loop
-Inv-loop entered₀ left₀ queue₀ tail laid chains atoms taken sorted marks y next₀ v₀ entered left queue next v = (v < nodeOf atoms 0) × (next ≤ sheetLinks)
+Inv-loop look₀ tail laid chains atoms taken sorted marks y next₀ v₀ look next v = (v < nodeOf atoms 0) × (next ≤ sheetLinks)
 
 abbrev μ-loop : tie.MeasureT-loop
-μ-loop entered₀ left₀ queue₀ tail laid chains atoms taken sorted marks y next₀ v₀ entered left queue next v = v
+μ-loop look₀ tail laid chains atoms taken sorted marks y next₀ v₀ look next v = v
 
 mul-if1 : tie.Need-mul-if1 Inv-loop μ-loop
 mul-if1 c = search needs
@@ -33,10 +33,10 @@ wide-requires : tie.Need-wide-requires Inv-loop μ-loop
 wide-requires c κs = search needs
 
 loop-holds : tie.Need-loop-holds Inv-loop μ-loop
-loop-holds c = let s = c .before .before .before .before in (omega (arith, c .wide .ensures .0, s .pre .1 .within (s .args .y)), ⊎-elim (λ w. omega (arith, w .8, w .4 .ensures)) (λ w. omega (arith, w .4)) (c .before .before .if1 .came))
+loop-holds c = let s = c .before .before .before .before in (omega (arith, c .wide .ensures .0, s .pre .1 .within (s .args .y)), ⊎-elim (λ w. omega (arith, w .4, w .2 .ensures)) (λ w. omega (arith, w .2)) (c .before .before .if1 .came))
 
 through-requires : tie.Need-through-requires Inv-loop μ-loop
-through-requires c κs = let s = c .before .before .before .before .before .before .before .before .before in let l = c .before .before .before .before .loop in (s .pre .0, omega (arith, s .pre .0 .few, l .inv .0, c .before .before .before .loop-test .taken), l .inv .1)
+through-requires c κs = let s = c .before .before .before .before .before .before .before in let l = c .before .before .loop in (s .pre .0, omega (arith, s .pre .0 .few, l .inv .0, c .before .loop-test .taken), l .inv .1)
 
 mul-wide-2 : tie.Need-mul-wide-2 Inv-loop μ-loop
 mul-wide-2 c = search needs
@@ -48,10 +48,10 @@ wide-requires-2 : tie.Need-wide-requires-2 Inv-loop μ-loop
 wide-requires-2 c κs = search needs
 
 loop-less : tie.Need-loop-less Inv-loop μ-loop
-loop-less c = let s = c .before .before .before .before .before .before .before .before .before .before .before .before in omega (arith, c .wide2 .ensures .0, s .pre .1 .falls (c .before .before .before .before .before .before .before .loop .v) (c .before .before .before .before .before .before .loop-test .taken))
+loop-less c = let s = c .before .before .before .before .before .before .before .before .before .before in omega (arith, c .wide2 .ensures .0, s .pre .1 .falls (c .before .before .before .before .before .loop .v) (c .before .before .before .before .loop-test .taken))
 
 loop-again : tie.Need-loop-again Inv-loop μ-loop
-loop-again c = let s = c .before .before .before .before .before .before .before .before .before .before .before .before in (omega (arith, c .wide2 .ensures .0, s .pre .1 .within (c .before .before .before .before .before .before .before .loop .v)), c .before .before .through .ensures)
+loop-again c = let s = c .before .before .before .before .before .before .before .before .before .before in (omega (arith, c .wide2 .ensures .0, s .pre .1 .within (c .before .before .before .before .before .loop .v)), c .before .before .through .ensures)
 
 returns : tie.Need-returns Inv-loop μ-loop
 returns c = search needs

@@ -3,14 +3,14 @@ use borrow.Author.Needs.{needs}
 use Prim.Native.Nat.{_-_, _≤_}
 use Rattle.rows.specs.Format.{mostLinks}
 use Rattle.rows.specs.Limits.{sheetLinks}
-use Rattle.ways.proofs.flow.through.Statement.{statement}
-use Rattle.ways.proofs.flow.through.Tie as tie
+use Rattle.ways.proofs.search.through.Statement.{statement}
+use Rattle.ways.proofs.search.through.Tie as tie
 
 abbrev Inv-loop : tie.InvT-loop
-Inv-loop entered₀ left₀ queue₀ tail laid atoms taken sorted marks y place next₀ k₀ entered left queue next k = (k ≤ mostLinks) × (next ≤ sheetLinks)
+Inv-loop look₀ tail laid atoms taken sorted marks y place next₀ k₀ look next k = (k ≤ mostLinks) × (next ≤ sheetLinks)
 
 abbrev μ-loop : tie.MeasureT-loop
-μ-loop entered₀ left₀ queue₀ tail laid atoms taken sorted marks y place next₀ k₀ entered left queue next k = mostLinks - k
+μ-loop look₀ tail laid atoms taken sorted marks y place next₀ k₀ look next k = mostLinks - k
 
 element-copy-out-if1 : tie.Need-element-copy-out-if1 Inv-loop μ-loop
 element-copy-out-if1 c = search needs
