@@ -1,20 +1,20 @@
 -- Each way from one half of the contexts to the other needs a link of its own that stands on both.
 use Prim.Native.Nat.{ℕ, _≤_, _<_}
 use mathlib.Core.Path.{_≡_, refl, sym, _∙_, ap, subst}
-use mathlib.Core.Logic.{_⊎_, inl, inr, _≢_}
+use mathlib.Core.Logic.{_⊎_, inl, inr}
 use mathlib.Core.List.{List, [], _∷_, map, List·Memᴰ·head, List·Memᴰ·tail, Memᴰ·cast, Memᴰ·of-map}
 use mathlib.Core.Bool.{Bool, true, false}
 use native.Mathlib.Omega.{arith}
 use lib.ListN.{length, length-map}
 use Rattle.hyperlmntal.specs.Link.{_∈_}
-use Rattle.placing.specs.Net.{Net, Range, Normal}
+use Rattle.placing.specs.Net.{Net, Normal}
 use Rattle.placing.specs.Placing.{Placing, linkTo, givenTo, At, PortAt, Inside}
 use Rattle.placing.proofs.FirstLaws.{both-ways}
 use Rattle.placing.proofs.Standing.{context-link, place-link}
 use Rattle.completing.specs.Completion.{Partial, Completion, Completable, remove}
 use Rattle.completing.specs.Fault.{Other}
 use Rattle.completing.specs.Known.{Touches, Known, MayGo}
-use Rattle.completing.specs.Ways.{OnHalf, OnBoth, Halved, Route, linksOf, lastLink, Disjoint, Walk, Way, Ways, Passes, SomeAt, OnlyAcross}
+use Rattle.completing.specs.Ways.{OnHalf, Halved, Route, linksOf, lastLink, Disjoint, Walk, Way, Ways, Passes, SomeAt, OnlyAcross}
 use Rattle.completing.proofs.Lists.{in-remove, remove-shorter}
 use Rattle.completing.proofs.Known.{completions-known, no-bars}
 use Rattle.completing.proofs.Halves.{on-half-dec, Crossed, half-crossed, linked-half}

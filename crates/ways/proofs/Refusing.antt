@@ -1,11 +1,11 @@
 -- More ways in the arrays than links across: no completion is left.
 use Prim.Native.Nat.{ℕ, suc, _+_, _*_, _-_, _≤_, _<_}
-use mathlib.Core.Path.{_≡_, refl, sym, _∙_, ap, subst}
-use mathlib.Core.Logic.{_≢_, _⊎_, inl, inr}
+use mathlib.Core.Path.{_≡_, sym, _∙_, ap, subst}
+use mathlib.Core.Logic.{_≢_, inl, inr}
 use mathlib.Core.List.{List}
 use mathlib.Core.Bool.{Bool, true, false}
 use native.Mathlib.Omega.{arith}
-use lib.ListN.{length, getD}
+use lib.ListN.{getD}
 use borrow.Author.Tests.{eqb-true, eq-eqb}
 use Rattle.hyperlmntal.specs.Link.{_∈_}
 use Rattle.rows.specs.Limits.{sheetLinks}
@@ -15,21 +15,18 @@ use Rattle.placing.specs.Placing.{Placing, linkTo, At}
 use Rattle.placing.proofs.FirstLaws.{both-ways}
 use Rattle.placing.proofs.Standing.{context-link}
 use Rattle.network.specs.NetIn.{netIn}
-use Rattle.network.specs.Ready.{TakenIn, stateIn}
-use Rattle.candidates.specs.Laid.{Rowed, LaidOut}
+use Rattle.network.specs.Ready.{stateIn}
+use Rattle.candidates.specs.Laid.{LaidOut}
 use Rattle.candidates.specs.Words.{In}
-use Rattle.candidates.proofs.Laying.{laid-rowed}
-use Rattle.completing.specs.Completion.{Partial, Completable}
-use Rattle.completing.specs.Fault.{Other}
 use Rattle.completing.specs.Known.{Stands, MayGo}
-use Rattle.completing.specs.Ways.{OnHalf, OnBoth, Halved, Passes, SomeAt, OnlyAcross}
+use Rattle.completing.specs.Ways.{OnBoth, Halved, SomeAt, OnlyAcross}
 use Rattle.completing.proofs.Ways.{ways-not-completable}
 use Rattle.stepping.specs.Chains.{nodeOf, Falls}
 use Rattle.stepping.specs.Flags.{Within}
 use Rattle.stepping.specs.Standing.{digitOf, Described, Refuses}
 use Rattle.stepping.proofs.Reading.{link-at}
 use Rattle.ways.specs.Halves.{onFirst, halfOf, sortedTo, Sorts, Crossing}
-use Rattle.ways.specs.Trails.{LaidStep, Flagged, Unflagged, WaysIn}
+use Rattle.ways.specs.Trails.{Flagged, Unflagged, WaysIn}
 use Rattle.ways.proofs.Words.{half-first, half-second, half-both}
 use Rattle.ways.proofs.Steps.{laid-passes}
 use Rattle.ways.proofs.Trails.{ways-as}
@@ -82,17 +79,16 @@ module _ (sheet figure : NormalForm) (atoms links count : ℕ) (chains words to 
         (u .0, half-both (getD words (x - 1) 0) side (digitOf (t .0 .0)) (digitOf (t .1 .0)) (u .1) (on-first (t .0 .0) (t .0 .2)) (v .1) (not-first (t .1 .0) (t .1 .2)))
 
     module _ (list table : List ℕ) (sorts : Sorts words to (links + 1) side count table) where
-      q : Placing
+      abbrev q : Placing
       q = stateIn figure list to
 
       goes : (x : ℕ) → Range count x → linkTo q x ≡ getD to (x - 1) 0
-      unfolding q
       goes x r = link-at figure (d .ready .figure-fit) (netIn sheet) list to x (r .0, let e = d .figure-links in omega (arith, r .1))
 
       -- A link of half h surely goes where a flag of h is.
       flagged-at : (h y : ℕ) → Flagged table h links y → SomeAt (At (netIn sheet) (netIn figure) q) (Half h) y
-      unfolding Half q
-      flagged-at h y g = (suc x, record { figure-link = (omega arith, let e = d .figure-links in let i = t .1 in omega arith); sheet-link = (let e = g .link in omega arith, let e = g .link in let k = g .place-in in let f = d .sheet-links in omega arith); there = goes (suc x) (omega arith, let i = t .1 in omega arith) ∙ ap (λ (i : ℕ). getD to i 0) back ∙ same .0 }, ap (λ (i : ℕ). halfOf (getD words i 0) side) back ∙ same .1)
+      unfolding Half
+      flagged-at h y g = (suc x, record { figure-link = inside; sheet-link = there; there = goes (suc x) (inside .0, let e = d .figure-links in omega (arith, inside .1)) ∙ ap (λ (i : ℕ). getD to i 0) back ∙ same .0 }, ap (λ (i : ℕ). halfOf (getD words i 0) side) back ∙ same .1)
         where
           t : (x : ℕ) × (x < count) × sortedTo words to (links + 1) side x (h * sheetLinks + g .place)
           t = sorts (h * sheetLinks + g .place) .0 (g .flag)
@@ -102,6 +98,12 @@ module _ (sheet figure : NormalForm) (atoms links count : ℕ) (chains words to 
 
           back : suc x - 1 ≡ x
           back = omega arith
+
+          inside : Range (figure .«class_count») (suc x)
+          inside = let e = d .figure-links in let i = t .1 in (omega arith, omega arith)
+
+          there : Range (sheet .«class_count») y
+          there = let e = d .sheet-links in let k = g .place-in in let l = g .link in (omega arith, omega arith)
 
           same : (getD to x 0 ≡ y) × (halfOf (getD words x 0) side ≡ h)
           same =
@@ -116,7 +118,7 @@ module _ (sheet figure : NormalForm) (atoms links count : ℕ) (chains words to 
       -- Where there is no flag of both, only unsettled links on both may go.
       unflagged-only : (flags un : List ℕ) (m : ℕ) (c : Crossing words flags side count m) → ((x : ℕ) → suc x ∈ un → getD flags x 0 ≡ 1)
           → (y : ℕ) → Unflagged table 3 links y → OnlyAcross (netIn figure) (onFirst side) (MayGo q un (λ x z. ⊥)) (c .across) y
-      unfolding Half q
+      unfolding Half
       unflagged-only flags un m c f y g x (inl e) t =
           let b = both-half x t in
           let a : getD to (x - 1) 0 ≡ y = sym (goes x (b .0)) ∙ e in
@@ -131,9 +133,8 @@ module _ (sheet figure : NormalForm) (atoms links count : ℕ) (chains words to 
     -- More ways than links across.
     pub ways-refuse : (laid taken flags table : List ℕ) (m n : ℕ) → LaidOut sheet laid atoms → Sorts words to (links + 1) side count table → Crossing words flags side count m
         → WaysIn laid taken atoms links table n → m < n → (r : Bool) → Refuses sheet figure taken to flags r
-    unfolding Half q
+    unfolding Half
     ways-refuse laid taken flags table m n out sorts c ways more r e list un t a f =
         ways-not-completable (netIn sheet) (netIn figure) (d .ready .sheet-normal) (d .ready .figure-normal) (stateIn figure list to) un a (onFirst side) (Half 1) (Half 2) halved (c .across) n
-        (ways-as (LaidStep laid taken atoms) (Passes (netIn sheet) (Other (netIn sheet) (netIn figure) (q list table sorts))) (Flagged table 1 links) (SomeAt (At (netIn sheet) (netIn figure) (q list table sorts)) (Half 1)) (Flagged table 2 links) (SomeAt (At (netIn sheet) (netIn figure) (q list table sorts)) (Half 2)) (Unflagged table 3 links) (OnlyAcross (netIn figure) (onFirst side) (MayGo (q list table sorts) un (λ x z. ⊥)) (c .across))
-        (laid-passes sheet figure (q list table sorts) laid taken atoms out t) (flagged-at list table sorts 1) (flagged-at list table sorts 2) (unflagged-only list table sorts flags un m c f) n ways)
+        (ways-as (laid-passes sheet figure (stateIn figure list to) laid taken atoms out t) (flagged-at list table sorts 1) (flagged-at list table sorts 2) (unflagged-only list table sorts flags un m c f) n ways)
         (let k = c .number in omega arith)

@@ -15,7 +15,7 @@ use Rattle.placing.specs.Placing.{Placing, Taken}
 use Rattle.network.specs.NetIn.{netIn, atomAt, Used}
 use Rattle.network.specs.Ready.{TakenIn}
 use Rattle.network.proofs.NetIn.{used-in, atoms-length}
-use Rattle.candidates.specs.Laid.{laidAt, laidAtom, linkOf, Rowed, LaidOut}
+use Rattle.candidates.specs.Laid.{laidAt, linkOf, Rowed, LaidOut}
 use Rattle.candidates.proofs.Laying.{link-laid, count-laid}
 use Rattle.completing.specs.Fault.{Other}
 use Rattle.completing.specs.Known.{Touches}

@@ -1,9 +1,9 @@
 -- The laws of a loop that follows ways back from their ends, and counts them.
 use Prim.Native.Nat.{ℕ, suc, _+_, _*_, _-_, _≤_, _<_}
-use mathlib.Core.Path.{_≡_, refl, sym, _∙_, ap, subst}
+use mathlib.Core.Path.{_≡_, refl, sym, ap, subst}
 use mathlib.Core.Logic.{_⊎_, inl, inr, _≢_}
-use mathlib.Core.List.{List, [], _∷_, map, List·Memᴰ·head, List·Memᴰ·tail, List·Memᴰ·not-nil, List·Memᴰ·cases-cons, Memᴰ·of-map}
-use mathlib.Core.Bool.{Bool, true, false}
+use mathlib.Core.List.{List, [], _∷_, map, List·Memᴰ·not-nil, List·Memᴰ·cases-cons, Memᴰ·of-map}
+use mathlib.Core.Bool.{true, false}
 use native.Mathlib.Omega.{arith}
 use lib.ListN.{length, getD, set, length-set}
 use Rattle.hyperlmntal.specs.Link.{_∈_}
@@ -11,9 +11,9 @@ use Rattle.rows.specs.Limits.{sheetLinks}
 use Rattle.placing.proofs.FirstLaws.{both-ways}
 use Rattle.completing.specs.Ways.{Route, afterward, linksOf, lastLink, Walk, Way, Ways}
 use Rattle.stepping.proofs.Tables.{store-flag}
-use Rattle.ways.specs.Trails.{LaidStep, Flagged, Unflagged, Trail, Found, Seen, FoundIn, TrailIn, Follows}
+use Rattle.ways.specs.Trails.{LaidStep, Unflagged, Trail, Found, Seen, FoundIn, TrailIn, Follows}
 
-module _ (Step : ℕ → ℕ → ℕ → Type 0) (Starts Ends Free : ℕ → Type 0) where
+module _ {Step : ℕ → ℕ → ℕ → Type 0} {Starts Ends Free : ℕ → Type 0} where
   -- An end.
   trail-end : (was : ℕ → Type 0) (y : ℕ) → Ends y → Trail Step Starts Ends Free was was y []
   trail-end was y e = record {
@@ -80,9 +80,9 @@ module _ (Step : ℕ → ℕ → ℕ → Type 0) (Starts Ends Free : ℕ → Typ
   found-kept was now k n f = record { ways = f .ways; seen = λ w m y i. k y (f .seen w m y i) }
 
 -- Ways by other words.
-pub ways-as : (Step Step′ : ℕ → ℕ → ℕ → Type 0) (Starts Starts′ Ends Ends′ Free Free′ : ℕ → Type 0) → ((y j z : ℕ) → Step y j z → Step′ y j z) → ((y : ℕ) → Starts y → Starts′ y)
+pub ways-as : {Step Step′ : ℕ → ℕ → ℕ → Type 0} {Starts Starts′ Ends Ends′ Free Free′ : ℕ → Type 0} → ((y j z : ℕ) → Step y j z → Step′ y j z) → ((y : ℕ) → Starts y → Starts′ y)
     → ((y : ℕ) → Ends y → Ends′ y) → ((y : ℕ) → Free y → Free′ y) → (n : ℕ) → Ways Step Starts Ends Free n → Ways Step′ Starts′ Ends′ Free′ n
-ways-as Step Step′ Starts Starts′ Ends Ends′ Free Free′ f g h k n ways = record { routes = ways .routes; count = ways .count; all-ways = λ w m. way w (ways .all-ways w m); disjoint = ways .disjoint }
+ways-as {Step} {Step′} {Starts} {Starts′} {Ends} {Ends′} {Free} {Free′} f g h k n ways = record { routes = ways .routes; count = ways .count; all-ways = λ w m. way w (ways .all-ways w m); disjoint = ways .disjoint }
   where
     walk : (l : List (ℕ × ℕ)) (y : ℕ) → Walk Step y l → Walk Step′ y l
     walk [] y w = tt
@@ -95,11 +95,11 @@ ways-as Step Step′ Starts Starts′ Ends Ends′ Free Free′ f g h k n ways =
 
 module _ (laid taken : List ℕ) (atoms links : ℕ) (table : List ℕ) where
   pub laid-end : (seen : List ℕ) (z : ℕ) → z < links → getD table (2 * sheetLinks + z) 0 ≡ 1 → TrailIn laid taken atoms links table seen seen (suc z)
-  laid-end seen z h e = ([], trail-end (LaidStep laid taken atoms) (Flagged table 1 links) (Flagged table 2 links) (Unflagged table 3 links) (Seen seen) (suc z) (record { place = z; link = refl; place-in = h; flag = e }))
+  laid-end seen z h e = ([], trail-end (Seen seen) (suc z) (record { place = z; link = refl; place-in = h; flag = e }))
 
   -- Nothing is seen, and nothing found.
   pub laid-none : (seen : List ℕ) → FoundIn laid taken atoms links table seen 0
-  laid-none seen = found-none (LaidStep laid taken atoms) (Flagged table 1 links) (Flagged table 2 links) (Unflagged table 3 links) (Seen seen)
+  laid-none seen = found-none (Seen seen)
 
   -- What was seen stays so when a 1 is stored.
   module _ (now : List ℕ) (z : ℕ) (room : length now ≡ sheetLinks) (few : links ≤ sheetLinks) (here : z < links) where
@@ -123,7 +123,7 @@ module _ (laid taken : List ℕ) (atoms links : ℕ) (table : List ℕ) where
       pub laid-stopped : Follows laid taken atoms links table was (set now z 1) false
       laid-stopped = record {
         room = room-kept;
-        stay = found-kept (LaidStep laid taken atoms) (Flagged table 1 links) (Flagged table 2 links) (Unflagged table 3 links) (Seen was) (Seen (set now z 1)) (λ y h. seen-kept y (t .1 .kept y h));
+        stay = found-kept (Seen was) (Seen (set now z 1)) (λ y h. seen-kept y (t .1 .kept y h));
         more = λ e. both-ways e refl;
       }
 
@@ -132,7 +132,7 @@ module _ (laid taken : List ℕ) (atoms links : ℕ) (table : List ℕ) where
         unflagged = record { place = z; link = refl; place-in = here; no-flag = free }
 
         laid-more : (y j : ℕ) → LaidStep laid taken atoms y j (suc z) → TrailIn laid taken atoms links table was (set now z 1) y
-        laid-more y j s = ((j, suc z) ∷ t .0, trail-more (LaidStep laid taken atoms) (Flagged table 1 links) (Flagged table 2 links) (Unflagged table 3 links) (Seen was) (Seen now) (Seen (set now z 1)) (suc z) (t .0) (t .1) unflagged (not-seen new) seen-there seen-kept y j s)
+        laid-more y j s = ((j, suc z) ∷ t .0, trail-more (Seen was) (Seen now) (Seen (set now z 1)) (suc z) (t .0) (t .1) unflagged (not-seen new) seen-there seen-kept y j s)
 
         -- as the loop has it, with links from 0
         pub laid-again : (y j : ℕ) → y ≢ 0 → LaidStep laid taken atoms y j (suc z) → TrailIn laid taken atoms links table was (set now z 1) (suc (y - 1))
@@ -142,13 +142,13 @@ module _ (laid taken : List ℕ) (atoms links : ℕ) (table : List ℕ) where
         laid-found e = record {
           room = room-kept;
           stay = laid-stopped .stay;
-          more = λ b. found-more (LaidStep laid taken atoms) (Flagged table 1 links) (Flagged table 2 links) (Unflagged table 3 links) (Seen was) (Seen now) (Seen (set now z 1)) (suc z) (t .0) (t .1) unflagged (not-seen new) seen-there seen-kept (record { place = z; link = refl; place-in = here; flag = e });
+          more = λ b. found-more (Seen was) (Seen now) (Seen (set now z 1)) (suc z) (t .0) (t .1) unflagged (not-seen new) seen-there seen-kept (record { place = z; link = refl; place-in = here; flag = e });
         }
 
   -- The trail stopped before this.
   pub laid-left : (was now : List ℕ) (y : ℕ) → length now ≡ sheetLinks → TrailIn laid taken atoms links table was now y → Follows laid taken atoms links table was now false
   laid-left was now y room t = record {
     room = room;
-    stay = found-kept (LaidStep laid taken atoms) (Flagged table 1 links) (Flagged table 2 links) (Unflagged table 3 links) (Seen was) (Seen now) (t .1 .kept);
+    stay = found-kept (Seen was) (Seen now) (t .1 .kept);
     more = λ e. both-ways e refl;
   }

@@ -1,12 +1,12 @@
 -- The half of a word, and what it says of the contexts.
 use Prim.Native.Nat.{ℕ, _<_}
-use mathlib.Core.Path.{_≡_, refl, sym, _∙_}
+use mathlib.Core.Path.{_≡_, refl}
 use mathlib.Core.Logic.{_≢_}
 use mathlib.Core.Bool.{Bool, true, false}
 use native.Mathlib.Omega.{arith}
 use lib.Bits.{bitAnd, bitXor}
 use lib.Dec.{eqb}
-use borrow.Author.Tests.{eqb-true, eq-eqb, ne-eqb}
+use borrow.Author.Tests.{eqb-true, ne-eqb}
 use Rattle.candidates.specs.Words.{In, fewer}
 use Rattle.candidates.proofs.Digits.{in-dec, in-some, in-and, in-fewer}
 use Rattle.ways.specs.Halves.{halfBy, halfOf}

@@ -36,7 +36,7 @@ sortedTo words to none side x p = (getD to x 0 ≢ none) × (p ≡ halfOf (getD 
 abbrev pub Sorts : List ℕ → List ℕ → ℕ → ℕ → ℕ → List ℕ → Type 0
 Sorts words to none side count table = (p : ℕ) → (getD table p 0 ≡ 1) ↔ ((x : ℕ) × (x < count) × sortedTo words to none side x p)
 
--- among the first `count` figure links, n at most have a flag and stand on both halves
+-- n numbers, among which are those of the first `count` figure links that have a flag and stand on both halves
 pub record Crossing (words flags : List ℕ) (side count n : ℕ) : Type 0 where
   pub across : List ℕ
   pub number : length across ≡ n

@@ -23,13 +23,14 @@ pub record LaidStep (laid taken : List ℕ) (atoms y j z : ℕ) : Type 0 where
   pub from-link : laidAt laid row (2 + from) ≡ y
   pub into-link : laidAt laid row (2 + into) ≡ z
 
--- link y, from 1, is below n and has a flag of half h; or has none
+-- link y, one of the first n and counted from 1, has a flag of half h
 pub record Flagged (table : List ℕ) (h n y : ℕ) : Type 0 where
   pub place : ℕ
   pub link : y ≡ suc place
   pub place-in : place < n
   pub flag : getD table (h * sheetLinks + place) 0 ≡ 1
 
+-- it has none
 pub record Unflagged (table : List ℕ) (h n y : ℕ) : Type 0 where
   pub place : ℕ
   pub link : y ≡ suc place

@@ -4,7 +4,6 @@ use crate::SORTED;
 use rows::Sheet;
 ghost use Prim.Native.Nat.{_+_, _<_, _≤_};
 ghost use mathlib.Core.Path.{_≡_};
-ghost use lib.ListN.{length};
 ghost use Rattle.rows.specs.Limits.{sheetLinks};
 ghost use Rattle.stepping.specs.Flags.{Within};
 ghost use Rattle.ways.specs.Halves.{halfOf, Sorts, Crossing};

@@ -4,7 +4,7 @@ use Prim.Native.Nat.{_+_, _*_, _-_, _≤_}
 use mathlib.Core.Path.{_≡_, refl, sym, subst}
 use mathlib.Core.Logic.{⊎-elim}
 use native.Mathlib.Omega.{arith}
-use lib.ListN.{length, getD, length-set, replicate}
+use lib.ListN.{length, length-set, replicate}
 use Rattle.rows.specs.Limits.{sheetLinks}
 use Rattle.stepping.proofs.Reading.{marked-only}
 use Rattle.stepping.proofs.Tables.{Marked, marked-start, marked-skip, zeros-not}
