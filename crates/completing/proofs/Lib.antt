@@ -25,3 +25,6 @@ pub mod Leaf
 pub mod Known
 pub mod Remaining
 pub mod Barring
+-- Ways between two halves of the contexts.
+pub mod Halves
+pub mod Ways

@@ -55,6 +55,26 @@ pub remove-head : (x : ℕ) (l : List ℕ) → ¬ (x ∈ l) → remove x (x ∷ 
 unfolding remove
 remove-head x l n = rw (eq-eqb x x refl) (remove-absent x l n)
 
+-- it is no longer, and shorter where x was in the list
+remove-length : (x : ℕ) (l : List ℕ) → length (remove x l) ≤ length l
+unfolding remove
+remove-length x [] = omega arith
+remove-length x (y ∷ l) = go (eqb y x) (remove-length x l)
+  where
+    go : (b : Bool) → length (remove x l) ≤ length l → length (pick b (remove x l) (y ∷ remove x l)) ≤ suc (length l)
+    go true h = omega arith
+    go false h = omega arith
+
+pub remove-shorter : (x : ℕ) (l : List ℕ) → x ∈ l → length (remove x l) < length l
+unfolding remove
+remove-shorter x [] m = absurd (List·Memᴰ·not-nil m)
+remove-shorter x (y ∷ l) m = go (eqb y x) refl (List·Memᴰ·cases-cons m) (λ k. remove-shorter x l k) (remove-length x l)
+  where
+    go : (b : Bool) → eqb y x ≡ b → (x ≡ y) ⊎ (x ∈ l) → (x ∈ l → length (remove x l) < length l) → length (remove x l) ≤ length l → length (pick b (remove x l) (y ∷ remove x l)) < suc (length l)
+    go true e h r w = omega arith
+    go false e (inl h) r w = both-ways (eq-eqb y x (sym h)) e
+    go false e (inr k) r w = let u : length (remove x l) < length l = r k in omega arith
+
 -- The order, by positions.
 pub before-rest : (a b l m : List ℕ) → a ≡ b → Before (a ++ l) (b ++ m) → Before l m
 before-rest [] [] l m e d = d

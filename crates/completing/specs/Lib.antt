@@ -6,3 +6,4 @@ pub mod Leaf
 pub mod Known
 pub mod Remaining
 pub mod OneRow
+pub mod Ways

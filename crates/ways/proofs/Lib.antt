@@ -1,0 +1,7 @@
+-- Words and halves.
+pub mod Words
+pub mod Sorting
+-- Ways, followed and counted.
+pub mod Steps
+pub mod Trails
+pub mod Refusing

@@ -1,0 +1,66 @@
+-- The half of a word, and what it says of the contexts.
+use Prim.Native.Nat.{ℕ, _<_}
+use mathlib.Core.Path.{_≡_, refl}
+use mathlib.Core.Logic.{_≢_}
+use mathlib.Core.Bool.{Bool, true, false}
+use native.Mathlib.Omega.{arith}
+use lib.Bits.{bitAnd, bitXor}
+use lib.Dec.{eqb}
+use borrow.Author.Tests.{eqb-true, ne-eqb}
+use Rattle.candidates.specs.Words.{In, fewer}
+use Rattle.candidates.proofs.Digits.{in-dec, in-some, in-and, in-fewer}
+use Rattle.ways.specs.Halves.{halfBy, halfOf}
+
+pub half-is : (w s : ℕ) (b d : Bool) → eqb (bitAnd w s) 0 ≡ b → eqb (bitXor w (bitAnd w s)) 0 ≡ d → halfBy b d ≡ halfOf w s
+unfolding halfOf fewer
+half-is w s b d e f = rw (e, f) refl
+
+by-few : (b d : Bool) → halfBy b d < 4
+by-few true true = omega arith
+by-few false true = omega arith
+by-few true false = omega arith
+by-few false false = omega arith
+
+pub half-few : (w s : ℕ) → halfOf w s < 4
+unfolding halfOf
+half-few w s = by-few (eqb (bitAnd w s) 0) (eqb (fewer w s) 0)
+
+by-first : (b d : Bool) → halfBy b d ≡ 1 → d ≡ true
+by-first true true e = refl
+by-first false true e = refl
+by-first true false e = absurd (omega arith)
+by-first false false e = absurd (omega arith)
+
+by-second : (b d : Bool) → halfBy b d ≡ 2 → b ≡ true
+by-second true true e = refl
+by-second false true e = absurd (omega arith)
+by-second true false e = refl
+by-second false false e = absurd (omega arith)
+
+module _ (w s : ℕ) where
+  -- all contexts of half 1 are on the first half
+  pub half-first : halfOf w s ≡ 1 → (t : ℕ) → In w t → In s t
+  unfolding halfOf
+  half-first e t i = go (in-dec s t)
+    where
+      none : fewer w s ≡ 0
+      none = eqb-true (fewer w s) 0 (by-first (eqb (bitAnd w s) 0) (eqb (fewer w s) 0) e)
+
+      go : Dec (In s t) → In s t
+      go (yes h) = h
+      go (no n) = absurd (omega (arith, none, in-some (fewer w s) t (in-fewer w s (fewer w s) refl t i n)))
+
+  -- those of half 2 are on the second
+  pub half-second : halfOf w s ≡ 2 → (t : ℕ) → In w t → ¬ In s t
+  unfolding halfOf
+  half-second e t i h = omega (arith, eqb-true (bitAnd w s) 0 (by-second (eqb (bitAnd w s) 0) (eqb (fewer w s) 0) e), in-some (bitAnd w s) t (in-and w s t i h))
+
+  pub half-both : (t u : ℕ) → In w t → In s t → In w u → ¬ In s u → halfOf w s ≡ 3
+  unfolding halfOf
+  half-both t u i h j n = rw (ne-eqb (bitAnd w s) 0 some, ne-eqb (fewer w s) 0 more) refl
+    where
+      some : bitAnd w s ≢ 0
+      some e = omega (arith, e, in-some (bitAnd w s) t (in-and w s t i h))
+
+      more : fewer w s ≢ 0
+      more e = omega (arith, e, in-some (fewer w s) u (in-fewer w s (fewer w s) refl u j n))

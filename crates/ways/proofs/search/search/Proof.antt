@@ -1,0 +1,107 @@
+-- No index leaves its array.
+use borrow.Author.Needs.{needs}
+use Prim.Native.Nat.{_-_, _≤_}
+use Rattle.rows.specs.Limits.{sheetLinks}
+use Rattle.ways.proofs.search.search.Statement.{statement}
+use Rattle.ways.proofs.search.search.Tie as tie
+
+abbrev Inv-loop : tie.InvT-loop
+Inv-loop look₀ laid chains atoms links taken sorted marks tail₀ s₀ look tail s = (s ≤ links) × (tail ≤ sheetLinks)
+
+abbrev μ-loop : tie.MeasureT-loop
+μ-loop look₀ laid chains atoms links taken sorted marks tail₀ s₀ look tail s = links - s
+
+abbrev Inv-loop2 : tie.InvT-loop2
+Inv-loop2 look₀ laid chains atoms links taken sorted marks tail₀ s head₀ look tail head = (head ≤ sheetLinks) × (tail ≤ sheetLinks)
+
+abbrev μ-loop2 : tie.MeasureT-loop2
+μ-loop2 look₀ laid chains atoms links taken sorted marks tail₀ s head₀ look tail head = sheetLinks - head
+
+loop-holds : tie.Need-loop-holds Inv-loop μ-loop Inv-loop2 μ-loop2
+loop-holds c = search needs
+
+start-requires : tie.Need-start-requires Inv-loop μ-loop Inv-loop2 μ-loop2
+start-requires c κs = search needs
+
+add-s : tie.Need-add-s Inv-loop μ-loop Inv-loop2 μ-loop2
+add-s c = search needs
+
+loop-less : tie.Need-loop-less Inv-loop μ-loop Inv-loop2 μ-loop2
+loop-less c = search needs
+
+loop-again : tie.Need-loop-again Inv-loop μ-loop Inv-loop2 μ-loop2
+loop-again c = search needs
+
+loop2-holds : tie.Need-loop2-holds Inv-loop μ-loop Inv-loop2 μ-loop2
+loop2-holds c = search needs
+
+add-wide : tie.Need-add-wide Inv-loop μ-loop Inv-loop2 μ-loop2
+add-wide c = search needs
+
+mul-wide : tie.Need-mul-wide Inv-loop μ-loop Inv-loop2 μ-loop2
+mul-wide c = search needs
+
+element-copy-out-wide : tie.Need-element-copy-out-wide Inv-loop μ-loop Inv-loop2 μ-loop2
+element-copy-out-wide c = search needs
+
+wide-requires : tie.Need-wide-requires Inv-loop μ-loop Inv-loop2 μ-loop2
+wide-requires c κs = search needs
+
+mul-if1 : tie.Need-mul-if1 Inv-loop μ-loop Inv-loop2 μ-loop2
+mul-if1 c = search needs
+
+add-if1 : tie.Need-add-if1 Inv-loop μ-loop Inv-loop2 μ-loop2
+add-if1 c = search needs
+
+element-copy-out-if1 : tie.Need-element-copy-out-if1 Inv-loop μ-loop Inv-loop2 μ-loop2
+element-copy-out-if1 c = search needs
+
+add-result : tie.Need-add-result Inv-loop μ-loop Inv-loop2 μ-loop2
+add-result c = search needs
+
+returns : tie.Need-returns Inv-loop μ-loop Inv-loop2 μ-loop2
+returns c = search needs
+
+onward-requires : tie.Need-onward-requires Inv-loop μ-loop Inv-loop2 μ-loop2
+onward-requires c κs = search needs
+
+add-head : tie.Need-add-head Inv-loop μ-loop Inv-loop2 μ-loop2
+add-head c = search needs
+
+loop2-less : tie.Need-loop2-less Inv-loop μ-loop Inv-loop2 μ-loop2
+loop2-less c = search needs
+
+loop2-again : tie.Need-loop2-again Inv-loop μ-loop Inv-loop2 μ-loop2
+loop2-again c = search needs
+
+returns-2 : tie.Need-returns-2 Inv-loop μ-loop Inv-loop2 μ-loop2
+returns-2 c = search needs
+
+pub search-spec : {M : Type 1} → statement M
+search-spec =
+    tie.close
+    (tie.spec
+    Inv-loop
+    μ-loop
+    Inv-loop2
+    μ-loop2
+    loop-holds
+    start-requires
+    add-s
+    loop-less
+    loop-again
+    loop2-holds
+    add-wide
+    mul-wide
+    element-copy-out-wide
+    wide-requires
+    mul-if1
+    add-if1
+    element-copy-out-if1
+    add-result
+    returns
+    onward-requires
+    add-head
+    loop2-less
+    loop2-again
+    returns-2)

@@ -1,0 +1,116 @@
+-- Invariant: a trail from the link to the end.
+use borrow.Author.Needs.{needs}
+use Prim.Native.Nat.{suc, _-_, _≤_, _<_}
+use mathlib.Core.Path.{_≡_}
+use native.Mathlib.Omega.{arith}
+use lib.ListN.{length, length-set}
+use Rattle.rows.specs.Limits.{sheetLinks}
+use Rattle.ways.specs.Trails.{TrailIn}
+use Rattle.ways.proofs.Trails.{laid-end, laid-left, laid-stopped, laid-found, laid-again}
+use Rattle.ways.proofs.trail.follow.Statement.{statement}
+use Rattle.ways.proofs.trail.follow.Tie as tie
+
+abbrev Inv-loop : tie.InvT-loop
+Inv-loop seen₀ laid atoms links taken sorted marks end z₀ n₀ seen z n = (z < sheetLinks) × (n ≤ links) × (length seen ≡ sheetLinks) × TrailIn laid taken atoms links sorted seen₀ seen (suc z)
+
+abbrev μ-loop : tie.MeasureT-loop
+μ-loop seen₀ laid atoms links taken sorted marks end z₀ n₀ seen z n = links - n
+
+loop-holds : tie.Need-loop-holds Inv-loop μ-loop
+loop-holds c = (omega arith, omega arith, c .pre .3, laid-end (c .args .laid .now) (c .args .taken .now) (c .args .atoms) (c .args .links) (c .args .sorted .now) (c .args .seen .now) (c .args .end) (c .pre .2) (c .pre .4))
+
+returns : tie.Need-returns Inv-loop μ-loop
+returns c = let s = c .before .before .before in let l = c .before .before .loop in laid-left (s .args .laid .now) (s .args .taken .now) (s .args .atoms) (s .args .links) (s .args .sorted .now) (s .args .seen .now) (l .seen) (suc (l .z)) (l .inv .2) (l .inv .3)
+
+mul-if2 : tie.Need-mul-if2 Inv-loop μ-loop
+mul-if2 c = search needs
+
+add-if2 : tie.Need-add-if2 Inv-loop μ-loop
+add-if2 c = search needs
+
+element-copy-out-if2 : tie.Need-element-copy-out-if2 Inv-loop μ-loop
+element-copy-out-if2 c = search needs
+
+returns-2 : tie.Need-returns-2 Inv-loop μ-loop
+returns-2 c = let s = c .before .before .before .before .before in let l = c .before .before .before .before .loop in laid-left (s .args .laid .now) (s .args .taken .now) (s .args .atoms) (s .args .links) (s .args .sorted .now) (s .args .seen .now) (l .seen) (suc (l .z)) (l .inv .2) (l .inv .3)
+
+element-copy-out-if3 : tie.Need-element-copy-out-if3 Inv-loop μ-loop
+element-copy-out-if3 c = search needs
+
+returns-3 : tie.Need-returns-3 Inv-loop μ-loop
+returns-3 c = let s = c .before .before .before .before .before .before .before in let l = c .before .before .before .before .before .before .loop in laid-left (s .args .laid .now) (s .args .taken .now) (s .args .atoms) (s .args .links) (s .args .sorted .now) (s .args .seen .now) (l .seen) (suc (l .z)) (l .inv .2) (l .inv .3)
+
+element-write-seen : tie.Need-element-write-seen Inv-loop μ-loop
+element-write-seen c = search needs
+
+add-if4 : tie.Need-add-if4 Inv-loop μ-loop
+add-if4 c = search needs
+
+element-copy-out-if4 : tie.Need-element-copy-out-if4 Inv-loop μ-loop
+element-copy-out-if4 c = search needs
+
+returns-4 : tie.Need-returns-4 Inv-loop μ-loop
+returns-4 c = let s = c .before .before .before .before .before .before .before .before .before in
+    let l = c .before .before .before .before .before .before .before .before .loop in
+    laid-found (s .args .laid .now) (s .args .taken .now) (s .args .atoms) (s .args .links) (s .args .sorted .now) (l .seen) (l .z) (l .inv .2) (s .pre .1) (let h = c .before .before .before .before .before .before .if1 .left in omega arith) (s .args .seen .now) (l .inv .3) (c .before .before .before .before .if2 .left) (c .before .before .if3 .left) (c .if4 .taken)
+
+mul-step-back : tie.Need-mul-step-back Inv-loop μ-loop
+mul-step-back c = search needs
+
+element-copy-out-step-back : tie.Need-element-copy-out-step-back Inv-loop μ-loop
+element-copy-out-step-back c = search needs
+
+step-back-requires : tie.Need-step-back-requires Inv-loop μ-loop
+step-back-requires c κs = search needs
+
+returns-5 : tie.Need-returns-5 Inv-loop μ-loop
+returns-5 c = let s = c .before .before .before .before .before .before .before .before .before .before .before .before in
+    let l = c .before .before .before .before .before .before .before .before .before .before .before .loop in
+    laid-stopped (s .args .laid .now) (s .args .taken .now) (s .args .atoms) (s .args .links) (s .args .sorted .now) (l .seen) (l .z) (l .inv .2) (s .pre .1) (let h = c .before .before .before .before .before .before .before .before .before .if1 .left in omega arith) (s .args .seen .now) (l .inv .3)
+
+sub-z : tie.Need-sub-z Inv-loop μ-loop
+sub-z c = search needs
+
+add-n : tie.Need-add-n Inv-loop μ-loop
+add-n c = search needs
+
+loop-less : tie.Need-loop-less Inv-loop μ-loop
+loop-less c = search needs
+
+loop-again : tie.Need-loop-again Inv-loop μ-loop
+loop-again c = let s = c .before .before .before .before .before .before .before .before .before .before .before .before in
+    let l = c .before .before .before .before .before .before .before .before .before .before .before .loop in
+    let y = c .before .step-back in
+    let t = y .ensures .1 (c .if5 .left) in
+    (let h = y .ensures .0 in let n = c .if5 .left in omega arith, omega arith, simp length-set (l .inv .2), laid-again (s .args .laid .now) (s .args .taken .now) (s .args .atoms) (s .args .links) (s .args .sorted .now) (l .seen) (l .z) (l .inv .2) (s .pre .1) (let h = c .before .before .before .before .before .before .before .before .before .if1 .left in omega arith) (s .args .seen .now) (l .inv .3) (c .before .before .before .before .before .before .before .if2 .left) (c .before .before .before .before .before .if3 .left) (y .result) (t .0) (c .if5 .left) (t .1))
+
+returns-6 : tie.Need-returns-6 Inv-loop μ-loop
+returns-6 c = let s = c .before .before in let l = c .before .loop in laid-left (s .args .laid .now) (s .args .taken .now) (s .args .atoms) (s .args .links) (s .args .sorted .now) (s .args .seen .now) (l .seen) (suc (l .z)) (l .inv .2) (l .inv .3)
+
+pub follow-spec : {M : Type 1} → statement M
+follow-spec =
+    tie.close
+    (tie.spec
+    Inv-loop
+    μ-loop
+    loop-holds
+    returns
+    mul-if2
+    add-if2
+    element-copy-out-if2
+    returns-2
+    element-copy-out-if3
+    returns-3
+    element-write-seen
+    add-if4
+    element-copy-out-if4
+    returns-4
+    mul-step-back
+    element-copy-out-step-back
+    step-back-requires
+    returns-5
+    sub-z
+    add-n
+    loop-less
+    loop-again
+    returns-6)

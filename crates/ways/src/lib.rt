@@ -1,0 +1,11 @@
+// Ways through the sheet from one half of the contexts to the other.
+mod flow;
+mod halves;
+pub mod outnumbered;
+mod search;
+mod trail;
+
+use rows::Sheet;
+
+// For each half, none and both among them, a flag of each sheet link.
+pub const SORTED: usize = 4 * Sheet::LINKS;

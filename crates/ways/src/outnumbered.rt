@@ -1,0 +1,128 @@
+// Do more ways lead from one half of the contexts to the other than open links stand on both?
+use crate::SORTED;
+use crate::flow::lay_ways;
+use crate::halves::crossing;
+use crate::halves::sorted;
+use crate::trail::ways;
+use candidates::LAID;
+use rows::Sheet;
+use stepping::CHAINS;
+ghost use Prim.Native.Nat.{ℕ, _<_, _≤_};
+ghost use lib.ListN.{getD};
+ghost use Rattle.rows.specs.Limits.{sheetLinks};
+ghost use Rattle.rows.specs.declared.Sheet.{Sheet as NormalForm};
+ghost use Rattle.candidates.specs.Laid.{LaidOut};
+ghost use Rattle.candidates.specs.Words.{In};
+ghost use Rattle.stepping.specs.Standing.{Described, Refuses};
+
+// How many links have a flag of half h and none of both.
+fn ends(sorted: &[u8; SORTED], h: usize) -> usize
+    requires { ⌜ h < 4 ⌝ }
+    ensures { λ r. ⌜ r ≤ sheetLinks ⌝ }
+{
+    let mut n = 0;
+    let mut y = 0;
+    while y < Sheet::LINKS {
+        if sorted[h * Sheet::LINKS + y] == 1 {
+            if sorted[3 * Sheet::LINKS + y] != 1 {
+                n += 1;
+            }
+        }
+        y += 1;
+    }
+    n
+}
+
+// The same for these two halves. Where there are too few starts or ends no way is looked for.
+fn outnumbered_by(
+    atoms: usize,
+    links: usize,
+    count: usize,
+    laid: &[u16; LAID],
+    chains: &[u16; CHAINS],
+    taken: &[u8; Sheet::ATOMS],
+    standing: &[u16; Sheet::LINKS],
+    to: &[u16; Sheet::LINKS],
+    flags: &[u8; Sheet::LINKS],
+    side: u16,
+) -> bool
+    requires { ⌜ ((sheet : NormalForm) × (figure : NormalForm) × Described sheet figure atoms links count (now chains) (now standing) (now to) × LaidOut sheet (now laid) atoms) ⌝ }
+    ensures { λ r. ⌜ ((sheet figure : NormalForm) → Described sheet figure atoms links count (now (chains .entry)) (now (standing .entry)) (now (to .entry)) → LaidOut sheet (now (laid .entry)) atoms → Refuses sheet figure (now (taken .entry)) (now (to .entry)) (now (flags .entry)) r) ⌝ }
+{
+    let table = sorted(count, standing, to, (links + 1) as u16, side);
+    let most = crossing(count, standing, flags, side);
+    if ends(&table, 1) <= most {
+        return false;
+    }
+    if ends(&table, 2) <= most {
+        return false;
+    }
+    let mut marks = [0u16; Sheet::LINKS];
+    lay_ways(
+        &mut marks,
+        laid,
+        chains,
+        atoms,
+        links,
+        taken,
+        &table,
+        most + 1,
+    );
+    most < ways(laid, atoms, links, taken, &table, &marks)
+}
+
+// The contexts on which figure links stand, in one word.
+fn contexts(standing: &[u16; Sheet::LINKS], count: usize) -> u16
+    requires { ⌜ count ≤ sheetLinks ⌝ }
+    ensures { λ r. ⌜ ((x : ℕ) → x < count → (t : ℕ) → In (getD (now (standing .entry)) x 0) t → In r t) ⌝ }
+{
+    let mut all = 0u16;
+    let mut x = 0;
+    while x < count {
+        all = all | standing[x];
+        x += 1;
+    }
+    all
+}
+
+// No completion is left: more ways from one half of the contexts to the other, no two of them with a link in
+// common, than open links that stand on both. The first context is always on the second half.
+pub fn outnumbered(
+    atoms: usize,
+    links: usize,
+    count: usize,
+    laid: &[u16; LAID],
+    chains: &[u16; CHAINS],
+    taken: &[u8; Sheet::ATOMS],
+    standing: &[u16; Sheet::LINKS],
+    to: &[u16; Sheet::LINKS],
+    flags: &[u8; Sheet::LINKS],
+) -> bool
+    requires { ⌜ ((sheet : NormalForm) × (figure : NormalForm) × Described sheet figure atoms links count (now chains) (now standing) (now to) × LaidOut sheet (now laid) atoms) ⌝ }
+    ensures { λ r. ⌜ ((sheet figure : NormalForm) → Described sheet figure atoms links count (now (chains .entry)) (now (standing .entry)) (now (to .entry)) → LaidOut sheet (now (laid .entry)) atoms → Refuses sheet figure (now (taken .entry)) (now (to .entry)) (now (flags .entry)) r) ⌝ }
+{
+    let all = contexts(standing, count);
+    if all == 0 {
+        return false;
+    }
+    let rest = all & (all - 1);
+    let mut side = rest;
+    while side != 0 {
+        if outnumbered_by(
+            atoms,
+            links,
+            count,
+            laid,
+            chains,
+            taken,
+            standing,
+            to,
+            flags,
+            side,
+        ) {
+            return true;
+        }
+        side = (side - 1) & rest;
+    }
+    false
+}
