@@ -1,6 +1,7 @@
 -- Digits of words.
 pub mod Digits
 pub mod Halves
+pub mod Members
 pub mod Staying
 -- What a good placing does at links and atoms.
 pub mod GoodPlaces
@@ -8,5 +9,6 @@ pub mod NetRows
 pub mod Sending
 -- Atoms laid out in one array, and marks.
 pub mod Laying
+pub mod PortRows
 pub mod Framing
 pub mod Marks

@@ -3,4 +3,5 @@ pub mod Words
 pub mod Tables
 pub mod Laid
 pub mod Marks
+pub mod PortSets
 pub mod Frames

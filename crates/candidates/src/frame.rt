@@ -1,12 +1,14 @@
 // A normal form without its atoms, which are laid out and lent beside it.
-use rows::Context;
+use crate::ports::PortSet;
+use crate::ports::port_sets;
 use rows::Sheet;
 ghost use mathlib.Core.Path.{_≡_};
-ghost use Rattle.candidates.specs.Frames.{frameOf};
+ghost use Rattle.network.specs.NetIn.{Fit};
+ghost use Rattle.candidates.specs.Frames.{FrameOf};
 
 pub struct Frame {
     pub atom_count: usize,
-    pub contexts: [Context; Sheet::CONTEXT_ROOM],
+    pub contexts: [PortSet; Sheet::CONTEXT_ROOM],
     pub context_count: usize,
     pub marks: [u16; Sheet::MARK_ROOM],
     pub marked: [u16; Sheet::MARK_ROOM],
@@ -15,9 +17,11 @@ pub struct Frame {
 }
 
 pub fn frame_of(net: Sheet) -> Frame
-    ensures { λ r. ⌜ r ≡ frameOf net ⌝ }
+    requires { ⌜ Fit net ⌝ }
+    ensures { λ r. ⌜ FrameOf net r ⌝ }
 {
-    let contexts = net.contexts;
+    let rows = net.contexts;
+    let contexts = port_sets(rows, net.context_count);
     let marks = net.marks;
     let marked = net.marked;
     Frame {

@@ -2,6 +2,7 @@
 pub mod frame;
 pub mod laid;
 pub mod pairs;
+pub mod ports;
 pub mod words;
 
 use rows::Sheet;

@@ -1,14 +1,16 @@
 // Sets of links, as pairs of words: the first has those below `DIGITS`.
 use crate::LINK_SETS;
 use crate::words::DIGITS;
+use crate::words::first;
 use crate::words::minus;
 use crate::words::one;
 ghost use mathlib.Core.Path.{_≡_};
+ghost use mathlib.Core.Bool.{false};
 ghost use mathlib.Core.List.{[], _∷_};
 ghost use Prim.Native.Nat.{_+_, _*_, _<_};
 ghost use lib.ListN.{getD, set};
 ghost use Rattle.rows.specs.Limits.{sheetLinks};
-ghost use Rattle.candidates.specs.Words.{emptyPair, commonPair, fewerPair, withLink};
+ghost use Rattle.candidates.specs.Words.{pairDigits, InPair, emptyPair, commonPair, fewerPair, withLink, withoutLink};
 
 // The set of link x in the table.
 pub fn pair_at(links: &[u64; LINK_SETS], x: usize) -> [u64; 2]
@@ -54,4 +56,27 @@ pub fn is_empty(a: [u64; 2]) -> bool
     ensures { λ r. ⌜ r ≡ emptyPair a ⌝ }
 {
     a[0] | a[1] == 0
+}
+
+// The first link of a set that has one.
+pub fn first_link(pair: [u64; 2]) -> usize
+    requires { ⌜ emptyPair pair ≡ false ⌝ }
+    ensures { λ r. ⌜ (r < pairDigits) × InPair pair r ⌝ }
+{
+    if pair[0] != 0 {
+        return first(pair[0]);
+    }
+    DIGITS + first(pair[1])
+}
+
+// A set without link y.
+pub fn without_link(pair: [u64; 2], y: usize) -> [u64; 2]
+    requires { ⌜ y < pairDigits ⌝ }
+    ensures { λ r. ⌜ r ≡ withoutLink pair y ⌝ }
+{
+    let bit = one(y % DIGITS);
+    if y < DIGITS {
+        return [minus(pair[0], bit), pair[1]];
+    }
+    [pair[0], minus(pair[1], bit)]
 }

@@ -7,14 +7,13 @@ use native.Mathlib.Omega.{arith}
 use lib.ListN.{length}
 use Rattle.hyperlmntal.specs.Link.{_∈_}
 use Rattle.placing.specs.Net.{Net, Range, Normal}
-use Rattle.placing.specs.Placing.{Placing, cellAt, linkTo, givenTo, Taken, At, PortAt, Inside, Good}
-use Rattle.placing.proofs.Standing.{mark-link}
+use Rattle.placing.specs.Placing.{Placing, cellAt, givenTo, Taken, At, PortAt, Inside, Good}
 use Rattle.completing.specs.Completion.{Partial, Completion}
 use Rattle.completing.specs.Reach.{stay, move}
 use Rattle.completing.specs.Fault.{Used, Other, Beside, Joined, Allowed, AllLinked, LeastContext, LeastGiven, completed}
 use Rattle.completing.proofs.Reaching.{reach-then, reach-back}
 use Rattle.completing.proofs.Decide.{used-dec}
-use Rattle.completing.proofs.Kept.{linked-map, taken-same, unused-other}
+use Rattle.completing.proofs.Kept.{linked-map, taken-same, unused-other, unused-unmarked}
 
 module _ (S F : Net) (q : Placing) where
   pub beside-back : (j j′ : ℕ) → Beside S F q j j′ → Beside S F q j′ j
@@ -57,12 +56,8 @@ module _ (S F : Net) (q : Placing) where
         go : Dec (Used S F q y) → PortAt S F whole (givenTo whole j) y ⊎ Inside S F whole (givenTo whole j) y
         go (yes u) = let r = w .least-given j o .allowed j (o .0) stay y m u in
             inl (record { row = r .row; of-figure = r .of-figure; number = r .number; link = r .link; port = r .port; there = r .there })
-        go (no u) = inr (record { no-figure-link = λ x k e. u (x, k, e); no-mark = unmarked; only-there = only })
+        go (no u) = inr (record { no-figure-link = λ x k e. u (x, k, e); no-mark = unused-unmarked S F NS NF q (a .same-marks) y u; only-there = only })
           where
-            unmarked : (k : ℕ) → ¬ ((y, k) ∈ S .marks)
-            unmarked k h = let b = a .same-marks .backward y k h in
-                u (b .0, mark-link F NF (b .0) k (b .1), NS .one-link (linkTo q (b .0)) y k (a .same-marks .onward (b .0) k (b .1)) h)
-
             only : (j′ : ℕ) → Range (length (S .atoms)) j′ → y ∈ (cellAt (S .atoms) j′) .1 → (¬ Taken S F whole j′) × (givenTo whole j′ ≡ givenTo whole j)
             only j′ r m′ = (
               (λ t. n (to-q j′ t)),

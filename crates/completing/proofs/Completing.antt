@@ -6,8 +6,8 @@ use Rattle.hyperlmntal.specs.Link.{_∈_}
 use Rattle.placing.specs.Net.{Net, Normal}
 use Rattle.placing.specs.Placing.{Placing, linkTo}
 use Rattle.completing.specs.Completion.{Partial, Completable, put, remove, SameContexts}
-use Rattle.completing.specs.Fault.{Torn, Fault, NoFault, completed}
-use Rattle.completing.proofs.Needs.{torn-never, fault-needs}
+use Rattle.completing.specs.Fault.{Fault, NoFault, completed}
+use Rattle.completing.proofs.Needs.{fault-needs}
 use Rattle.completing.proofs.Put.{completion-put}
 use Rattle.completing.proofs.Interchange.{interchange}
 use Rattle.completing.proofs.Completed.{completed-completion}
@@ -30,10 +30,6 @@ module _ (S F : Net) (NS : Normal S) (NF : Normal F) (q : Placing) (un : List �
   kinds-suffice f kinds in-un each c =
       let s = fault-completable f c in let t = s .2 in let r = each (s .0) (s .1) in
       (r .0, r .1, (t .0, t .1, interchange S F NF q un a (s .0) (r .0) (t .0) (s .1) (in-un (r .0) (r .1)) (r .2) (t .2)))
-
-  -- With torn links it cannot be completed at all.
-  pub torn-refused : (y : ℕ) → Torn S F q un y → ¬ Completable S F q un
-  torn-refused y t c = torn-never S F NS NF q un a (c .0) (c .1) y t
 
 -- Where all links are settled a fault is the end of it.
 pub fault-settled : (S F : Net) → Normal S → Normal F → (q : Placing) → Partial S F q [] → {v : List ℕ} → Fault S F q v → ¬ Completable S F q []

@@ -5,8 +5,8 @@ use mathlib.Core.List.{List, Memᴰ·of-map}
 use lib.ListN.{length}
 use Rattle.hyperlmntal.specs.Link.{_∈_}
 use Rattle.placing.specs.Net.{NetCell, Net, Range, Normal}
-use Rattle.placing.specs.Placing.{Placing, numberAt, cellAt, atomTo, linkTo, Taken, At, Linked, here, step, Across}
-use Rattle.placing.proofs.Standing.{place-link}
+use Rattle.placing.specs.Placing.{Placing, numberAt, cellAt, atomTo, linkTo, Taken, At, Linked, here, step, Across, SameMarks}
+use Rattle.placing.proofs.Standing.{mark-link, place-link}
 use Rattle.completing.specs.Fault.{Used}
 
 module _ (S F : Net) where
@@ -41,3 +41,8 @@ module _ (S F : Net) where
     -- so an atom on a link to which no figure link goes is not taken
     pub unused-other : (y : ℕ) → ¬ Used S F q y → (j : ℕ) → y ∈ (cellAt (S .atoms) j) .1 → ¬ Taken S F q j
     unused-other y u j m t = u (taken-used j y t m)
+
+  -- a link to which no figure link goes has no mark
+  pub unused-unmarked : Normal S → Normal F → (q : Placing) → SameMarks S F q → (y : ℕ) → ¬ Used S F q y → (m : ℕ) → ¬ ((y, m) ∈ S .marks)
+  unused-unmarked NS NF q marks y u m h = let b = marks .backward y m h in
+      u (b .0, mark-link F NF (b .0) m (b .1), NS .one-link (linkTo q (b .0)) y m (marks .onward (b .0) m (b .1)) h)

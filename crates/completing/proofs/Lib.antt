@@ -8,6 +8,8 @@ pub mod Needs
 -- One link settled.
 pub mod Put
 pub mod Interchange
+-- Links that need not be tried.
+pub mod OneRow
 -- Without a fault.
 pub mod Completed
 pub mod NoFault

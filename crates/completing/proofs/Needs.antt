@@ -12,7 +12,7 @@ use Rattle.placing.specs.Placing.{Placing, cellAt, linkTo, givenTo, Taken, At, 
 use Rattle.placing.proofs.Standing.{context-link, place-link}
 use Rattle.completing.specs.Completion.{Partial, Completion}
 use Rattle.completing.specs.Reach.{Reach, stay, move}
-use Rattle.completing.specs.Fault.{Used, Other, Beside, TwoApart, Torn, Through, CutOff, Fault, apart, cut-off}
+use Rattle.completing.specs.Fault.{Used, Other, Beside, TwoApart, Through, CutOff, Fault, apart, cut-off}
 use Rattle.completing.proofs.Decide.{member-dec}
 use Rattle.completing.proofs.Kept.{linked-map, taken-same}
 
@@ -27,9 +27,6 @@ module _ (S F : Net) (NS : Normal S) (NF : Normal F) (q : Placing) (un : List �
 
   at-kept : (x y : ℕ) → At S F q x y → At S F p x y
   at-kept x y h = record { figure-link = h .figure-link; sheet-link = h .sheet-link; there = kept x y (h .figure-link) (h .there) (h .sheet-link .1) }
-
-  pub torn-never : (y : ℕ) → ¬ Torn S F q un y
-  torn-never y f = f .never-linked p (c .settled) (c .good .linked (f .one) (f .two) y (at-kept (f .one) y (f .one-at)) (at-kept (f .two) y (f .two-at)))
 
   pub two-apart-needs : (y : ℕ) → TwoApart S F q y → (x : ℕ) × (x ∈ un) × (linkTo p x ≡ y)
   two-apart-needs y f = go (some-dec (λ x. linkTo p x ≡ y) (λ x. ℕ-discrete (linkTo p x) y) un)

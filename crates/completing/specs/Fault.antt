@@ -38,14 +38,6 @@ module _ (S F : Net) (q : Placing) where
     pub two-at : At S F q two y
     pub not-linked : ¬ Linked S F q y one two
 
-  -- two figure links go to y and are not linked there, wherever the links of `un` go
-  pub record Torn (un : List ℕ) (y : ℕ) : Type 0 where
-    pub one : ℕ
-    pub two : ℕ
-    pub one-at : At S F q one y
-    pub two-at : At S F q two y
-    pub never-linked : (p : Placing) → ((x : ℕ) → Range (F .links) x → ¬ (x ∈ un) → linkTo p x ≡ linkTo q x) → ¬ Linked S F p y one two
-
   -- a step to an atom of a set, over a link that was looked at
   pub record Through (set seen : List ℕ) (j j′ : ℕ) : Type 0 where
     pub beside : Beside j j′

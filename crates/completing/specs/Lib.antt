@@ -5,3 +5,4 @@ pub mod Growing
 pub mod Leaf
 pub mod Known
 pub mod Remaining
+pub mod OneRow

@@ -3,6 +3,7 @@ use Prim.Native.Nat.{ℕ, suc, _+_, _-_, _≤_, _<_}
 use mathlib.Core.Path.{_≡_, refl, sym, _∙_, ap, subst}
 use mathlib.Core.Logic.{_≢_}
 use mathlib.Core.List.{List}
+use mathlib.Core.Bool.{true}
 use native.Mathlib.Decide.{decLt}
 use native.Mathlib.Omega.{arith}
 use native.Mathlib.Numerals.{add-one}
@@ -12,9 +13,10 @@ use Rattle.rows.proofs.Padding.{getD-filled}
 use Rattle.placing.specs.Net.{Range}
 use Rattle.placing.specs.Placing.{numberAt}
 use Rattle.network.specs.Ready.{Flag}
+use Rattle.candidates.specs.Words.{pairDigits, InPair, PartOf, emptyPair, withoutLink}
+use Rattle.candidates.proofs.Members.{Seen, part-self, part-less, seen-none, seen-more, seen-all}
 use Rattle.deciding.specs.Flags.{Among, Twice, Different, Opens}
-use Rattle.deciding.specs.Links.{Places}
-use Rattle.deciding.specs.Kinds.{StandingIn}
+use Rattle.deciding.specs.Kinds.{FlagsOf}
 use Rattle.deciding.proofs.Sets.{set-cases, below-cases}
 
 among-more : (l : List ℕ) (n j : ℕ) → Among l n j → Among l (n + 1) j
@@ -71,36 +73,39 @@ module _ (l : List ℕ) where
         both i j h k e (no a) (yes b) = let f : i ≡ n = omega arith in absurd (new j b (sym e ∙ ap (λ (z : ℕ). getD l z 0) f))
         both i j h k e (no a) (no b) = omega arith
 
--- which links stand in a row
-module _ (links : List ℕ) where
-  pub standing-start : (flags : List ℕ) → flags ≡ replicate sheetLinks 0 → StandingIn links 0 flags
-  standing-start flags e = record {
+-- the links of a set that are not left have a flag, and no other has
+pub record Flagging (ports rest flags : List ℕ) : Type 0 where
+  pub part : PartOf rest ports
+  pub room : length flags ≡ sheetLinks
+  pub small : (x : ℕ) → getD flags x 0 ≤ 1
+  pub seen : Seen (λ x. getD flags x 0 ≡ 1) ports rest
+  pub of-flag : (x : ℕ) → getD flags x 0 ≡ 1 → InPair ports x
+
+module _ (ports : List ℕ) where
+  pub flagging-start : (flags : List ℕ) → flags ≡ replicate sheetLinks 0 → Flagging ports ports flags
+  flagging-start flags e = record {
+    part = part-self ports;
     room = ap length e ∙ length-replicate {A = ℕ} sheetLinks 0;
     small = λ x. omega (arith, ap (λ (k : List ℕ). getD k x 0) e, getD-filled {A = ℕ} 0 sheetLinks x);
-    flag-of = λ k x h f. absurd (omega arith);
+    seen = seen-none (λ x. getD flags x 0 ≡ 1) ports;
     of-flag = λ x f. no-flag sheetLinks x (ap (λ (k : List ℕ). getD k x 0) (sym e) ∙ f);
   }
 
-  pub standing-next : (count : ℕ) → Places count links → (k : ℕ) → k < count → (flags : List ℕ) → StandingIn links k flags → StandingIn links (k + 1) (set flags (getD links k 0 - 1) 1)
-  standing-next count p k h flags s = record {
-    room = length-set flags x 1 ∙ s .room;
-    small = λ z. set-cases (λ (v : ℕ). v ≤ 1) flags x 1 z fits (λ e. omega arith) (λ e. s .small z);
-    flag-of = λ i z u f. set-cases (λ (v : ℕ). v ≡ 1) flags x 1 z fits (λ e. refl) (λ e. s .flag-of i z (before i z u f e (decLt i k)) f);
-    of-flag = λ z. set-cases (λ (v : ℕ). v ≡ 1 → Among links (k + 1) (suc z)) flags x 1 z fits (λ e w. (k, omega arith, number ∙ ap suc (sym e))) (λ e w. among-more links k (suc z) (s .of-flag z w));
+  pub flagging-next : (rest flags : List ℕ) → Flagging ports rest flags → (x : ℕ) → x < pairDigits → x < sheetLinks → InPair rest x → (less : List ℕ) → less ≡ withoutLink rest x → Flagging ports less (set flags x 1)
+  flagging-next rest flags f x small h i less e = record {
+    part = part-less ports rest x small less e (f .part);
+    room = length-set flags x 1 ∙ f .room;
+    small = λ z. set-cases (λ (v : ℕ). v ≤ 1) flags x 1 z fits (λ w. omega arith) (λ w. f .small z);
+    seen = seen-more ports rest x small less e (λ z. getD flags z 0 ≡ 1) (λ z. getD (set flags x 1) z 0 ≡ 1) (f .seen)
+        (λ z l m q. set-cases (λ (v : ℕ). v ≡ 1) flags x 1 z fits (λ w. refl) (λ w. q)) (set-cases (λ (v : ℕ). v ≡ 1) flags x 1 x fits (λ w. refl) (λ w. absurd (w refl)));
+    of-flag = λ z. set-cases (λ (v : ℕ). v ≡ 1 → InPair ports z) flags x 1 z fits (λ w q. subst (InPair ports) (sym w) (f .part x small i)) (λ w q. f .of-flag z q);
   }
     where
-      x : ℕ
-      x = getD links k 0 - 1
+      fits : x < length flags
+      fits = omega (arith, h, f .room)
 
-      number : getD links k 0 ≡ suc (getD links k 0 - 1)
-      number = omega (arith, p .numbered k h)
-
-      fits : getD links k 0 - 1 < length flags
-      fits = omega (arith, p .numbered k h, s .room)
-
-      before : (i z : ℕ) → i < k + 1 → getD links i 0 ≡ suc z → z ≢ getD links k 0 - 1 → Dec (i < k) → i < k
-      before i z u f d (yes w) = w
-      before i z u f d (no w) = let e : i ≡ k = omega arith in absurd (d (let g : getD links k 0 ≡ suc z = ap (λ (j : ℕ). getD links j 0) (sym e) ∙ f in omega arith))
+  pub flagging-end : (rest flags : List ℕ) → emptyPair rest ≡ true → Flagging ports rest flags → FlagsOf ports flags
+  flagging-end rest flags e f = record { room = f .room; small = f .small; flag-of = seen-all (λ x. getD flags x 0 ≡ 1) ports rest e (f .seen); of-flag = f .of-flag }
 
 -- which links are open: those up to n are done
 pub record Opening (l : List ℕ) (none n : ℕ) (to flags : List ℕ) : Type 0 where

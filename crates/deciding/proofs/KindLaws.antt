@@ -1,5 +1,5 @@
 -- Links with the same number are on the same contexts.
-use Prim.Native.Nat.{ℕ, zero, suc, _+_, _≤_, _<_}
+use Prim.Native.Nat.{ℕ, zero, suc, _+_, _-_, _≤_, _<_}
 use mathlib.Core.Path.{_≡_, sym, _∙_, ap, subst}
 use mathlib.Core.List.{List}
 use native.Mathlib.Decide.{decLt}
@@ -8,15 +8,16 @@ use lib.ListN.{length, getD, take, set, replicate, length-set, length-replicate}
 use Rattle.hyperlmntal.specs.Link.{_∈_}
 use Rattle.rows.specs.Limits.{sheetLinks, figureContexts}
 use Rattle.rows.proofs.Padding.{getD-filled}
-use Rattle.rows.specs.declared.Context.{Context}
 use Rattle.rows.specs.declared.Sheet as form
 use Rattle.placing.specs.Net.{NetCell}
-use Rattle.placing.proofs.Lists.{member-at, getD-of}
-use Rattle.network.specs.NetIn.{contextIn, rowAt, contextAt, Used, Fit, Ports}
-use Rattle.network.proofs.NetIn.{used-length, used-at, used-in, context-of}
-use Rattle.deciding.specs.Flags.{Among}
+use Rattle.network.specs.NetIn.{contextIn, contextAt, Used}
+use Rattle.network.proofs.NetIn.{context-of}
+use Rattle.candidates.specs.PortSets.{setAt, PortIn, ContextsIn}
+use Rattle.candidates.specs.declared.ports.PortSet.{PortSet}
+use Rattle.candidates.proofs.Halves.{in-pair}
+use Rattle.candidates.proofs.PortRows.{port-in, in-port}
 use Rattle.deciding.specs.Links.{Places}
-use Rattle.deciding.specs.Kinds.{StandingIn, doubledBy, Doubled, twoTo, KindsTo, KindsIn}
+use Rattle.deciding.specs.Kinds.{FlagsOf, doubledBy, Doubled, twoTo, KindsTo, KindsIn}
 use Rattle.deciding.proofs.Sets.{set-cases, below-or}
 
 -- numbers that are doubled in place: those before x are done
@@ -54,22 +55,19 @@ two-more c (suc d) h = go (decLt c (suc d)) (λ k. two-more c d k)
 pub places-of : (n count : ℕ) (links : List ℕ) → n ≤ sheetLinks → Used n count links → Places count links
 places-of n count links few u = record { few = u .few; numbered = λ k h. let r = u .numbered k h in (r .0, omega (arith, r .1)) }
 
-module _ (contexts : List Context) where
-  pub kinds-start : (l : List ℕ) → l ≡ replicate sheetLinks 0 → KindsTo contexts 0 l
+module _ (sets : List PortSet) where
+  pub kinds-start : (l : List ℕ) → l ≡ replicate sheetLinks 0 → KindsTo sets 0 l
   kinds-start l e = record {
     room = ap length e ∙ length-replicate {A = ℕ} sheetLinks 0;
     small = λ x h. omega (arith, ap (λ (k : List ℕ). getD k x 0) e, getD-filled {A = ℕ} 0 sheetLinks x);
     same = λ x z i h k f u. absurd (omega arith);
   }
 
-  pub row-places : (rows links : ℕ) → Ports contexts rows links → (c : ℕ) → c < rows → Places (rowAt contexts c .count) (rowAt contexts c .links)
-  row-places rows links p c h = places-of links (rowAt contexts c .count) (rowAt contexts c .links) (p .links-few) (p .used c h)
-
-  module _ (c : ℕ) (l flags : List ℕ) (k : KindsTo contexts c l) (s : StandingIn (rowAt contexts c .links) (rowAt contexts c .count) flags) (less : c < figureContexts) where
+  module _ (c : ℕ) (l flags : List ℕ) (k : KindsTo sets c l) (s : FlagsOf (setAt sets c .links) flags) (less : c < figureContexts) where
     pub kinds-small : (x : ℕ) → x < sheetLinks → (getD l x 0 < 256) × (getD flags x 0 ≤ 1)
     kinds-small x h = (omega (arith, k .small x h, two-more c figureContexts (omega arith)), s .small x)
 
-    pub kinds-next : (r : List ℕ) → Doubled l flags r → KindsTo contexts (suc c) r
+    pub kinds-next : (r : List ℕ) → Doubled l flags r → KindsTo sets (suc c) r
     kinds-next r d = record {
       room = d .room;
       small = λ x h. omega (arith, d .each x h, k .small x h, s .small x);
@@ -79,32 +77,18 @@ module _ (contexts : List Context) where
         parts : (x z : ℕ) → x < sheetLinks → z < sheetLinks → getD r x 0 ≡ getD r z 0 → (getD l x 0 ≡ getD l z 0) × (getD flags x 0 ≡ getD flags z 0)
         parts x z h u e = let a = d .each x h in let b = d .each z u in let v = s .small x in let w = s .small z in (omega arith, omega arith)
 
-        go : (x z i : ℕ) → x < sheetLinks → z < sheetLinks → getD r x 0 ≡ getD r z 0
-            → Among (rowAt contexts i .links) (rowAt contexts i .count) (suc x) → Dec (i < c) → i < suc c → Among (rowAt contexts i .links) (rowAt contexts i .count) (suc z)
+        go : (x z i : ℕ) → x < sheetLinks → z < sheetLinks → getD r x 0 ≡ getD r z 0 → PortIn sets i x → Dec (i < c) → i < suc c → PortIn sets i z
         go x z i h u e m (yes b) w = k .same x z i h u (parts x z h u e .0) b m
         go x z i h u e m (no b) w =
             let q : c ≡ i = omega arith in
-            let t = subst (λ (j : ℕ). Among (rowAt contexts j .links) (rowAt contexts j .count) (suc x)) (sym q) m in
-            subst (λ (j : ℕ). Among (rowAt contexts j .links) (rowAt contexts j .count) (suc z)) q
-            (s .of-flag z (sym (parts x z h u e .1) ∙ s .flag-of (t .0) x (t .1) (t .2)))
+            subst (λ (j : ℕ). PortIn sets j z) q (s .of-flag z (sym (parts x z h u e .1) ∙ s .flag-of x (in-pair h) (subst (λ (j : ℕ). PortIn sets j x) (sym q) m)))
 
-module _ (figure : form.Sheet) (fit : Fit figure) where
-  -- a link of a context, by its place
-  among-in : (i : ℕ) → i < figure .«context_count» → (y : ℕ) → Among (contextAt figure i .links) (contextAt figure i .count) y → y ∈ contextIn (contextAt figure i) .1
-  among-in i h y t = subst (λ (z : ℕ). z ∈ contextIn (contextAt figure i) .1) (t .2) (used-in (figure .«class_count») (contextAt figure i .count) (contextAt figure i .links) (fit .contexts i h) (t .0) (t .1))
-
-  in-among : (i : ℕ) → i < figure .«context_count» → (y : ℕ) → y ∈ contextIn (contextAt figure i) .1 → Among (contextAt figure i .links) (contextAt figure i .count) y
-  in-among i h y m =
-      let links = contextAt figure i .links in
-      let count = contextAt figure i .count in
-      let u = fit .contexts i h in
-      let t = member-at (take count links) y m in
-      let k : t .0 < count = omega (arith, t .1, used-length (figure .«class_count») count links u) in
-      (t .0, k, sym (used-at (figure .«class_count») count links u (t .0) k) ∙ getD-of (take count links) (t .0) 0 y (t .2))
-
-  pub kinds-end : (l : List ℕ) → KindsTo (figure .contexts) (figure .«context_count») l → KindsIn figure l
-  kinds-end l k = record { room = k .room; same = λ x z h u e row m. (one x z h u e row (context-of figure fit row m), one z x u h (sym e) row (context-of figure fit row m)) }
-    where
-      one : (x z : ℕ) → x < sheetLinks → z < sheetLinks → getD l x 0 ≡ getD l z 0 → (row : NetCell) → (i : ℕ) × (i < figure .«context_count») × (contextIn (contextAt figure i) ≡ row) → suc x ∈ row .1 → suc z ∈ row .1
-      one x z h u e row (i, w, f) m = subst (λ (c : NetCell). suc z ∈ c .1) f (among-in i w (suc z)
-          (k .same x z i h u e w (in-among i w (suc x) (subst (λ (c : NetCell). suc x ∈ c .1) (sym f) m))))
+pub kinds-end : {figure : form.Sheet} {sets : List PortSet} {rows links : ℕ} → ContextsIn figure sets rows links → (l : List ℕ) → KindsTo sets rows l → KindsIn figure l
+kinds-end {figure} {sets} {rows} o l k = record { room = k .room; same = λ x z h u e row m. (one x z h u e row (context-of figure (o .fit) row m), one z x u h (sym e) row (context-of figure (o .fit) row m)) }
+  where
+    one : (x z : ℕ) → x < sheetLinks → z < sheetLinks → getD l x 0 ≡ getD l z 0 → (row : NetCell) → (i : ℕ) × (i < figure .«context_count») × (contextIn (contextAt figure i) ≡ row) → suc x ∈ row .1 → suc z ∈ row .1
+    one x z h u e row (i, w, f) m =
+        let v : i < rows = omega (arith, w, o .row-count) in
+        let p = in-port o i (suc x) v (subst (λ (c : NetCell). suc x ∈ c .1) (sym f) m) in
+        let q : suc x - 1 ≡ x = omega arith in
+        subst (λ (c : NetCell). suc z ∈ c .1) f (port-in o i z v (in-pair u) (k .same x z i h u e v (subst (PortIn sets i) q (p .2))))

@@ -1,24 +1,28 @@
 // Links of one kind stand on the same contexts.
-use rows::Context;
+use candidates::pairs::first_link;
+use candidates::pairs::is_empty;
+use candidates::pairs::without_link;
+use candidates::ports::PortSet;
 use rows::Sheet;
 ghost use Prim.Native.Nat.{ℕ, _<_, _≤_};
 ghost use mathlib.Core.Path.{_≡_};
 ghost use lib.ListN.{length, getD, replicate};
 ghost use Rattle.rows.specs.Limits.{sheetLinks};
 ghost use Rattle.rows.specs.declared.Sheet.{Sheet as NormalForm};
-ghost use Rattle.network.specs.NetIn.{Ports, ContextsIn};
-ghost use Rattle.deciding.specs.Links.{Places};
-ghost use Rattle.deciding.specs.Kinds.{StandingIn, Doubled, KindsIn};
+ghost use Rattle.candidates.specs.PortSets.{Below, Ports, ContextsIn};
+ghost use Rattle.deciding.specs.Kinds.{FlagsOf, Doubled, KindsIn};
 
-// A flag for each link that is among the first `count`.
-fn flag_links(flags: &mut [u8; Sheet::LINKS], links: [u16; Sheet::MOST_LINKS], count: usize)
-    requires { ⌜ Places count links × (now flags ≡ replicate sheetLinks 0) ⌝ }
-    ensures { λ _. ⌜ StandingIn links count (now (flags .exit)) ⌝ }
+// A flag for each link of the set.
+fn flag_links(flags: &mut [u8; Sheet::LINKS], set: [u64; 2])
+    requires { ⌜ Below sheetLinks set × (now flags ≡ replicate sheetLinks 0) ⌝ }
+    ensures { λ _. ⌜ FlagsOf set (now (flags .exit)) ⌝ }
 {
-    let mut k = 0;
-    while k < count {
-        flags[(links[k] - 1) as usize] = 1;
-        k += 1;
+    let mut rest = set;
+    while !is_empty(rest) {
+        let x = first_link(rest);
+        let less = without_link(rest, x);
+        rest = less;
+        flags[x] = 1;
     }
 }
 
@@ -42,7 +46,7 @@ fn double(kinds: &mut [u16; Sheet::LINKS], flags: &[u8; Sheet::LINKS])
 }
 
 // For each figure link the contexts on which it stands, as a sum of powers of two.
-pub fn kinds(contexts: [Context; Sheet::CONTEXT_ROOM], rows: usize) -> [u16; Sheet::LINKS]
+pub fn kinds(contexts: [PortSet; Sheet::CONTEXT_ROOM], rows: usize) -> [u16; Sheet::LINKS]
     requires { ⌜ ((links : ℕ) × Ports contexts rows links) ⌝ }
     ensures { λ r. ⌜ ((figure : NormalForm) (links : ℕ) → ContextsIn figure contexts rows links → KindsIn figure r) ⌝ }
 {
@@ -52,7 +56,7 @@ pub fn kinds(contexts: [Context; Sheet::CONTEXT_ROOM], rows: usize) -> [u16; She
         let row = contexts[c];
         let links = row.links;
         let mut flags = [0u8; Sheet::LINKS];
-        flag_links(&mut flags, links, row.count as usize);
+        flag_links(&mut flags, links);
         double(&mut k, &flags);
         c += 1;
     }

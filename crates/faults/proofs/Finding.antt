@@ -13,8 +13,9 @@ use Rattle.placing.specs.Net.{NetCell, Net, Range}
 use Rattle.placing.specs.Placing.{Placing, numberAt, cellAt}
 use Rattle.network.specs.NetIn.{netIn}
 use Rattle.network.specs.Ready.{Ready, TakenIn, stateIn}
-use Rattle.network.proofs.NetIn.{atoms-length, contexts-length, of-net, to-net}
+use Rattle.network.proofs.NetIn.{atoms-length, contexts-length}
 use Rattle.candidates.specs.Laid.{Rowed}
+use Rattle.candidates.specs.PortSets.{ContextsIn}
 use Rattle.candidates.proofs.Laying.{laid-rowed}
 use Rattle.completing.specs.Completion.{Partial}
 use Rattle.completing.specs.Fault as faults
@@ -27,9 +28,9 @@ use Rattle.faults.specs.Grows.{Tables}
 use Rattle.faults.specs.Gives.{GivesAt, TakenFlags, HeldIn}
 use Rattle.faults.specs.declared.nets.Nets.{Nets}
 use Rattle.faults.specs.Finds.{Over, Finds}
-use Rattle.stepping.proofs.Reading.{context-cell, used-read, port-read}
+use Rattle.stepping.proofs.Reading.{cell-number, used-read, port-read}
 use Rattle.stepping.proofs.Chaining.{laid-in}
-use Rattle.stepping.proofs.Linking.{ApartIn, all-linked, two-apart}
+use Rattle.stepping.proofs.Linking.{all-linked, two-apart}
 
 module _ {sheet figure : form.Sheet} {nets : Nets} {laid chains to : List ℕ} (over : Over sheet figure nets laid chains to) where
   abbrev S : Net
@@ -47,11 +48,11 @@ module _ {sheet figure : form.Sheet} {nets : Nets} {laid chains to : List ℕ} (
   last : none ≡ S .links + 1
   last = ap (λ (n : ℕ). n + 1) (sym (over .nets-in .sheet-links))
 
-  within : Within none (figure .«class_count») to
-  within x h = let r = over .links-in .within x h in (r .0, omega (arith, r .1, over .nets-in .sheet-links))
+  abbrev of-figure : ContextsIn figure (nets .contexts) (nets .rows) (nets .count)
+  of-figure = over .nets-in .contexts-in
 
   pub to-within : Within none (nets .count) to
-  to-within = of-net (over .nets-in .contexts-in) (λ contexts rows links. Within none links to) within
+  to-within x h = let r = over .links-in .within x (omega (arith, h, of-figure .link-count)) in (r .0, omega (arith, r .1, over .nets-in .sheet-links))
 
   pub none-room : none ≤ sheetLinks + 1
   none-room = omega (arith, ready .sheet-fit .class-count, over .nets-in .sheet-links)
@@ -69,14 +70,12 @@ module _ {sheet figure : form.Sheet} {nets : Nets} {laid chains to : List ℕ} (
   falls = chained .nodes
 
   pub held-in : HeldIn S F laid (nets .atoms) (nets .links) (numberOf (nets .contexts)) (nets .rows)
-  held-in = let c = of-net (over .nets-in .contexts-in) (λ contexts rows links. (length (F .contexts) ≡ rows) × ((c : ℕ) → c < rows → (cellAt (F .contexts) (suc c)) .0 ≡ numberOf contexts c))
-      (contexts-length figure (ready .figure-fit), λ c h. ap (λ (r : NetCell). r .0) (context-cell figure (ready .figure-fit) c h)) in
-      record {
-        link-count = over .nets-in .sheet-links;
-        atom-rows = laid-in sheet laid (nets .atoms) (over .nets-in .laid-out);
-        choice-count = c .0;
-        choice-number = c .1;
-      }
+  held-in = record {
+    link-count = over .nets-in .sheet-links;
+    atom-rows = laid-in sheet laid (nets .atoms) (over .nets-in .laid-out);
+    choice-count = contexts-length figure (ready .figure-fit) ∙ of-figure .row-count;
+    choice-number = cell-number of-figure;
+  }
 
   pub apart-room : (y : ℕ) → y ≢ 0 → Apart (nets .contexts) (nets .rows) (nets .count) to none y → y - 1 < sheetLinks
   apart-room y n w =
@@ -87,9 +86,6 @@ module _ {sheet figure : form.Sheet} {nets : Nets} {laid chains to : List ℕ} (
       let h = none-room in
       omega (arith, r .0, r .1)
 
-  apart-in : (y : ℕ) → Apart (nets .contexts) (nets .rows) (nets .count) to none y → ApartIn figure to none y
-  apart-in y w = to-net (over .nets-in .contexts-in) (λ contexts rows links. Apart contexts rows links to none y) w
-
   module _ (atoms un : List ℕ) where
     abbrev q : Placing
     q = stateIn figure atoms to
@@ -99,7 +95,7 @@ module _ {sheet figure : form.Sheet} {nets : Nets} {laid chains to : List ℕ} (
       none-found = λ e. absurd (let z : _≡_ {A = ℕ} 0 1 = cc in omega arith);
       some-found = λ e. (
         y ∷ [],
-        faults.apart y (two-apart S figure (ready .figure-fit) atoms to none last within y n (apart-in y w)),
+        faults.apart y (two-apart S of-figure atoms to none last to-within y n w),
         λ z m.
             subst (λ (i : ℕ). _≡_ {A = ℕ} (getD (set (replicate sheetLinks 0) (y - 1) 1) (i - 1) 0) 1) (sym (List·Memᴰ·eq-of-singleton m)) (getD-set-same (replicate sheetLinks 0) (y - 1) 1 0 (apart-room y n w)),
       );
@@ -118,9 +114,8 @@ module _ {sheet figure : form.Sheet} {nets : Nets} {laid chains to : List ℕ} (
         narrow = λ j h. let w = held-in .atom-rows j h .width in let k = rowed .atoms j h .few in omega arith;
       };
       chained = chained;
-      used-flag = λ y h. used-read figure (ready .figure-fit) S atoms to none y (omega (arith, over .nets-in .sheet-links)) used (to-net (over .nets-in .contexts-in) (λ contexts rows links. (z : ℕ) → (getD used z 0 ≡ 1) ↔ ((x : ℕ) × (x < links) × goesTo to none x z)) u);
-      port-flag = λ c y i h. port-read figure (ready .figure-fit) S atoms to none c y (omega (arith, i, over .nets-in .contexts-in .row-count)) (omega (arith, over .nets-in .sheet-links)) none-room within ports
-          (to-net (over .nets-in .contexts-in) (λ contexts rows links. (p : ℕ) → (getD ports p 0 ≡ 1) ↔ ((c : ℕ) × (c < rows) × portOfNumber contexts rows to none c p)) v);
+      used-flag = λ y h. used-read figure (ready .figure-fit) S atoms to none y (omega (arith, over .nets-in .sheet-links)) used (subst (λ (n : ℕ). (z : ℕ) → (getD used z 0 ≡ 1) ↔ ((x : ℕ) × (x < n) × goesTo to none x z)) (sym (of-figure .link-count)) u);
+      port-flag = λ c y i h. port-read of-figure S atoms to none c y i (omega (arith, over .nets-in .sheet-links)) none-room to-within ports v;
     }
 
     pub taken-flags : (taken : List ℕ) → TakenIn sheet figure q taken → TakenFlags S F q (nets .atoms) taken
@@ -131,7 +126,7 @@ module _ {sheet figure : form.Sheet} {nets : Nets} {laid chains to : List ℕ} (
     pub served-found : (r : Fault) → Apart (nets .contexts) (nets .rows) (nets .count) to none 0 → GivesAt S F q r → Finds sheet figure q r
     served-found r w g = record {
       none-found = λ e. let k = g .none-found e in (
-        record { linked = all-linked S figure (ready .figure-fit) atoms to none last within (apart-in 0 w); served = λ j o. let l = k .0 j o in (numberAt (r .given) j, l .number, l .allowed) },
+        record { linked = all-linked S of-figure atoms to none last to-within w; served = λ j o. let l = k .0 j o in (numberAt (r .given) j, l .number, l .allowed) },
         record {
           atoms-given = length-take-le (sheet .«atom_count») (r .given) (let h = ready .sheet-fit .atom-count in let room = g .room in omega arith) ∙ sym (atoms-length sheet (ready .sheet-fit));
           not-given = λ j o t. same j o ∙ k .1 j o t;

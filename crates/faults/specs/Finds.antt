@@ -7,9 +7,10 @@ use lib.ListN.{take}
 use Rattle.hyperlmntal.specs.Link.{_∈_}
 use Rattle.rows.specs.declared.Sheet as form
 use Rattle.placing.specs.Placing.{Placing}
-use Rattle.network.specs.NetIn.{netIn, ContextsIn}
+use Rattle.network.specs.NetIn.{netIn}
 use Rattle.network.specs.Ready.{Ready, LinksIn, TakenIn, stateIn, Flag}
 use Rattle.candidates.specs.Laid.{LaidOut}
+use Rattle.candidates.specs.PortSets.{ContextsIn}
 use Rattle.completing.specs.Completion.{Partial}
 use Rattle.completing.specs.Fault as faults
 use Rattle.stepping.specs.Chains.{ChainsIn}

@@ -7,10 +7,10 @@ use mathlib.Core.Bool.{true, false}
 use lib.ListN.{length, getD}
 use Rattle.hyperlmntal.specs.Link.{_∈_}
 use Rattle.rows.specs.Limits.{sheetAtoms}
-use Rattle.rows.specs.declared.Context.{Context}
 use Rattle.placing.specs.Net.{Net, Range}
 use Rattle.placing.specs.Placing.{Placing, numberAt, cellAt, Taken}
 use Rattle.network.specs.Ready.{Flag}
+use Rattle.candidates.specs.declared.ports.PortSet.{PortSet}
 use Rattle.completing.specs.Fault.{Other, CutOff, LeastContext}
 use Rattle.stepping.specs.Contexts.{numberOf}
 use Rattle.faults.specs.Grows.{Growth, Tables, RowsIn}
@@ -62,7 +62,7 @@ pub record HeldIn (S F : Net) (laid : List ℕ) (atoms links : ℕ) (number : �
   pub choice-count : length (F .contexts) ≡ rows
   pub choice-number : (c : ℕ) → c < rows → (cellAt (F .contexts) (suc c)) .0 ≡ number c
 
-abbrev pub Gives : List ℕ → ℕ → ℕ → List Context → ℕ → List ℕ → List ℕ → List ℕ → List ℕ → Fault → Type 0
+abbrev pub Gives : List ℕ → ℕ → ℕ → List PortSet → ℕ → List ℕ → List ℕ → List ℕ → List ℕ → Fault → Type 0
 Gives laid atoms links choices rows chains used ports taken r =
     (S F : Net) (q : Placing) → HeldIn S F laid atoms links (numberOf choices) rows → Tables S F q chains used ports atoms rows → TakenFlags S F q atoms taken
     → GivesAt S F q r

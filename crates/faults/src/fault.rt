@@ -17,7 +17,7 @@ ghost use mathlib.Core.List.{List};
 ghost use Prim.Native.Nat.{ℕ, _+_, _<_, _≤_};
 ghost use lib.ListN.{length, getD};
 ghost use Rattle.rows.specs.Limits.{sheetAtoms, sheetLinks, figureContexts};
-ghost use Rattle.rows.specs.declared.Context.{Context};
+ghost use Rattle.candidates.specs.declared.ports.PortSet.{PortSet};
 ghost use Rattle.rows.specs.declared.Sheet.{Sheet as NormalForm};
 ghost use Rattle.candidates.specs.Laid.{Rowed};
 ghost use Rattle.stepping.specs.Chains.{nodeOf, Falls};
@@ -141,7 +141,7 @@ fn served(
     taken: [u8; Sheet::ATOMS],
 ) -> Fault
     requires { ⌜ Rowed (now laid) atoms × (links ≤ sheetLinks) × (rows ≤ figureContexts) × Falls (nodeOf atoms 0) (now chains) ⌝ }
-    ensures { λ r. ⌜ ((choices : List Context) → ((c : ℕ) → c < rows → getD (now (numbers .entry)) c 0 ≡ numberOf choices c) → Gives (now (laid .entry)) atoms links choices rows (now (chains .entry)) (now (used .entry)) (now (ports .entry)) taken r) ⌝ }
+    ensures { λ r. ⌜ ((choices : List PortSet) → ((c : ℕ) → c < rows → getD (now (numbers .entry)) c 0 ≡ numberOf choices c) → Gives (now (laid .entry)) atoms links choices rows (now (chains .entry)) (now (used .entry)) (now (ports .entry)) taken r) ⌝ }
 {
     let mut contexts = [0u16; Sheet::ATOMS];
     let mut done = [0u8; Sheet::ATOMS];

@@ -1,5 +1,5 @@
 // What is read of a sheet and a figure beside atoms and marks.
-use rows::Context;
+use candidates::ports::PortSet;
 use rows::Sheet;
 
 // The sheet's counts of atoms and links, and the figure's contexts, of which there are `rows`, and its count
@@ -7,7 +7,7 @@ use rows::Sheet;
 pub struct Nets {
     pub atoms: usize,
     pub links: usize,
-    pub contexts: [Context; Sheet::CONTEXT_ROOM],
+    pub contexts: [PortSet; Sheet::CONTEXT_ROOM],
     pub rows: usize,
     pub count: usize,
 }

@@ -28,7 +28,7 @@ use Rattle.placing.proofs.Theorems.{pattern-net}
 use Rattle.placing.proofs.SmallestLaws.{smallest-good}
 use Rattle.network.specs.NetIn.{netIn}
 use Rattle.network.specs.Ready.{Ready, LinksIn}
-use Rattle.network.proofs.NetRead.{net-read, fit-read, normal-read}
+use Rattle.network.proofs.NetRead.{net-read, fit-read, narrow-read, normal-read}
 use Rattle.matching.specs.Search.{placedIn}
 use Rattle.matching.specs.declared.search.Found.{Found}
 use Rattle.listing.specs.Writing.{Columns, fillingsText}
@@ -62,6 +62,7 @@ module _ (sheet pattern : form.Sheet) (s p : List ℕ) (I : PlaceInputs sheet pa
       (record {
         names = λ i h. rw (atom-at (sheetHeld s) i h) (let r = atom-range Plain (sheetHeld s) (held-within Plain noPorts s) i h .name in omega (arith, r .1));
         numbers = λ i h. rw (context-at (patternHeld p) i h) (let r = context-range Pattern (patternHeld p) (held-within Pattern noPorts p) i h .number in omega (arith, r .1));
+        ports = narrow-read Pattern noPorts p refl;
       })
 
   -- What the search found.

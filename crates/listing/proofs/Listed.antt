@@ -25,7 +25,7 @@ use Rattle.placing.proofs.Standing.{context-link}
 use Rattle.network.specs.NetIn.{netIn, contextIn, contextAt, Used}
 use Rattle.network.specs.Ready.{Ready, LinksIn}
 use Rattle.network.proofs.NetIn.{contexts-length, used-length}
-use Rattle.listing.specs.Writing.{fillingsText, standsAt, fillingBytes, listBytes}
+use Rattle.listing.specs.Writing.{Columns, fillingsText, standsAt, fillingBytes, listBytes}
 use Rattle.listing.proofs.Given.{list-bytes}
 use Rattle.listing.proofs.Texts.{list-append}
 use Rattle.listing.proofs.Ranks.{by-number-length, context-at}
@@ -45,7 +45,7 @@ text-put l new text more at p room e =
 abbrev pub textTo : form.Sheet → form.Sheet → List ℕ → List ℕ → ℕ → List ℕ
 textTo sheet figure linksTo given i = listBytes sheet linksTo given (take i (byNumber (netIn figure .contexts)))
 
-module _ (sheet figure : form.Sheet) (ready : Ready sheet figure) (linksTo given : List ℕ) (room : length given ≡ sheetAtoms) (apart : Apart (netIn figure .contexts)) where
+module _ (sheet figure : form.Sheet) (ready : Ready sheet figure) (linksTo given : List ℕ) (room : length given ≡ sheetAtoms) (apart : Apart (netIn figure .contexts)) (columns : Columns sheet figure) where
   abbrev ordered : List NetCell
   ordered = byNumber (netIn figure .contexts)
 
@@ -62,7 +62,7 @@ module _ (sheet figure : form.Sheet) (ready : Ready sheet figure) (linksTo given
   few-ports c m =
       let t = member-at (netIn figure .contexts) c m in
       let h : t .0 < figure .«context_count» = omega (arith, t .1, contexts-length figure (ready .figure-fit)) in
-      let u = ready .figure-fit .contexts (t .0) h in
+      let u = columns .ports (t .0) h in
       let e : contextIn (contextAt figure (t .0)) ≡ c = sym (context-at (figure .contexts) (figure .«context_count») (omega (arith, ready .figure-fit .context-count, ready .figure-fit .context-room)) (t .0) h) ∙ getD-of (netIn figure .contexts) (t .0) (0, []) c (t .2) in
       subst (λ d. length (d .1) ≤ mostLinks) e (omega (arith, used-length (figure .«class_count») (contextAt figure (t .0) .count) (contextAt figure (t .0) .links) u, u .few))
 
@@ -88,10 +88,10 @@ module _ (sheet figure : form.Sheet) (ready : Ready sheet figure) (linksTo given
       ∙ sym (list-bytes sheet figure (ready .sheet-fit) atoms linksTo given room ordered (λ c m x k. context-link (netIn figure) (ready .figure-normal) c x (by-number-out (netIn figure .contexts) c m) k))
 
 -- Where the ports of a context stand.
-module _ (sheet figure : form.Sheet) (ready : Ready sheet figure) (linksTo : List ℕ) (to : LinksIn sheet figure linksTo) (j : ℕ) (h : j < figure .«context_count») where
+module _ (sheet figure : form.Sheet) (ready : Ready sheet figure) (columns : Columns sheet figure) (linksTo : List ℕ) (to : LinksIn sheet figure linksTo) (j : ℕ) (h : j < figure .«context_count») where
   pub links-used : Used sheetLinks (contextAt figure j .count) (contextAt figure j .links)
   links-used =
-      let u = ready .figure-fit .contexts j h in
+      let u = columns .ports j h in
       record { few = u .few; width = u .width; numbered = λ k q. let r = u .numbered k q in (r .0, omega (arith, r .1, ready .figure-fit .class-count)) }
 
   pub stands-low : (k : ℕ) → k < contextAt figure j .count → standsAt (sheet .«class_count») linksTo (getD (contextAt figure j .links) k 0) < numberRoom

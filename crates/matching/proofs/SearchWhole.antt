@@ -18,10 +18,10 @@ use Rattle.network.specs.NetIn.{netIn}
 use Rattle.network.specs.Begun.{leastAfter}
 use Rattle.network.proofs.NetIn.{atoms-length}
 use Rattle.network.specs.Ready.{Ready, AtomsIn}
-use Rattle.candidates.specs.Frames.{frameOf, whole}
+use Rattle.candidates.specs.Frames.{FrameOf, whole}
 use Rattle.candidates.specs.Laid.{LaidOut}
 use Rattle.candidates.specs.declared.frame.Frame.{Frame}
-use Rattle.candidates.proofs.Framing.{whole-net}
+use Rattle.candidates.proofs.Framing.{whole-smallest}
 use Rattle.matching.specs.Search.{behind, searchFrom, foundList, foundIn, placedIn}
 use Rattle.matching.specs.declared.search.Found.{Found}
 
@@ -58,8 +58,8 @@ pub laid-ready : (sheet figure : form.Sheet) (laid : List ℕ) (n : ℕ) (parts 
 laid-ready sheet figure laid n parts m os of = record { sheet-fit = os .fit; figure-fit = of .fit; sheet-normal = os .normal; figure-normal = of .normal }
 
 -- The same of a sheet and a figure, and of their frames with the atoms as they are laid out.
-pub placed-whole : (sheet figure : form.Sheet) (laid parts : List ℕ) → LaidOut sheet laid (sheet .«atom_count») → LaidOut figure parts (figure .«atom_count») → (s f : Frame) → s ≡ frameOf sheet → f ≡ frameOf figure → (r : Found)
+pub placed-whole : (sheet figure : form.Sheet) (laid parts : List ℕ) → LaidOut sheet laid (sheet .«atom_count») → LaidOut figure parts (figure .«atom_count») → (s f : Frame) → FrameOf sheet s → FrameOf figure f → (r : Found)
     → placedIn (whole s laid) (whole f parts) r ≡ smallest (netIn (whole s laid)) (netIn (whole f parts)) → placedIn sheet figure r ≡ smallest (netIn sheet) (netIn figure)
 placed-whole sheet figure laid parts os of s f d e r h =
-    let counts : placedIn sheet figure r ≡ placedIn (whole s laid) (whole f parts) r = rw (d, e) refl in
-    counts ∙ (h ∙ (ap (λ (n : Net). smallest n (netIn (whole f parts))) (whole-net sheet laid os s d) ∙ ap (smallest (netIn sheet)) (whole-net figure parts of f e)))
+    let counts : placedIn sheet figure r ≡ placedIn (whole s laid) (whole f parts) r = rw (d .is, e .is) refl in
+    counts ∙ (h ∙ whole-smallest sheet figure laid parts os of s f d e)

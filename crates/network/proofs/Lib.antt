@@ -1,4 +1,5 @@
 pub mod NetIn
+pub mod SamePorts
 pub mod Nowhere
 pub mod NetRead
 pub mod Swapped

@@ -3,15 +3,14 @@ use Prim.Native.Nat.{ℕ, zero, suc, _+_, _-_, _≤_, _<_}
 use mathlib.Core.Path.{_≡_, refl, ap, sym, _∙_, subst}
 use mathlib.Core.List.{List, [], _∷_}
 use native.Mathlib.Omega.{arith}
-use lib.ListN.{length, getD, take, length-map, length-take, List·getD-map}
+use lib.ListN.{length, getD, take, length-map, List·getD-map}
 use lib.Seq.{getD-take, length-take-le}
 use Rattle.hyperlmntal.specs.Link.{_∈_}
-use Rattle.rows.specs.declared.Context.{Context}
 use Rattle.rows.specs.declared.Sheet as form
 use Rattle.placing.specs.Net.{NetCell, Range}
 use Rattle.placing.specs.Placing.{cellAt}
 use Rattle.placing.proofs.Lists.{member-at, getD-of}
-use Rattle.network.specs.NetIn.{atomIn, contextIn, paired, netIn, atomAt, contextAt, Used, Fit, Ports, ContextsIn}
+use Rattle.network.specs.NetIn.{atomIn, contextIn, paired, netIn, atomAt, contextAt, Used, Numbered, Fit}
 use Rattle.reading.proofs.normal.Merging.{getD-in}
 
 -- The pairs of two lists.
@@ -26,23 +25,33 @@ paired-at (x ∷ l) [] i h k = absurd (omega arith)
 paired-at (x ∷ l) (y ∷ m) zero h k = refl
 paired-at (x ∷ l) (y ∷ m) (suc i) h k = paired-at l m i (omega arith) (omega arith)
 
--- The links of an atom or a context that are used.
+-- The first `count` of a list, by their places.
+module _ (count : ℕ) (links : List ℕ) (room : count ≤ length links) where
+  pub place-in : (k : ℕ) → k < count → getD links k 0 ∈ take count links
+  place-in k h = subst (λ (y : ℕ). y ∈ take count links) (getD-take count links k 0 h) (getD-in (take count links) k 0 (omega (arith, length-take-le count links room)))
+
+  pub in-place : (y : ℕ) → y ∈ take count links → (k : ℕ) × (k < count) × (getD links k 0 ≡ y)
+  in-place y m =
+      let t = member-at (take count links) y m in
+      let h : t .0 < count = omega (arith, t .1, length-take-le count links room) in
+      (t .0, h, sym (getD-take count links (t .0) 0 h) ∙ getD-of (take count links) (t .0) 0 y (t .2))
+
+-- The links of an atom that are used.
 module _ (n count : ℕ) (links : List ℕ) (u : Used n count links) where
+  pub used-numbered : Numbered n count links
+  used-numbered = record { there = omega (arith, u .few, u .width); numbered = u .numbered }
+
   pub used-length : length (take count links) ≡ count
-  used-length = omega (arith, length-take count links, u .few, u .width)
+  used-length = length-take-le count links (used-numbered .there)
 
   pub used-at : (k : ℕ) → k < count → getD (take count links) k 0 ≡ getD links k 0
   used-at k h = getD-take count links k 0 h
 
   pub used-range : (y : ℕ) → y ∈ take count links → Range n y
-  used-range y m =
-      let t = member-at (take count links) y m in
-      let h : t .0 < count = omega (arith, t .1, used-length) in
-      let e : getD links (t .0) 0 ≡ y = sym (used-at (t .0) h) ∙ getD-of (take count links) (t .0) 0 y (t .2) in
-      subst (Range n) e (u .numbered (t .0) h)
+  used-range y m = let t = in-place count links (used-numbered .there) y m in subst (Range n) (t .2) (u .numbered (t .0) (t .1))
 
   pub used-in : (k : ℕ) → k < count → getD links k 0 ∈ take count links
-  used-in k h = subst (λ (y : ℕ). y ∈ take count links) (used-at k h) (getD-in (take count links) k 0 (omega (arith, used-length)))
+  used-in k h = place-in count links (used-numbered .there) k h
 
 module _ (n : form.Sheet) (f : Fit n) where
   pub atoms-length : length (netIn n .atoms) ≡ n .«atom_count»
@@ -94,6 +103,15 @@ module _ (n : form.Sheet) (f : Fit n) where
             ∙ getD-of (netIn n .contexts) (t .0) (0, []) row (t .2)),
       )
 
+  pub context-in : (i : ℕ) → i < n .«context_count» → contextIn (contextAt n i) ∈ netIn n .contexts
+  context-in i h = subst (λ (r : NetCell). r ∈ netIn n .contexts) (context-index i h) (getD-in (netIn n .contexts) (i + 1 - 1) (0, []) (omega (arith, contexts-length)))
+
+  pub context-range : (i : ℕ) → i < n .«context_count» → (y : ℕ) → y ∈ contextIn (contextAt n i) .1 → Range (n .«class_count») y
+  context-range i h y m =
+      let u = f .contexts i h in
+      let t = in-place (contextAt n i .count) (contextAt n i .links) (u .there) y m in
+      subst (Range (n .«class_count»)) (t .2) (u .numbered (t .0) (t .1))
+
   pub atom-used : (t : ℕ) → Range (n .«atom_count») t → Used (n .«class_count») (atomAt n (t - 1) .count) (atomAt n (t - 1) .links)
   atom-used t r = f .atoms (t - 1) (let h : 1 ≤ t = r .0 in let k : t ≤ n .«atom_count» = r .1 in omega arith)
 
@@ -111,16 +129,3 @@ module _ (n : form.Sheet) (f : Fit n) where
       let t = member-at (netIn n .marks) e m in
       let h : t .0 < n .«mark_count» = omega (arith, t .1, marks-length) in
       (t .0, h, sym (mark-at (t .0) h) ∙ getD-of (netIn n .marks) (t .0) (0, 0) e (t .2))
-
--- What holds of a net's contexts and links holds of those that were read, and back.
-module _ {net : form.Sheet} {contexts : List Context} {rows links : ℕ} (c : ContextsIn net contexts rows links) (P : List Context → ℕ → ℕ → Type 0) where
-  pub of-net : P (net .contexts) (net .«context_count») (net .«class_count») → P contexts rows links
-  of-net p = subst (P contexts rows) (c .link-count) (subst (λ (n : ℕ). P contexts n (net .«class_count»)) (c .row-count)
-      (subst (λ (l : List Context). P l (net .«context_count») (net .«class_count»)) (c .same-contexts) p))
-
-  pub to-net : P contexts rows links → P (net .contexts) (net .«context_count») (net .«class_count»)
-  to-net p = subst (λ (l : List Context). P l (net .«context_count») (net .«class_count»)) (sym (c .same-contexts))
-      (subst (λ (n : ℕ). P contexts n (net .«class_count»)) (sym (c .row-count)) (subst (P contexts rows) (sym (c .link-count)) p))
-
-pub ports-of : {net : form.Sheet} {contexts : List Context} {rows links : ℕ} → ContextsIn net contexts rows links → Ports contexts rows links
-ports-of c = of-net c Ports (record { few = c .fit .context-count; links-few = c .fit .class-count; room = c .fit .context-room; used = c .fit .contexts })

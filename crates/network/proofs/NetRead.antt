@@ -38,7 +38,8 @@ use Rattle.normalising.proofs.normal_text.NormalWritten.{mapped-at, taken-padde
 use Rattle.texts.proofs.NormalFits.{every-member, upTo, upTo-length, upTo-in}
 use Rattle.placing.specs.Net.{NetCell, Net, Range, standing, edgeNumbers, normalNet, Normal}
 use Rattle.placing.proofs.NormalNets.{standing-node, node-standing, atomNumbers, contextNumbers, linkNumber, normal-graph, normal-atoms, normal-contexts, normal-net}
-use Rattle.network.specs.NetIn.{atomIn, contextIn, paired, netIn, Used, Fit}
+use Rattle.network.specs.NetIn.{atomIn, contextIn, paired, netIn, contextAt, Used, Fit}
+use Rattle.network.proofs.NetIn.{used-numbered}
 
 -- As many classes as links of the net.
 module _ (h : Held) where
@@ -147,6 +148,11 @@ module _ (kind : Kind) (h : Held) (w : WithinLimits kind h) (A : Agrees h) (plai
             (number-range (classOf (graphOf h .fusions)) (graphOf h) (inner (getD links k 0)) (port-shown (graphOf h) (ports k p)));
       }
 
+  pub context-held : (k : ℕ) → k < length (h .contexts) → let c = contextAt (packedNormal h) k in Used (classCount (graphOf h)) (c .count) (c .links)
+  context-held k p =
+      let c = getD (h .contexts) k pastContexts in
+      rw (context-at h k p) (used-held (c .count) (c .links) (context-range kind h w k p .count) (context-room kind h w k p) (λ j q. context-port h k j pastContexts p q (omega (arith, context-room kind h w k p))))
+
   pub fit-held : Fit (packedNormal h)
   fit-held =
       let atoms : length (h .atoms) ≤ sheetAtoms = omega (arith, w .atoms, limits-most kind .0) in
@@ -162,9 +168,7 @@ module _ (kind : Kind) (h : Held) (w : WithinLimits kind h) (A : Agrees h) (plai
         atoms = λ k p.
             let a = getD (h .atoms) k pastAtoms in
             rw (atom-at h k p) (used-held (a .count) (a .links) (atom-range kind h w k p .count) (atom-room kind h w k p) (λ j q. atom-port h k j pastAtoms p q (omega (arith, atom-room kind h w k p))));
-        contexts = λ k p.
-            let c = getD (h .contexts) k pastContexts in
-            rw (context-at h k p) (used-held (c .count) (c .links) (context-range kind h w k p .count) (context-room kind h w k p) (λ j q. context-port h k j pastContexts p q (omega (arith, context-room kind h w k p))));
+        contexts = λ k p. used-numbered _ _ _ (context-held k p);
         marked = λ k p. subst (Range (classCount (graphOf h))) (sym (marked-at h k p)) (number-range (classOf (graphOf h .fusions)) (graphOf h) (markNode (getD (normalMarks h) k 0)) (mark-shown (graphOf h) (getD (normalMarks h) k 0) (getD-in (normalMarks h) k 0 p)));
       }
 
@@ -174,6 +178,10 @@ net-read kind pattern text = net-held kind (outcomeOf kind pattern text .held) (
 
 pub fit-read : (kind : Kind) (pattern text : List ℕ) → isList kind ≡ false → Fit (packedNormal (outcomeOf kind pattern text .held))
 fit-read kind pattern text plain = fit-held kind (outcomeOf kind pattern text .held) (held-within kind pattern text) (agrees-read kind pattern text plain) plain
+
+-- a context of what was read has at most as many links as a row
+pub narrow-read : (kind : Kind) (pattern text : List ℕ) → isList kind ≡ false → let n = packedNormal (outcomeOf kind pattern text .held) in (k : ℕ) → k < n .«context_count» → Used (n .«class_count») (contextAt n k .count) (contextAt n k .links)
+narrow-read kind pattern text plain = context-held kind (outcomeOf kind pattern text .held) (held-within kind pattern text) (agrees-read kind pattern text plain) plain
 
 pub normal-read : (kind : Kind) (pattern text : List ℕ) → Normal (netIn (packedNormal (outcomeOf kind pattern text .held)))
 normal-read kind pattern text = subst Normal (sym (net-read kind pattern text)) (normal-net (outcomeOf kind pattern text .held))

@@ -48,6 +48,11 @@ pub record Used (n count : ℕ) (links : List ℕ) : Type 0 where
   pub width : length links ≡ mostLinks
   pub numbered : (k : ℕ) → k < count → Range n (getD links k 0)
 
+-- The same of a row of any width.
+pub record Numbered (n count : ℕ) (links : List ℕ) : Type 0 where
+  pub there : count ≤ length links
+  pub numbered : (k : ℕ) → k < count → Range n (getD links k 0)
+
 -- The counts are within the limits of a sheet and the room of the arrays, and the links that are used are numbers of links.
 pub record Fit (n : form.Sheet) : Type 0 where
   pub atom-count : n .«atom_count» ≤ sheetAtoms
@@ -59,19 +64,5 @@ pub record Fit (n : form.Sheet) : Type 0 where
   pub mark-room : length (n .marks) ≡ markRoom
   pub marked-room : length (n .marked) ≡ markRoom
   pub atoms : (i : ℕ) → i < n .«atom_count» → Used (n .«class_count») (atomAt n i .count) (atomAt n i .links)
-  pub contexts : (i : ℕ) → i < n .«context_count» → Used (n .«class_count») (contextAt n i .count) (contextAt n i .links)
+  pub contexts : (i : ℕ) → i < n .«context_count» → Numbered (n .«class_count») (contextAt n i .count) (contextAt n i .links)
   pub marked : (i : ℕ) → i < n .«mark_count» → Range (n .«class_count») (getD (n .marked) i 0)
-
--- so many contexts, whose links are numbers of links, of which there are `links`
-pub record Ports (contexts : List Context) (rows links : ℕ) : Type 0 where
-  pub few : rows ≤ figureContexts
-  pub links-few : links ≤ sheetLinks
-  pub room : length contexts ≡ contextRoom
-  pub used : (i : ℕ) → i < rows → Used links (rowAt contexts i .count) (rowAt contexts i .links)
-
--- the contexts of a net, and its count of links
-pub record ContextsIn (net : form.Sheet) (contexts : List Context) (rows links : ℕ) : Type 0 where
-  pub fit : Fit net
-  pub same-contexts : net .contexts ≡ contexts
-  pub row-count : net .«context_count» ≡ rows
-  pub link-count : net .«class_count» ≡ links

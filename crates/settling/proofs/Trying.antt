@@ -10,9 +10,11 @@ use Rattle.rows.specs.Limits.{sheetLinks}
 use Rattle.rows.specs.declared.Sheet as form
 use Rattle.hyperlmntal.specs.Link.{_∈_}
 use Rattle.placing.proofs.FirstLaws.{both-ways}
-use Rattle.network.specs.NetIn.{netIn, ContextsIn}
+use Rattle.network.specs.NetIn.{netIn}
 use Rattle.network.specs.Ready.{Ready, LinksIn, stateIn}
 use Rattle.candidates.specs.Laid.{LaidOut}
+use Rattle.candidates.specs.PortSets.{ContextsIn}
+use Rattle.candidates.specs.declared.ports.PortSet.{PortSet}
 use Rattle.stepping.specs.Chains.{ChainsIn}
 use Rattle.stepping.specs.Standing.{Standing, Described, Refuses}
 use Rattle.completing.proofs.Completing.{no-fault-completable}
@@ -26,14 +28,9 @@ use Rattle.deciding.proofs.Flagged.{flagged-out}
 use Rattle.settling.proofs.States.{links-set, working-put, put-back, way-out, earlier-refused}
 
 -- what is read of a net, as it stands there
-pub nets-of : (sheet figure : form.Sheet) → Ready sheet figure → (laid : List ℕ) → LaidOut sheet laid (sheet .«atom_count»)
-    → NetsIn sheet figure (record { atoms = sheet .«atom_count»; links = sheet .«class_count»; contexts = figure .contexts; rows = figure .«context_count»; count = figure .«class_count» }) laid
-nets-of sheet figure r laid o = record {
-  ready = r;
-  laid-out = o;
-  sheet-links = refl;
-  contexts-in = record { fit = r .figure-fit; same-contexts = refl; row-count = refl; link-count = refl };
-}
+pub nets-of : (sheet figure : form.Sheet) → Ready sheet figure → (laid : List ℕ) → LaidOut sheet laid (sheet .«atom_count») → (sets : List PortSet) → ContextsIn figure sets (figure .«context_count») (figure .«class_count»)
+    → NetsIn sheet figure (record { atoms = sheet .«atom_count»; links = sheet .«class_count»; contexts = sets; rows = figure .«context_count»; count = figure .«class_count» }) laid
+nets-of sheet figure r laid o sets c = record { ready = r; laid-out = o; sheet-links = refl; contexts-in = c }
 
 -- once the chains are made
 pub over-of : {sheet figure : form.Sheet} {nets : Nets} {laid to : List ℕ} (chains : List ℕ) → ((s : form.Sheet) → LaidOut s laid (nets .atoms) → ChainsIn s chains) → NetsIn sheet figure nets laid → LinksIn sheet figure to

@@ -13,10 +13,6 @@ use Rattle.candidates.specs.Tables.{AtomIn, LinkIn}
 use Rattle.candidates.proofs.Digits.{none-in}
 use Rattle.candidates.proofs.Halves.{stored, pair-stored, stored-other}
 
--- no link is in two words of zeros
-pub empty-pair : (y : ℕ) → ¬ InPair (replicate 2 0) y
-empty-pair y m = none-in (y % wordDigits) (subst (λ (w : ℕ). In w (y % wordDigits)) (getD-filled {A = ℕ} 0 2 (y / wordDigits)) m)
-
 module _ (P : ℕ → ℕ → Type 0) (l : List ℕ) (i n : ℕ) where
   -- the word of figure atom i, after those before it
   pub atoms-next : (v : ℕ) → i < length l → ((j u : ℕ) → j < i → u < n → P j u → AtomIn l j u) → ((u : ℕ) → u < n → P i u → In v u)

@@ -4,13 +4,15 @@ use mathlib.Core.Path.{_≡_}
 use mathlib.Core.List.{List}
 use lib.ListN.{length, getD}
 use Rattle.hyperlmntal.specs.Link.{_∈_}
-use Rattle.rows.specs.Limits.{sheetLinks, figureContexts}
+use Rattle.rows.specs.Limits.{sheetLinks}
 use Rattle.rows.specs.declared.Atom.{Atom}
-use Rattle.rows.specs.declared.Context.{Context}
 use Rattle.rows.specs.declared.Sheet.{Sheet as NormalForm}
 use Rattle.placing.specs.Net.{cellLinks}
-use Rattle.network.specs.NetIn.{netIn, rowAt, Used}
+use Rattle.network.specs.NetIn.{netIn}
 use Rattle.candidates.specs.Laid.{linkOf}
+use Rattle.candidates.specs.Words.{pairDigits, InPair}
+use Rattle.candidates.specs.PortSets.{setAt}
+use Rattle.candidates.specs.declared.ports.PortSet.{PortSet}
 use Rattle.starting.specs.Count.{count}
 
 -- equal links among the first n + 1 are equal in both, where the second is link n
@@ -27,14 +29,13 @@ pub record Alike (here there : Atom) : Type 0 where
 abbrev pub placesOf : NormalForm → ℕ → ℕ
 placesOf n x = count (x + 1) (cellLinks ((netIn n) .atoms))
 
--- the first n contexts have links that are numbers of links
-pub record LinksNumbered (contexts : List Context) (n : ℕ) : Type 0 where
-  pub few : n ≤ figureContexts
-  pub links : (i : ℕ) → i < n → Used sheetLinks (rowAt contexts i .count) (rowAt contexts i .links)
+-- 0 at the links of a set
+abbrev pub Cleared : List ℕ → List ℕ → Type 0
+Cleared set a = (x : ℕ) → x < pairDigits → InPair set x → getD a x 0 ≡ 0
 
 -- 0 at the links of the first n contexts
-abbrev pub PortsCleared : List Context → ℕ → List ℕ → Type 0
-PortsCleared contexts n a = (i k : ℕ) → i < n → k < rowAt contexts i .count → getD a (getD (rowAt contexts i .links) k 0 - 1) 0 ≡ 0
+abbrev pub PortsCleared : List PortSet → ℕ → List ℕ → Type 0
+PortsCleared sets n a = (i : ℕ) → i < n → Cleared (setAt sets i .links) a
 
 -- no context has a link that is 1 in the array
 abbrev pub ClosedIn : NormalForm → List ℕ → Type 0

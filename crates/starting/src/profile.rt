@@ -2,11 +2,14 @@
 // which link has a mark.
 use candidates::LAID;
 use candidates::laid::laid_atom;
+use candidates::pairs::first_link;
+use candidates::pairs::is_empty;
+use candidates::pairs::without_link;
+use candidates::ports::PortSet;
 use rows::Atom;
-use rows::Context;
 use rows::Sheet;
 ghost use mathlib.Core.Path.{_≡_};
-ghost use Prim.Native.Nat.{ℕ, _+_, _-_, _*_, _<_, _≤_};
+ghost use Prim.Native.Nat.{ℕ, _+_, _*_, _<_, _≤_};
 ghost use lib.ListN.{getD, take};
 ghost use Rattle.hyperlmntal.specs.Link.{_∈_};
 ghost use Rattle.rows.specs.Format.{mostLinks};
@@ -15,9 +18,10 @@ ghost use Rattle.rows.specs.declared.Sheet.{Sheet as NormalForm};
 ghost use Rattle.network.specs.NetIn.{netIn, Used};
 ghost use Rattle.candidates.specs.Laid.{Rowed, LaidOut};
 ghost use Rattle.candidates.specs.Marks.{MarkLinks, MarksIn};
+ghost use Rattle.candidates.specs.PortSets.{Below, Ports};
 ghost use Rattle.candidates.specs.Tables.{StaysCleared};
 ghost use Rattle.starting.specs.Count.{count};
-ghost use Rattle.starting.specs.Steps.{placesOf, Tally, LinksNumbered, PortsCleared};
+ghost use Rattle.starting.specs.Steps.{placesOf, Tally, Cleared, PortsCleared};
 
 // An atom's places added to the counts, each of which is at most n.
 fn count_places(atom: Atom, counts: &mut [u16; Sheet::LINKS], n: usize)
@@ -46,34 +50,35 @@ pub(crate) fn place_counts(laid: &[u16; LAID], n: usize, counts: &mut [u16; Shee
     }
 }
 
-// 0 at the links of a context.
-fn clear_ports(context: Context, closed: &mut [u8; Sheet::LINKS])
-    requires { ⌜ Used sheetLinks (context .count) (context .links) ⌝ }
+// 0 at the links of a set.
+fn clear_links(set: [u64; 2], closed: &mut [u8; Sheet::LINKS])
+    requires { ⌜ Below sheetLinks set ⌝ }
     ensures kept { λ _. ⌜ StaysCleared (now (closed .entry)) (now (closed .exit)) ⌝ }
-    ensures cleared { λ _. ⌜ ((k : ℕ) → k < context .count → getD (now (closed .exit)) (getD (context .links) k 0 - 1) 0 ≡ 0) ⌝ }
+    ensures cleared { λ _. ⌜ Cleared set (now (closed .exit)) ⌝ }
 {
-    let count = context.count as usize;
-    let mut k = 0;
-    while k < count {
-        let x = context.links[k] as usize;
-        closed[x - 1] = 0;
-        k += 1;
+    let mut rest = set;
+    while !is_empty(rest) {
+        let x = first_link(rest);
+        let less = without_link(rest, x);
+        rest = less;
+        closed[x] = 0;
     }
 }
 
 // 0 at the links of the first n contexts; the other links are closed, and stay 1.
 pub(crate) fn closed_links(
-    contexts: [Context; Sheet::CONTEXT_ROOM],
+    contexts: [PortSet; Sheet::CONTEXT_ROOM],
     n: usize,
     closed: &mut [u8; Sheet::LINKS],
 )
-    requires { ⌜ LinksNumbered contexts n ⌝ }
+    requires { ⌜ ((links : ℕ) × Ports contexts n links) ⌝ }
     ensures { λ _. ⌜ PortsCleared contexts n (now (closed .exit)) ⌝ }
 {
     let mut i = 0;
     while i < n {
         let context = contexts[i];
-        clear_ports(context, closed);
+        let links = context.links;
+        clear_links(links, closed);
         i += 1;
     }
 }

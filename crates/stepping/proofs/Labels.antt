@@ -1,20 +1,22 @@
 -- The laws of labels that ties join.
-use Prim.Native.Nat.{ℕ, suc, _+_, _-_, _≤_, _<_}
+use Prim.Native.Nat.{ℕ, _+_, _≤_, _<_}
 use mathlib.Core.Path.{_≡_, refl, sym, _∙_, ap, subst}
-use mathlib.Core.Logic.{_⊎_, inl, inr, _≢_}
+use mathlib.Core.Logic.{_⊎_, inl, inr, _≢_, ⊎-elim}
 use mathlib.Core.List.{List}
 use native.Mathlib.Decide.{ℕ-discrete, decLt}
 use native.Mathlib.Omega.{arith}
 use lib.ListN.{length, getD, set, length-set}
 use Rattle.rows.specs.Held.{relabelled}
 use Rattle.rows.specs.Limits.{sheetLinks}
-use Rattle.rows.specs.declared.Context.{Context}
-use Rattle.placing.specs.Net.{Range}
-use Rattle.placing.specs.Placing.{numberAt}
 use Rattle.placing.proofs.Joined.{relabelled-hit, relabelled-miss}
+use Rattle.candidates.specs.Words.{pairDigits, InPair, PartOf, withoutLink}
+use Rattle.candidates.specs.PortSets.{Below}
+use Rattle.candidates.specs.declared.ports.PortSet.{PortSet}
+use Rattle.candidates.proofs.Halves.{in-without}
+use Rattle.candidates.proofs.Members.{Seen, seen-more}
 use Rattle.completing.specs.Reach.{Reach, stay, move}
 use Rattle.completing.proofs.Reaching.{reach-then}
-use Rattle.stepping.specs.Labels.{Tie, Sound, Relabelled, Bounded, Grew, Tied}
+use Rattle.stepping.specs.Labels.{Tie, Sound, Relabelled, Bounded, Grew, GrewWith, Tied, AllTied}
 use Rattle.stepping.proofs.Tables.{below-set, above-set, below-next}
 
 pub relabelled-same : (from to c : ℕ) → to ≡ from → relabelled from to c ≡ c
@@ -25,16 +27,14 @@ relabelled-same from to c e = go (ℕ-discrete c from)
     go (no q) = relabelled-miss from to c q
 
 -- a tie holds both ways
-pub tie-back : (contexts : List Context) (rows : ℕ) (to : List ℕ) (x z : ℕ) → Tie contexts rows to x z → Tie contexts rows to z x
-tie-back contexts rows to x z t = record {
+pub tie-back : (sets : List PortSet) (rows : ℕ) (to : List ℕ) (x z : ℕ) → Tie sets rows to x z → Tie sets rows to z x
+tie-back sets rows to x z t = record {
   row = t .row;
-  first = t .second;
-  second = t .first;
   row-in = t .row-in;
   first-in = t .second-in;
   second-in = t .first-in;
-  one = t .two;
-  two = t .one;
+  first = t .second;
+  second = t .first;
   together = sym (t .together);
 }
 
@@ -51,126 +51,103 @@ module _ (labels next : List ℕ) (a b : ℕ) (ra : a < sheetLinks) (rb : b < sh
       go (yes q) = relabelled-hit _ _ _ q
       go (no q) = relabelled-miss _ _ _ q
 
-  pub joined-sound : (contexts : List Context) (rows : ℕ) (to : List ℕ) → Tie contexts rows to (suc a) (suc b) → Sound contexts rows to labels → Sound contexts rows to next
-  joined-sound contexts rows to t s x z h k e = at (ℕ-discrete (getD labels x 0) (getD labels b 0)) (ℕ-discrete (getD labels z 0) (getD labels b 0))
+  pub joined-sound : (sets : List PortSet) (rows : ℕ) (to : List ℕ) → Tie sets rows to a b → Sound sets rows to labels → Sound sets rows to next
+  joined-sound sets rows to t s x z h k e = at (ℕ-discrete (getD labels x 0) (getD labels b 0)) (ℕ-discrete (getD labels z 0) (getD labels b 0))
     where
       R : ℕ → ℕ → Type 0
-      R = Tie contexts rows to
+      R = Tie sets rows to
 
       both : relabelled (getD labels b 0) (getD labels a 0) (getD labels x 0) ≡ relabelled (getD labels b 0) (getD labels a 0) (getD labels z 0)
       both = sym (new x h) ∙ e ∙ new z k
 
-      back : Reach R (suc b) (suc a)
-      back = move (tie-back contexts rows to (suc a) (suc b) t) stay
+      back : Reach R b a
+      back = move (tie-back sets rows to a b t) stay
 
-      at : Dec (getD labels x 0 ≡ getD labels b 0) → Dec (getD labels z 0 ≡ getD labels b 0) → Reach R (suc x) (suc z)
+      at : Dec (getD labels x 0 ≡ getD labels b 0) → Dec (getD labels z 0 ≡ getD labels b 0) → Reach R x z
       at (yes i) (yes j) = s x z h k (i ∙ sym j)
       at (yes i) (no j) = reach-then R (s x b h rb i) (reach-then R back (s a z ra k (sym (relabelled-hit _ _ _ i) ∙ both ∙ relabelled-miss _ _ _ j)))
       at (no i) (yes j) = reach-then R (s x a h ra (sym (relabelled-miss _ _ _ i) ∙ both ∙ relabelled-hit _ _ _ j)) (reach-then R (move t stay) (s b z rb k (sym j)))
       at (no i) (no j) = s x z h k (sym (relabelled-miss _ _ _ i) ∙ both ∙ relabelled-miss _ _ _ j)
 
-module _ (to ports : List ℕ) (count : ℕ) where
-  pub grew-same : (l : List ℕ) → Grew to ports count l l
-  grew-same l = record { kept = λ x z h k e. e; sound = λ c n r i j k s. s }
+pub grew-same : (to set l : List ℕ) → Grew to set l l
+grew-same to set l = record { kept = λ x z h k e. e; sound = λ sets rows row i j s. s }
 
-  pub grew-then : (l m n : List ℕ) → Grew to ports count l m → Grew to ports count m n → Grew to ports count l n
-  grew-then l m n f g = record {
-    kept = λ x z h k e. g .kept x z h k (f .kept x z h k e);
-    sound = λ contexts rows row i j k s. g .sound contexts rows row i j k (f .sound contexts rows row i j k s);
-  }
+pub grew-then : (to set l m n : List ℕ) → Grew to set l m → Grew to set m n → Grew to set l n
+grew-then to set l m n f g = record {
+  kept = λ x z h k e. g .kept x z h k (f .kept x z h k e);
+  sound = λ sets rows row i j s. g .sound sets rows row i j (f .sound sets rows row i j s);
+}
 
-  -- ports that were tied stay tied
-  pub tied-kept : ((k : ℕ) → k < count → Range sheetLinks (getD ports k 0)) → (l m : List ℕ)
-      → ((x z : ℕ) → x < sheetLinks → z < sheetLinks → getD l x 0 ≡ getD l z 0 → getD m x 0 ≡ getD m z 0)
-      → (k : ℕ) → k < count → Tied to ports count l k → Tied to ports count m k
-  tied-kept r l m g k h t i n e =
-      let a = r i n in let b = r k h in
-      g (getD ports i 0 - 1) (getD ports k 0 - 1) (omega (arith, a .0, a .1)) (omega (arith, b .0, b .1)) (t i n e)
-
-  -- one port more is tied to those before it
-  pub tied-next : ((k : ℕ) → k < count → Range sheetLinks (getD ports k 0)) → (l m : List ℕ)
-      → ((x z : ℕ) → x < sheetLinks → z < sheetLinks → getD l x 0 ≡ getD l z 0 → getD m x 0 ≡ getD m z 0)
-      → (k : ℕ) → k < count → ((i : ℕ) → i < k → Tied to ports k l i) → Tied to ports k m k → (i : ℕ) → i < k + 1 → Tied to ports (k + 1) m i
-  tied-next r l m g k h f t i hi j hj e = at (ℕ-discrete i k) (ℕ-discrete j k)
-    where
-      Both : ℕ → ℕ → Type 0
-      Both x z = numberAt to (getD ports x 0) ≡ numberAt to (getD ports z 0) → numberAt m (getD ports x 0) ≡ numberAt m (getD ports z 0)
-
-      at : Dec (i ≡ k) → Dec (j ≡ k) → numberAt m (getD ports j 0) ≡ numberAt m (getD ports i 0)
-      at (yes a) (yes b) = ap (λ (n : ℕ). numberAt m (getD ports n 0)) (b ∙ sym a)
-      at (yes a) (no b) = subst (λ (n : ℕ). Both j n) (sym a) (t j (omega arith)) e
-      at (no a) (yes b) = subst (λ (n : ℕ). Both n i) (sym b) (λ c. sym (t i (omega arith) (sym c))) e
-      at (no a) (no b) = let x = r j (omega arith) in let z = r i (omega arith) in g (getD ports j 0 - 1) (getD ports i 0 - 1) (omega (arith, x .0, x .1)) (omega (arith, z .0, z .1)) (f i (omega arith) j (omega arith) e)
-
-  -- two ports that go to one sheet link are joined
-  pub grew-joined : (at k : ℕ) → at < count → k < count → Range sheetLinks (getD ports at 0) → Range sheetLinks (getD ports k 0)
-      → numberAt to (getD ports k 0) ≡ numberAt to (getD ports at 0) → (labels next : List ℕ)
-      → ((x : ℕ) → x < sheetLinks → getD next x 0 ≡ relabelled (numberAt labels (getD ports k 0)) (numberAt labels (getD ports at 0)) (getD labels x 0))
-      → Grew to ports count labels next
-  grew-joined at k ha hk ra rk e labels next new = record {
-    kept = joined-kept labels next (a - 1) (b - 1) ia ib new;
-    sound = λ contexts rows row i c p. joined-sound labels next (a - 1) (b - 1) ia ib new contexts rows to (record {
+-- Two links of a set that go to one sheet link are joined.
+module _ (to set : List ℕ) (a b : ℕ) (ra : a < sheetLinks) (rb : b < sheetLinks) (ia : InPair set a) (ib : InPair set b) (e : getD to b 0 ≡ getD to a 0) (labels next : List ℕ)
+    (new : (x : ℕ) → x < sheetLinks → getD next x 0 ≡ relabelled (getD labels b 0) (getD labels a 0) (getD labels x 0)) where
+  pub grew-joined : Grew to set labels next
+  grew-joined = record {
+    kept = joined-kept labels next a b ra rb new;
+    sound = λ sets rows row i p. joined-sound labels next a b ra rb new sets rows to (record {
       row = row;
-      first = at;
-      second = k;
       row-in = i;
-      first-in = omega arith;
-      second-in = omega arith;
-      one = ap (λ (l : List ℕ). getD l at 0) p ∙ up a ra;
-      two = ap (λ (l : List ℕ). getD l k 0) p ∙ up b rk;
-      together = ap (λ (c : ℕ). getD to c 0) (down a) ∙ sym e ∙ sym (ap (λ (c : ℕ). getD to c 0) (down b));
+      first-in = omega (arith, ra);
+      second-in = omega (arith, rb);
+      first = subst (λ (l : List ℕ). InPair l a) (sym p) ia;
+      second = subst (λ (l : List ℕ). InPair l b) (sym p) ib;
+      together = sym e;
     });
   }
+
+-- One link b more of a set is tied to link a.
+module _ (to set : List ℕ) (n : ℕ) (few : n ≤ sheetLinks) (below : Below n set) (a : ℕ) (ra : a < n) (b : ℕ) (small : b < pairDigits) (ib : InPair set b) where
+  rb : b < sheetLinks
+  rb = omega (arith, below b small ib)
+
+  tied-kept : (next m : List ℕ) → ((x z : ℕ) → x < sheetLinks → z < sheetLinks → getD next x 0 ≡ getD next z 0 → getD m x 0 ≡ getD m z 0)
+      → (z : ℕ) → z < pairDigits → InPair set z → Tied to next a z → Tied to m a z
+  tied-kept next m kept z h i t e = kept a z (omega (arith, ra)) (omega (arith, below z h i)) (t e)
+
+  pub port-step : (rest less labels next m : List ℕ) → less ≡ withoutLink rest b → GrewWith to set a labels next → Seen (Tied to next a) set rest
+      → ((getD to b 0 ≡ getD to a 0) × ((x : ℕ) → x < sheetLinks → getD m x 0 ≡ relabelled (getD next b 0) (getD next a 0) (getD next x 0)))
+      ⊎ ((¬ (getD to b 0 ≡ getD to a 0)) × (m ≡ next))
+      → GrewWith to set a labels m × Seen (Tied to m a) set less
+  port-step rest less labels next m e g f (inl w) = (
+    (λ whole i p. grew-then to whole labels next m (g whole i p) (grew-joined to whole a b (omega (arith, ra)) rb i (p b small ib) (w .0) next m (w .1))),
+    seen-more set rest b small less e (Tied to next a) (Tied to m a) f
+        (tied-kept next m (joined-kept next m a b (omega (arith, ra)) rb (w .1)))
+        (λ q. joined-one next m a b (omega (arith, ra)) rb (w .1)),
+  )
+  port-step rest less labels next m e g f (inr w) = (
+    (λ whole i p. subst (Grew to whole labels) (sym (w .1)) (g whole i p)),
+    seen-more set rest b small less e (Tied to next a) (Tied to m a) f
+        (λ z h i. subst (λ (l : List ℕ). Tied to next a z → Tied to l a z) (sym (w .1)) (λ t. t))
+        (λ q. absurd (w .0 (sym q))),
+  )
+
+-- links of a set that are tied stay tied
+pub all-kept : (to set : List ℕ) → Below sheetLinks set → (l m : List ℕ) → ((x z : ℕ) → x < sheetLinks → z < sheetLinks → getD l x 0 ≡ getD l z 0 → getD m x 0 ≡ getD m z 0) → AllTied to set l → AllTied to set m
+all-kept to set below l m kept f x z h k i j e = kept x z (below x h i) (below z k j) (f x z h k i j e)
+
+-- tied to all links of a set
+abbrev pub AllWith : List ℕ → List ℕ → List ℕ → ℕ → Type 0
+AllWith to set l x = (z : ℕ) → z < pairDigits → InPair set z → Tied to l x z
+
+-- Link a is tied to all of a set: to those that are left by one more turn, to those before it since they were.
+module _ (to set : List ℕ) (below : Below sheetLinks set) (a : ℕ) (small : a < pairDigits) (rest less : List ℕ) (e : less ≡ withoutLink rest a) (part : PartOf rest set) (ia : InPair rest a) where
+  pub context-step : (labels next : List ℕ) → ((x z : ℕ) → x < sheetLinks → z < sheetLinks → getD labels x 0 ≡ getD labels z 0 → getD next x 0 ≡ getD next z 0)
+      → Seen (AllWith to set labels) set rest → ((z : ℕ) → z < pairDigits → InPair less z → Tied to next a z) → Seen (AllWith to set next) set less
+  context-step labels next kept f t = seen-more set rest a small less e (AllWith to set labels) (AllWith to set next) f onward (λ z h i. at z h i (ℕ-discrete z a))
     where
-      a : ℕ
-      a = getD ports at 0
+      onward : (x : ℕ) → x < pairDigits → InPair set x → AllWith to set labels x → AllWith to set next x
+      onward x l j w z h i q = kept x z (below x l j) (below z h i) (w z h i q)
 
-      b : ℕ
-      b = getD ports k 0
-
-      ia : a - 1 < sheetLinks
-      ia = omega (arith, ra .0, ra .1)
-
-      ib : b - 1 < sheetLinks
-      ib = omega (arith, rk .0, rk .1)
-
-      up : (c : ℕ) → Range sheetLinks c → c ≡ suc (c - 1)
-      up c r = let h : 1 ≤ c = r .0 in omega arith
-
-      down : (c : ℕ) → suc (c - 1) - 1 ≡ c - 1
-      down c = omega arith
-
-  -- one port more
-  module _ (at k : ℕ) (ha : at < count) (hk : k < count) (r : (i : ℕ) → i < count → Range sheetLinks (getD ports i 0)) where
-    abbrev Same : List ℕ → ℕ → Type 0
-    Same l i = numberAt to (getD ports i 0) ≡ numberAt to (getD ports at 0) → numberAt l (getD ports i 0) ≡ numberAt l (getD ports at 0)
-
-    pub port-step : (labels next m : List ℕ) → Grew to ports count labels next → ((i : ℕ) → i < k → Same next i)
-        → ((numberAt to (getD ports k 0) ≡ numberAt to (getD ports at 0))
-        × ((x : ℕ) → x < sheetLinks → getD m x 0 ≡ relabelled (numberAt next (getD ports k 0)) (numberAt next (getD ports at 0)) (getD next x 0)))
-        ⊎ ((¬ (numberAt to (getD ports k 0) ≡ numberAt to (getD ports at 0))) × (m ≡ next))
-        → Grew to ports count labels m × ((i : ℕ) → i < k + 1 → Same m i)
-    port-step labels next m g f (inl w) = (
-      grew-then labels next m g new,
-      below-next (Same m) k
-          (λ i h e. let a = r i (omega arith) in let b = r at ha in new .kept (getD ports i 0 - 1) (getD ports at 0 - 1) (omega (arith, a .0, a .1)) (omega (arith, b .0, b .1)) (f i h e))
-          (λ e. let a = r at ha in let b = r k hk in sym (joined-one next m (getD ports at 0 - 1) (getD ports k 0 - 1) (omega (arith, a .0, a .1)) (omega (arith, b .0, b .1)) (w .1))),
-    )
-      where
-        new : Grew to ports count next m
-        new = grew-joined at k ha hk (r at ha) (r k hk) (w .0) next m (w .1)
-    port-step labels next m g f (inr w) = (
-      subst (Grew to ports count labels) (sym (w .1)) g,
-      below-next (Same m) k
-          (λ i h. subst (λ (l : List ℕ). Same l i) (sym (w .1)) (f i h)) (λ e. absurd (w .0 e)),
-    )
+      at : (z : ℕ) → z < pairDigits → InPair set z → Dec (z ≡ a) → Tied to next a z
+      at z h i (yes q) w = ap (λ (x : ℕ). getD next x 0) (sym q)
+      at z h i (no d) w = ⊎-elim (λ j. t z h (in-without rest a small less e z h j d) w) (λ s. sym (onward z h i s a small (part a small ia) (sym w))) (f z h i)
 
 -- each link its own label
-pub own-sound : (contexts : List Context) (rows : ℕ) (to labels : List ℕ) → ((x : ℕ) → x < sheetLinks → getD labels x 0 ≡ x + 1) → Sound contexts rows to labels
-own-sound contexts rows to labels f x z h k e =
+pub own-sound : (sets : List PortSet) (rows : ℕ) (to labels : List ℕ) → ((x : ℕ) → x < sheetLinks → getD labels x 0 ≡ x + 1) → Sound sets rows to labels
+own-sound sets rows to labels f x z h k e =
     let p = f x h in let q = f z k in
-    let i : suc x ≡ suc z = omega arith in
-    subst (Reach (Tie contexts rows to) (suc x)) i stay
+    let i : x ≡ z = omega arith in
+    subst (Reach (Tie sets rows to) x) i stay
 
 -- The first n links have labels that are at most n.
 module _ (n : ℕ) (few : n ≤ sheetLinks) (labels : List ℕ) where
@@ -178,8 +155,8 @@ module _ (n : ℕ) (few : n ≤ sheetLinks) (labels : List ℕ) where
   own-bounded f = record { own = λ x h k. f x k; low = λ x h. omega (arith, f x (omega arith)) }
 
   module _ (b : Bounded n labels) where
-    pub port-low : (a : ℕ) → Range n a → numberAt labels a ≤ n
-    port-low a r = b .low (a - 1) (omega (arith, r .0, r .1))
+    pub port-low : (a : ℕ) → a < n → getD labels a 0 ≤ n
+    port-low a r = b .low a r
 
     -- no other link has a label of theirs
     pub above-other : (from : ℕ) → from ≤ n → (x : ℕ) → n ≤ x → x < sheetLinks → getD labels x 0 ≢ from

@@ -1,5 +1,6 @@
 -- Arrays as flags and tables.
 pub mod Tables
+pub mod Ports
 pub mod Rows
 pub mod StandingWords
 pub mod Reading
@@ -10,4 +11,3 @@ pub mod Least
 pub mod Labels
 pub mod Owners
 pub mod Linking
-pub mod Tearing

@@ -7,7 +7,7 @@ use native.Mathlib.Decide.{ℕ-discrete}
 use native.Mathlib.Omega.{arith}
 use lib.ListN.{length, getD, set, replicate}
 use lib.Seq.{getD-set-same, getD-set-other}
-use Rattle.rows.specs.declared.Context.{Context}
+use Rattle.candidates.specs.declared.ports.PortSet.{PortSet}
 use Rattle.stepping.specs.Labels.{Labelled, Apart}
 use Rattle.stepping.proofs.Tables.{below-next, zeros}
 
@@ -62,9 +62,9 @@ module _ (to labels : List ℕ) (none : ℕ) where
             ((λ q. w .0 (sym e ∙ q)), w .1 ∙ ap (λ (k : ℕ). getD labels (k - 1) 0) (sym e))
 
     -- the link has another label than the owner of where it goes
-    pub owners-apart : (contexts : List Context) (rows links : ℕ) → Labelled contexts rows to labels → x < links → 1 ≤ getD to x 0 → getD to x 0 ≢ none
-        → getD owner (getD to x 0 - 1) 0 ≢ 0 → getD labels (getD owner (getD to x 0 - 1) 0 - 1) 0 ≢ getD labels x 0 → Apart contexts rows links to none (getD to x 0)
-    owners-apart contexts rows links l h low not-none n e =
+    pub owners-apart : (sets : List PortSet) (rows links : ℕ) → Labelled sets rows to labels → x < links → 1 ≤ getD to x 0 → getD to x 0 ≢ none
+        → getD owner (getD to x 0 - 1) 0 ≢ 0 → getD labels (getD owner (getD to x 0 - 1) 0 - 1) 0 ≢ getD labels x 0 → Apart sets rows links to none (getD to x 0)
+    owners-apart sets rows links l h low not-none n e =
         let w = f .0 (getD to x 0 - 1) n in
         let k : getD owner (getD to x 0 - 1) 0 ≤ x = w .1 in
         record {
@@ -86,8 +86,8 @@ module _ (to labels : List ℕ) (none : ℕ) where
         }
 
   -- all links have the label of the owner of where they go
-  pub owners-one : (contexts : List Context) (rows links : ℕ) (owner : List ℕ) → Labelled contexts rows to labels → Owners links owner → Apart contexts rows links to none 0
-  owners-one contexts rows links owner l f = record {
+  pub owners-one : (sets : List PortSet) (rows links : ℕ) (owner : List ℕ) → Labelled sets rows to labels → Owners links owner → Apart sets rows links to none 0
+  owners-one sets rows links owner l f = record {
     labels = labels;
     labelled = l;
     all-one = λ i x z w m.

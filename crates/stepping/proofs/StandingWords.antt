@@ -2,23 +2,25 @@
 use Prim.Native.Nat.{ℕ, suc, _+_, _*_, _%_, _^_, _<_}
 use mathlib.Core.Path.{_≡_, sym, _∙_, ap, subst}
 use mathlib.Core.List.{List}
+use mathlib.Core.Bool.{true}
 use native.Mathlib.Decide.{ℕ-discrete, decLt}
 use native.Mathlib.Nat.{mod-lt}
 use native.Mathlib.Omega.{arith}
 use lib.Bits.{bitOr}
 use lib.Pow.{shl-exact}
-use lib.ListN.{length, getD, take, set, length-set}
+use lib.ListN.{length, getD, set, length-set}
 use lib.Seq.{getD-set-same, getD-set-other}
 use Rattle.hyperlmntal.specs.Link.{_∈_}
 use Rattle.rows.specs.Limits.{sheetLinks}
-use Rattle.rows.specs.declared.Context.{Context}
 use Rattle.rows.specs.declared.Sheet as form
 use Rattle.placing.specs.Net.{NetCell}
-use Rattle.placing.proofs.Lists.{member-at, getD-of}
-use Rattle.network.specs.NetIn.{contextIn, rowAt, contextAt, Fit, netIn}
-use Rattle.network.proofs.NetIn.{used-length, used-at, context-of}
-use Rattle.candidates.specs.Words.{In, alone}
+use Rattle.network.specs.NetIn.{contextIn, contextAt, netIn}
+use Rattle.network.proofs.NetIn.{context-of}
+use Rattle.candidates.specs.Words.{In, alone, pairDigits, InPair, PartOf, emptyPair, withoutLink}
+use Rattle.candidates.specs.PortSets.{setAt, PortIn, ContextsIn}
+use Rattle.candidates.specs.declared.ports.PortSet.{PortSet}
 use Rattle.candidates.proofs.Digits.{in-or-left, in-or-right, alone-in}
+use Rattle.candidates.proofs.Members.{Seen, part-self, part-less, seen-none, seen-more, seen-all}
 use Rattle.completing.specs.Known.{Stands}
 use Rattle.stepping.specs.Standing.{contextDigits, digitOf, Standing, Marked, StandingTo}
 
@@ -27,70 +29,72 @@ pub context-shifted : (k : ℕ) → 1 * 2 ^ (k % contextDigits) % 2 ^ contextDig
 unfolding alone
 context-shifted k = let h : k % contextDigits < contextDigits = mod-lt k (omega arith) in shl-exact {a = 1} 1 (k % contextDigits) contextDigits (omega arith) (omega (arith, h)) ∙ omega arith
 
-module _ (was links : List ℕ) (word : ℕ) where
-  pub marked-start : length was ≡ sheetLinks → Marked was links 0 word was
-  marked-start e = record { room = e; kept = λ x t i. i; joined = λ k x t h. absurd (omega (arith, h)) }
+-- A word while the links of one set are looked at.
+module _ (was ports : List ℕ) (word : ℕ) where
+  abbrev HasWord : List ℕ → ℕ → Type 0
+  HasWord words x = (t : ℕ) → In word t → In (getD words x 0) t
 
-  pub marked-next : (n x : ℕ) (r : List ℕ) → getD links n 0 ≡ suc x → x < sheetLinks → Marked was links n word r → Marked was links (n + 1) word (set r x (bitOr (getD r x 0) word))
-  marked-next n x r e h m = record {
-    room = length-set r x w ∙ m .room;
+  -- the links that are not left have the word, and none has lost a digit
+  pub record Marking (rest words : List ℕ) : Type 0 where
+    pub part : PartOf rest ports
+    pub room : length words ≡ sheetLinks
+    pub kept : (x t : ℕ) → In (getD was x 0) t → In (getD words x 0) t
+    pub seen : Seen (HasWord words) ports rest
+
+  pub marking-start : length was ≡ sheetLinks → Marking ports was
+  marking-start e = record { part = part-self ports; room = e; kept = λ x t i. i; seen = seen-none (HasWord was) ports }
+
+  pub marking-end : (rest words : List ℕ) → emptyPair rest ≡ true → Marking rest words → Marked was ports word words
+  marking-end rest words e m = record { room = m .room; kept = m .kept; joined = λ x h i. seen-all (HasWord words) ports rest e (m .seen) x h i }
+
+  pub marking-next : (rest words : List ℕ) → Marking rest words → (x : ℕ) → x < pairDigits → x < sheetLinks → InPair rest x → (less : List ℕ) → less ≡ withoutLink rest x
+      → Marking less (set words x (bitOr (getD words x 0) word))
+  marking-next rest words m x small h there less e = record {
+    part = part-less ports rest x small less e (m .part);
+    room = length-set words x w ∙ m .room;
     kept = λ z t i. more z t (m .kept z t i);
-    joined = joined;
+    seen = seen-more ports rest x small less e (HasWord words) (HasWord (set words x w)) (m .seen) (λ z l i f t u. more z t (f t u))
+        (λ t i. subst (λ (v : ℕ). In v t) (sym (getD-set-same words x w 0 fits)) (in-or-right (getD words x 0) word t i));
   }
     where
       w : ℕ
-      w = bitOr (getD r x 0) word
+      w = bitOr (getD words x 0) word
 
-      fits : x < length r
+      fits : x < length words
       fits = omega (arith, m .room)
 
-      more : (z t : ℕ) → In (getD r z 0) t → In (getD (set r x w) z 0) t
+      more : (z t : ℕ) → In (getD words z 0) t → In (getD (set words x w) z 0) t
       more z t i = by (ℕ-discrete z x)
         where
-          by : Dec (z ≡ x) → In (getD (set r x w) z 0) t
-          by (yes f) = subst (λ (v : ℕ). In (getD (set r x w) v 0) t) (sym f)
-              (subst (λ (v : ℕ). In v t) (sym (getD-set-same r x w 0 fits)) (in-or-left (getD r x 0) word t (subst (λ (v : ℕ). In (getD r v 0) t) f i)))
-          by (no f) = subst (λ (v : ℕ). In v t) (sym (getD-set-other r x z w 0 f)) i
+          by : Dec (z ≡ x) → In (getD (set words x w) z 0) t
+          by (yes f) = subst (λ (v : ℕ). In (getD (set words x w) v 0) t) (sym f)
+              (subst (λ (v : ℕ). In v t) (sym (getD-set-same words x w 0 fits)) (in-or-left (getD words x 0) word t (subst (λ (v : ℕ). In (getD words v 0) t) f i)))
+          by (no f) = subst (λ (v : ℕ). In v t) (sym (getD-set-other words x z w 0 f)) i
 
-      joined : (k z t : ℕ) → k < n + 1 → getD links k 0 ≡ suc z → In word t → In (getD (set r x w) z 0) t
-      joined k z t l f i = by (decLt k n)
-        where
-          by : Dec (k < n) → In (getD (set r x w) z 0) t
-          by (yes u) = more z t (m .joined k z t u f i)
-          by (no u) =
-              let g : k ≡ n = omega (arith, l) in
-              let q : suc z ≡ suc x = sym f ∙ ap (λ (v : ℕ). getD links v 0) g ∙ e in
-              let v : z ≡ x = omega (arith, q) in
-              subst (λ (a : ℕ). In (getD (set r x w) a 0) t) (sym v) (subst (λ (a : ℕ). In a t) (sym (getD-set-same r x w 0 fits)) (in-or-right (getD r x 0) word t i))
+module _ (sets : List PortSet) where
+  pub standing-start : (words : List ℕ) → length words ≡ sheetLinks → StandingTo sets 0 words
+  standing-start words e = record { room = e; holds = λ i x h. absurd (omega (arith, h)) }
 
-module _ (contexts : List Context) where
-  pub standing-start : (words : List ℕ) → length words ≡ sheetLinks → StandingTo contexts 0 words
-  standing-start words e = record { room = e; holds = λ i k x h. absurd (omega (arith, h)) }
-
-  pub standing-next : (c : ℕ) (words r : List ℕ) (word : ℕ) → word ≡ alone (digitOf (rowAt contexts c .number)) → StandingTo contexts c words
-      → Marked words (rowAt contexts c .links) (rowAt contexts c .count) word r → StandingTo contexts (c + 1) r
+  pub standing-next : (c : ℕ) (words r : List ℕ) (word : ℕ) → word ≡ alone (digitOf (setAt sets c .number)) → StandingTo sets c words → Marked words (setAt sets c .links) word r → StandingTo sets (c + 1) r
   standing-next c words r word e s m = record { room = m .room; holds = holds }
     where
-      holds : (i k x : ℕ) → i < c + 1 → k < rowAt contexts i .count → getD (rowAt contexts i .links) k 0 ≡ suc x → In (getD r x 0) (digitOf (rowAt contexts i .number))
-      holds i k x h l f = by (decLt i c)
+      holds : (i x : ℕ) → i < c + 1 → x < pairDigits → PortIn sets i x → In (getD r x 0) (digitOf (setAt sets i .number))
+      holds i x h l p = by (decLt i c)
         where
-          by : Dec (i < c) → In (getD r x 0) (digitOf (rowAt contexts i .number))
-          by (yes u) = m .kept x (digitOf (rowAt contexts i .number)) (s .holds i k x u l f)
+          by : Dec (i < c) → In (getD r x 0) (digitOf (setAt sets i .number))
+          by (yes u) = m .kept x (digitOf (setAt sets i .number)) (s .holds i x u l p)
           by (no u) =
               let q : c ≡ i = omega (arith, h) in
-              let P : ℕ → Type 0 = λ j. k < rowAt contexts j .count → getD (rowAt contexts j .links) k 0 ≡ suc x → In (getD r x 0) (digitOf (rowAt contexts j .number)) in
-              subst P q (λ l′ f′. m .joined k x (digitOf (rowAt contexts c .number)) l′ f′ (alone-in (digitOf (rowAt contexts c .number)) word e)) l f
+              let P : ℕ → Type 0 = λ j. PortIn sets j x → In (getD r x 0) (digitOf (setAt sets j .number)) in
+              subst P q (λ p′. m .joined x l p′ (digitOf (setAt sets c .number)) (alone-in (digitOf (setAt sets c .number)) word e)) p
 
-pub standing-end : (figure : form.Sheet) → Fit figure → (words : List ℕ) → StandingTo (figure .contexts) (figure .«context_count») words → Standing figure words
-standing-end figure fit words s = record { room = s .room; holds = λ x h k t. by x k t (context-of figure fit (t .row) (t .of-figure)) }
+pub standing-end : (figure : form.Sheet) (sets : List PortSet) (rows links : ℕ) → ContextsIn figure sets rows links → (words : List ℕ) → StandingTo sets rows words → Standing figure words
+standing-end figure sets rows links o words s = record { room = s .room; holds = λ x h k t. by x h k t (context-of figure (o .fit) (t .row) (t .of-figure)) }
   where
-    by : (x k : ℕ) → (t : Stands (netIn figure) (suc x) k) → (i : ℕ) × (i < figure .«context_count») × (contextIn (contextAt figure i) ≡ t .row) → In (getD words x 0) (digitOf k)
-    by x k t (i, h, e) =
-        let links = contextAt figure i .links in
-        let count = contextAt figure i .count in
-        let u = fit .contexts i h in
-        let m = member-at (take count links) (suc x) (subst (λ (c : NetCell). suc x ∈ c .1) (sym e) (t .port)) in
-        let l : m .0 < count = omega (arith, m .1, used-length (figure .«class_count») count links u) in
-        let f : getD links (m .0) 0 ≡ suc x = sym (used-at (figure .«class_count») count links u (m .0) l) ∙ getD-of (take count links) (m .0) 0 (suc x) (m .2) in
-        let n : contextAt figure i .number ≡ k = ap (λ (c : NetCell). c .0) e ∙ t .number in
-        subst (λ (d : ℕ). In (getD words x 0) (digitOf d)) n (s .holds i (m .0) x h l f)
+    by : (x : ℕ) → x < figure .«class_count» → (k : ℕ) → (t : Stands (netIn figure) (suc x) k) → (i : ℕ) × (i < figure .«context_count») × (contextIn (contextAt figure i) ≡ t .row) → In (getD words x 0) (digitOf k)
+    by x h k t (i, l, e) =
+        let u : i < rows = omega (arith, l, o .row-count) in
+        let r = o .each i u in
+        let small : x < pairDigits = omega (arith, h, o .fit .class-count) in
+        let n : setAt sets i .number ≡ k = r .number ∙ ap (λ (c : NetCell). c .0) e ∙ t .number in
+        subst (λ (d : ℕ). In (getD words x 0) (digitOf d)) n (s .holds i x u small (r .ports x small .1 (subst (λ (c : NetCell). suc x ∈ c .1) (sym e) (t .port))))

@@ -4,12 +4,12 @@ use mathlib.Core.Path.{_≡_}
 use mathlib.Core.Logic.{_⊎_, _≢_}
 use mathlib.Core.List.{List}
 use lib.ListN.{getD}
-use Rattle.rows.specs.declared.Context.{Context}
-use Rattle.network.specs.NetIn.{rowAt}
+use Rattle.candidates.specs.PortSets.{setAt}
+use Rattle.candidates.specs.declared.ports.PortSet.{PortSet}
 
 -- the number of the context in row c
-abbrev pub numberOf : List Context → ℕ → ℕ
-numberOf contexts c = rowAt contexts c .number
+abbrev pub numberOf : List PortSet → ℕ → ℕ
+numberOf sets c = setAt sets c .number
 
 -- Among the first n of `count` contexts: the best is left and has the least number of those left, or none is left. A 0 says that
 -- a context is left.

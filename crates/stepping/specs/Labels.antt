@@ -1,31 +1,29 @@
--- Labels of figure links: two links have one label exactly when steps lead from one to the other.
-use Prim.Native.Nat.{ℕ, suc, _+_, _≤_, _<_}
+-- Labels of figure links, counted from 0: two links have one label exactly when steps lead from one to the other.
+use Prim.Native.Nat.{ℕ, _+_, _≤_, _<_}
 use mathlib.Core.Path.{_≡_}
 use mathlib.Core.Logic.{_≢_}
 use mathlib.Core.List.{List}
 use lib.ListN.{getD}
 use Rattle.rows.specs.Held.{relabelled}
 use Rattle.rows.specs.Limits.{sheetLinks}
-use Rattle.rows.specs.declared.Context.{Context}
-use Rattle.placing.specs.Placing.{numberAt}
-use Rattle.network.specs.NetIn.{rowAt}
+use Rattle.candidates.specs.Words.{pairDigits, InPair, PartOf}
+use Rattle.candidates.specs.PortSets.{setAt, PortIn}
+use Rattle.candidates.specs.declared.ports.PortSet.{PortSet}
 use Rattle.completing.specs.Reach.{Reach}
 
 -- two links of one context, of which there are `rows`, that go to one sheet link
-pub record Tie (contexts : List Context) (rows : ℕ) (to : List ℕ) (x z : ℕ) : Type 0 where
+pub record Tie (sets : List PortSet) (rows : ℕ) (to : List ℕ) (x z : ℕ) : Type 0 where
   pub row : ℕ
-  pub first : ℕ
-  pub second : ℕ
   pub row-in : row < rows
-  pub first-in : first < rowAt contexts row .count
-  pub second-in : second < rowAt contexts row .count
-  pub one : getD (rowAt contexts row .links) first 0 ≡ x
-  pub two : getD (rowAt contexts row .links) second 0 ≡ z
-  pub together : numberAt to x ≡ numberAt to z
+  pub first-in : x < pairDigits
+  pub second-in : z < pairDigits
+  pub first : PortIn sets row x
+  pub second : PortIn sets row z
+  pub together : getD to x 0 ≡ getD to z 0
 
 -- links with one label are tied
-abbrev pub Sound : List Context → ℕ → List ℕ → List ℕ → Type 0
-Sound contexts rows to labels = (x z : ℕ) → x < sheetLinks → z < sheetLinks → getD labels x 0 ≡ getD labels z 0 → Reach (Tie contexts rows to) (suc x) (suc z)
+abbrev pub Sound : List PortSet → ℕ → List ℕ → List ℕ → Type 0
+Sound sets rows to labels = (x z : ℕ) → x < sheetLinks → z < sheetLinks → getD labels x 0 ≡ getD labels z 0 → Reach (Tie sets rows to) x z
 
 -- one label for another
 abbrev pub Relabelled : List ℕ → List ℕ → ℕ → ℕ → Type 0
@@ -36,20 +34,26 @@ pub record Bounded (n : ℕ) (labels : List ℕ) : Type 0 where
   pub own : (x : ℕ) → n ≤ x → x < sheetLinks → getD labels x 0 ≡ x + 1
   pub low : (x : ℕ) → x < n → getD labels x 0 ≤ n
 
--- From labels to next: what has one label keeps one label, and the new ones are tied if these ports are those of a context.
-pub record Grew (to ports : List ℕ) (count : ℕ) (labels next : List ℕ) : Type 0 where
+-- From labels to next: what has one label keeps one label, and the new ones are tied if this set is that of a context.
+pub record Grew (to set labels next : List ℕ) : Type 0 where
   pub kept : (x z : ℕ) → x < sheetLinks → z < sheetLinks → getD labels x 0 ≡ getD labels z 0 → getD next x 0 ≡ getD next z 0
-  pub sound : (contexts : List Context) (rows row : ℕ) → row < rows → rowAt contexts row .count ≡ count → rowAt contexts row .links ≡ ports
-      → Sound contexts rows to labels → Sound contexts rows to next
+  pub sound : (sets : List PortSet) (rows row : ℕ) → row < rows → setAt sets row .links ≡ set → Sound sets rows to labels → Sound sets rows to next
 
--- the port has the label of each that goes to the same sheet link
-abbrev pub Tied : List ℕ → List ℕ → ℕ → List ℕ → ℕ → Type 0
-Tied to ports count labels k =
-    (i : ℕ) → i < count → numberAt to (getD ports i 0) ≡ numberAt to (getD ports k 0) → numberAt labels (getD ports i 0) ≡ numberAt labels (getD ports k 0)
+-- the same if a context has this set and link a
+abbrev pub GrewWith : List ℕ → List ℕ → ℕ → List ℕ → List ℕ → Type 0
+GrewWith to set a labels next = (whole : List ℕ) → InPair whole a → PartOf set whole → Grew to whole labels next
 
-pub record Labelled (contexts : List Context) (rows : ℕ) (to labels : List ℕ) : Type 0 where
-  pub sound : Sound contexts rows to labels
-  pub complete : (c k : ℕ) → c < rows → k < rowAt contexts c .count → Tied to (rowAt contexts c .links) (rowAt contexts c .count) labels k
+-- two links have one label if they go to one sheet link
+abbrev pub Tied : List ℕ → List ℕ → ℕ → ℕ → Type 0
+Tied to labels x z = getD to x 0 ≡ getD to z 0 → getD labels x 0 ≡ getD labels z 0
+
+-- so all links of a set
+abbrev pub AllTied : List ℕ → List ℕ → List ℕ → Type 0
+AllTied to set labels = (x z : ℕ) → x < pairDigits → z < pairDigits → InPair set x → InPair set z → Tied to labels x z
+
+pub record Labelled (sets : List PortSet) (rows : ℕ) (to labels : List ℕ) : Type 0 where
+  pub sound : Sound sets rows to labels
+  pub complete : (c : ℕ) → c < rows → AllTied to (setAt sets c .links) labels
 
 -- x and z, from 0, are two of the first `links` that go to y, and y is not none
 pub record Meet (links : ℕ) (to : List ℕ) (none x z y : ℕ) : Type 0 where
@@ -60,35 +64,8 @@ pub record Meet (links : ℕ) (to : List ℕ) (none x z y : ℕ) : Type 0 where
   pub not-none : y ≢ none
 
 -- By labels: 0 where links that meet have one label, else where two meet that have not.
-pub record Apart (contexts : List Context) (rows links : ℕ) (to : List ℕ) (none y : ℕ) : Type 0 where
+pub record Apart (sets : List PortSet) (rows links : ℕ) (to : List ℕ) (none y : ℕ) : Type 0 where
   pub labels : List ℕ
-  pub labelled : Labelled contexts rows to labels
+  pub labelled : Labelled sets rows to labels
   pub all-one : y ≡ 0 → (x z w : ℕ) → Meet links to none x z w → getD labels x 0 ≡ getD labels z 0
   pub two-apart : y ≢ 0 → (x : ℕ) × (z : ℕ) × Meet links to none x z y × (getD labels x 0 ≢ getD labels z 0)
-
--- link x, from 0, is at y where it has a flag, else where `to` has it
-pub record GatheredAt (to flags : List ℕ) (y x v : ℕ) : Type 0 where
-  pub with-flag : getD flags x 0 ≡ 1 → v ≡ y
-  pub kept : getD flags x 0 ≢ 1 → v ≡ getD to x 0
-
-abbrev pub Gathered : List ℕ → List ℕ → ℕ → ℕ → List ℕ → Type 0
-Gathered to flags y n r = (x : ℕ) → x < n → GatheredAt to flags y x (getD r x 0)
-
--- two of the first n links go to y
-pub record Two (to : List ℕ) (y n : ℕ) : Type 0 where
-  pub one : ℕ
-  pub two : ℕ
-  pub before : one < two
-  pub two-in : two < n
-  pub one-at : getD to one 0 ≡ y
-  pub two-at : getD to two 0 ≡ y
-
--- two of the first n links go to y and have different labels
-pub record Differ (labels to : List ℕ) (y n : ℕ) : Type 0 where
-  pub one : ℕ
-  pub two : ℕ
-  pub one-in : one < n
-  pub two-in : two < n
-  pub one-at : getD to one 0 ≡ y
-  pub two-at : getD to two 0 ≡ y
-  pub other-label : getD labels one 0 ≢ getD labels two 0

@@ -6,11 +6,12 @@ use mathlib.Core.Bool.{Bool, true}
 use lib.ListN.{length, getD}
 use Rattle.hyperlmntal.specs.Link.{_∈_}
 use Rattle.rows.specs.Limits.{sheetLinks}
-use Rattle.rows.specs.declared.Context.{Context}
 use Rattle.rows.specs.declared.Sheet as form
-use Rattle.network.specs.NetIn.{netIn, rowAt}
+use Rattle.network.specs.NetIn.{netIn}
 use Rattle.network.specs.Ready.{Ready, LinksIn, TakenIn, stateIn}
-use Rattle.candidates.specs.Words.{In}
+use Rattle.candidates.specs.Words.{In, pairDigits, InPair}
+use Rattle.candidates.specs.PortSets.{setAt, PortIn}
+use Rattle.candidates.specs.declared.ports.PortSet.{PortSet}
 use Rattle.completing.specs.Completion.{Partial, Completable}
 use Rattle.completing.specs.Known.{Stands}
 use Rattle.stepping.specs.Chains.{ChainsIn}
@@ -28,16 +29,16 @@ pub record Standing (figure : form.Sheet) (words : List ℕ) : Type 0 where
   pub room : length words ≡ sheetLinks
   pub holds : (x : ℕ) → x < figure .«class_count» → (k : ℕ) → Stands (netIn figure) (suc x) k → In (getD words x 0) (digitOf k)
 
--- a word joined to those of the first `count` links; none loses a digit
-pub record Marked (was links : List ℕ) (count word : ℕ) (r : List ℕ) : Type 0 where
+-- a word joined to those of the links of a set; none loses a digit
+pub record Marked (was set : List ℕ) (word : ℕ) (r : List ℕ) : Type 0 where
   pub room : length r ≡ sheetLinks
   pub kept : (x t : ℕ) → In (getD was x 0) t → In (getD r x 0) t
-  pub joined : (k x t : ℕ) → k < count → getD links k 0 ≡ suc x → In word t → In (getD r x 0) t
+  pub joined : (x : ℕ) → x < pairDigits → InPair set x → (t : ℕ) → In word t → In (getD r x 0) t
 
 -- the words by the first c contexts
-pub record StandingTo (contexts : List Context) (c : ℕ) (words : List ℕ) : Type 0 where
+pub record StandingTo (sets : List PortSet) (c : ℕ) (words : List ℕ) : Type 0 where
   pub room : length words ≡ sheetLinks
-  pub holds : (i k x : ℕ) → i < c → k < rowAt contexts i .count → getD (rowAt contexts i .links) k 0 ≡ suc x → In (getD words x 0) (digitOf (rowAt contexts i .number))
+  pub holds : (i x : ℕ) → i < c → x < pairDigits → PortIn sets i x → In (getD words x 0) (digitOf (setAt sets i .number))
 
 -- The counts are those of this sheet and this figure; the chains are the sheet's, the words the figure's; `to` says where the
 -- figure links go.

@@ -1,7 +1,7 @@
 // Which contexts may hold a component: those with a port at each of its links where figure links go. `cuts`
 // has 0 for each of these, and for each other a mark of the link where it was cut off first.
 use crate::PORTS;
-use rows::Context;
+use candidates::ports::PortSet;
 use rows::Sheet;
 ghost use mathlib.Core.Path.{_≡_};
 ghost use mathlib.Core.Logic.{_↔_};
@@ -43,7 +43,7 @@ pub fn cut_at(
 }
 
 // The numbers of the first `count` contexts.
-pub fn numbers(contexts: [Context; Sheet::CONTEXT_ROOM], count: usize) -> [u16; Sheet::CONTEXT_ROOM]
+pub fn numbers(contexts: [PortSet; Sheet::CONTEXT_ROOM], count: usize) -> [u16; Sheet::CONTEXT_ROOM]
     requires { ⌜ (count ≤ figureContexts) × (length contexts ≡ contextRoom) ⌝ }
     ensures { λ r. ⌜ ((c : ℕ) → c < count → getD r c 0 ≡ numberOf contexts c) ⌝ }
 {

@@ -4,7 +4,6 @@ pub mod contexts;
 pub mod lookup;
 pub mod standing;
 pub mod steps;
-pub mod torn;
 
 use rows::Sheet;
 

@@ -1,15 +1,18 @@
 // What is looked up while a component is grown.
 use crate::PORTS;
-use rows::Context;
+use candidates::pairs::first_link;
+use candidates::pairs::is_empty;
+use candidates::pairs::without_link;
+use candidates::ports::PortSet;
 use rows::Sheet;
 ghost use mathlib.Core.Path.{_≡_};
 ghost use mathlib.Core.Logic.{_↔_, _⊎_};
 ghost use Prim.Native.Nat.{ℕ, _+_, _*_, _<_, _≤_};
 ghost use lib.ListN.{length, getD, replicate};
 ghost use Rattle.rows.specs.Limits.{sheetLinks, figureContexts, contextRoom};
-ghost use Rattle.network.specs.NetIn.{Ports};
+ghost use Rattle.candidates.specs.PortSets.{Ports};
 ghost use Rattle.stepping.specs.Contexts.{numberOf};
-ghost use Rattle.stepping.specs.Flags.{Within, Ported, atPort, portOfRow, portOfNumber, goesTo};
+ghost use Rattle.stepping.specs.Flags.{Within, Ported, portOfSet, portOfRow, portOfNumber, goesTo};
 
 // For each sheet link 1 where a figure link goes.
 pub fn used_links(count: usize, to: &[u16; Sheet::LINKS], none: u16) -> [u8; Sheet::LINKS]
@@ -28,25 +31,20 @@ pub fn used_links(count: usize, to: &[u16; Sheet::LINKS], none: u16) -> [u8; She
     flags
 }
 
-// The sheet links to which ports of one row go, for context c.
-fn port_row(
-    table: &mut [u8; PORTS],
-    c: usize,
-    ports: [u16; Sheet::MOST_LINKS],
-    count: usize,
-    to: &[u16; Sheet::LINKS],
-    none: u16,
-)
-    requires { ⌜ (c < contextRoom) × (none ≤ sheetLinks + 1) × Ported (now to) none count ports × (length (now table) ≡ contextRoom * sheetLinks) ⌝ }
-    ensures { λ r. ⌜ (length (now (table .exit)) ≡ contextRoom * sheetLinks) × ((p : ℕ) → (getD (now (table .exit)) p 0 ≡ 1) ↔ ((getD (now (table .entry)) p 0 ≡ 1) ⊎ ((k : ℕ) × (k < count) × atPort (now (to .entry)) none ports c k p))) ⌝ }
+// The sheet links to which the links of a set go, for context c.
+fn port_row(table: &mut [u8; PORTS], c: usize, set: [u64; 2], to: &[u16; Sheet::LINKS], none: u16)
+    requires { ⌜ (c < contextRoom) × (none ≤ sheetLinks + 1) × Ported (now to) none set × (length (now table) ≡ contextRoom * sheetLinks) ⌝ }
+    ensures { λ r. ⌜ (length (now (table .exit)) ≡ contextRoom * sheetLinks) × ((p : ℕ) → (getD (now (table .exit)) p 0 ≡ 1) ↔ ((getD (now (table .entry)) p 0 ≡ 1) ⊎ portOfSet (now (to .entry)) none set c p)) ⌝ }
 {
-    let mut k = 0;
-    while k < count {
-        let y = to[(ports[k] - 1) as usize];
+    let mut rest = set;
+    while !is_empty(rest) {
+        let x = first_link(rest);
+        let less = without_link(rest, x);
+        rest = less;
+        let y = to[x];
         if y != none {
             table[c * Sheet::LINKS + ((y - 1) as usize)] = 1;
         }
-        k += 1;
     }
 }
 
@@ -55,18 +53,18 @@ fn port_rows(
     table: &mut [u8; PORTS],
     numbers: &[u16; Sheet::CONTEXT_ROOM],
     count: usize,
-    row: Context,
+    row: PortSet,
     to: &[u16; Sheet::LINKS],
     none: u16,
 )
-    requires { ⌜ (count ≤ figureContexts) × (none ≤ sheetLinks + 1) × Ported (now to) none (row .count) (row .links) × (length (now table) ≡ contextRoom * sheetLinks) ⌝ }
+    requires { ⌜ (count ≤ figureContexts) × (none ≤ sheetLinks + 1) × Ported (now to) none (row .links) × (length (now table) ≡ contextRoom * sheetLinks) ⌝ }
     ensures { λ r. ⌜ (length (now (table .exit)) ≡ contextRoom * sheetLinks) × ((p : ℕ) → (getD (now (table .exit)) p 0 ≡ 1) ↔ ((getD (now (table .entry)) p 0 ≡ 1) ⊎ portOfRow (now (numbers .entry)) count row (now (to .entry)) none p)) ⌝ }
 {
     let ports = row.links;
     let mut c = 0;
     while c < count {
         if numbers[c] == row.number {
-            port_row(&mut *table, c, ports, row.count as usize, to, none);
+            port_row(&mut *table, c, ports, to, none);
         }
         c += 1;
     }
@@ -77,7 +75,7 @@ fn port_rows(
 pub fn port_table(
     table: &mut [u8; PORTS],
     numbers: &[u16; Sheet::CONTEXT_ROOM],
-    contexts: [Context; Sheet::CONTEXT_ROOM],
+    contexts: [PortSet; Sheet::CONTEXT_ROOM],
     count: usize,
     to: &[u16; Sheet::LINKS],
     none: u16,

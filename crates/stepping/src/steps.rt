@@ -1,16 +1,18 @@
 // Figure links that go to one sheet link: are they linked by steps, each between two links of one context?
-use rows::Context;
+use candidates::pairs::first_link;
+use candidates::pairs::is_empty;
+use candidates::pairs::without_link;
+use candidates::ports::PortSet;
 use rows::Sheet;
 ghost use mathlib.Core.Path.{_≡_};
 ghost use mathlib.Core.Logic.{_≢_};
 ghost use Prim.Native.Nat.{ℕ, _+_, _<_, _≤_};
 ghost use lib.ListN.{length, getD};
-ghost use Rattle.rows.specs.Format.{mostLinks};
-ghost use Rattle.rows.specs.Limits.{sheetLinks, figureContexts};
-ghost use Rattle.placing.specs.Net.{Range};
-ghost use Rattle.network.specs.NetIn.{rowAt, Ports};
+ghost use Rattle.rows.specs.Limits.{sheetLinks};
+ghost use Rattle.candidates.specs.Words.{pairDigits, InPair};
+ghost use Rattle.candidates.specs.PortSets.{Below, Ports};
 ghost use Rattle.stepping.specs.Flags.{Within};
-ghost use Rattle.stepping.specs.Labels.{Relabelled, Bounded, Grew, Tied, Labelled, Apart};
+ghost use Rattle.stepping.specs.Labels.{Relabelled, Bounded, Grew, GrewWith, Tied, AllTied, Labelled, Apart};
 
 // Each link its own label.
 fn own_labels(labels: &mut [u16; Sheet::LINKS])
@@ -38,60 +40,56 @@ fn relabel(labels: &mut [u16; Sheet::LINKS], n: usize, from: u16, to: u16)
     }
 }
 
-// One link of a context with each of its links before it that goes to the same sheet link.
+// Link a with each link of the set that goes to the same sheet link.
 fn with_port(
     labels: &mut [u16; Sheet::LINKS],
     to: &[u16; Sheet::LINKS],
-    ports: [u16; Sheet::MOST_LINKS],
-    count: usize,
-    at: usize,
+    set: [u64; 2],
+    a: usize,
     n: usize,
 )
-    requires { ⌜ (at < count) × (count ≤ mostLinks) × ((k : ℕ) → k < count → Range n (getD ports k 0)) × (length (now labels) ≡ sheetLinks) × (n ≤ sheetLinks) × Bounded n (now labels) ⌝ }
-    ensures { λ r. ⌜ (length (now (labels .exit)) ≡ sheetLinks) × Grew (now (to .entry)) ports count (now (labels .entry)) (now (labels .exit)) × Tied (now (to .entry)) ports at (now (labels .exit)) at × Bounded n (now (labels .exit)) ⌝ }
+    requires { ⌜ (a < n) × Below n set × (length (now labels) ≡ sheetLinks) × (n ≤ sheetLinks) × Bounded n (now labels) ⌝ }
+    ensures { λ r. ⌜ (length (now (labels .exit)) ≡ sheetLinks) × GrewWith (now (to .entry)) set a (now (labels .entry)) (now (labels .exit)) × ((z : ℕ) → z < pairDigits → InPair set z → Tied (now (to .entry)) (now (labels .exit)) a z) × Bounded n (now (labels .exit)) ⌝ }
 {
-    let a = ports[at];
-    let y = to[(a - 1) as usize];
-    let mut k = 0;
-    while k < at {
-        let b = ports[k];
-        if to[(b - 1) as usize] == y {
-            let from = labels[(b - 1) as usize];
-            let label = labels[(a - 1) as usize];
+    let y = to[a];
+    let mut rest = set;
+    while !is_empty(rest) {
+        let b = first_link(rest);
+        let less = without_link(rest, b);
+        rest = less;
+        if to[b] == y {
+            let from = labels[b];
+            let label = labels[a];
             if from != label {
                 relabel(&mut *labels, n, from, label);
             }
         }
-        k += 1;
     }
 }
 
-fn with_context(
-    labels: &mut [u16; Sheet::LINKS],
-    to: &[u16; Sheet::LINKS],
-    ports: [u16; Sheet::MOST_LINKS],
-    count: usize,
-    n: usize,
-)
-    requires { ⌜ (count ≤ mostLinks) × ((k : ℕ) → k < count → Range n (getD ports k 0)) × (length (now labels) ≡ sheetLinks) × (n ≤ sheetLinks) × Bounded n (now labels) ⌝ }
-    ensures { λ r. ⌜ (length (now (labels .exit)) ≡ sheetLinks) × Grew (now (to .entry)) ports count (now (labels .entry)) (now (labels .exit)) × ((k : ℕ) → k < count → Tied (now (to .entry)) ports count (now (labels .exit)) k) × Bounded n (now (labels .exit)) ⌝ }
+// The links of a context with each other.
+fn with_context(labels: &mut [u16; Sheet::LINKS], to: &[u16; Sheet::LINKS], set: [u64; 2], n: usize)
+    requires { ⌜ Below n set × (length (now labels) ≡ sheetLinks) × (n ≤ sheetLinks) × Bounded n (now labels) ⌝ }
+    ensures { λ r. ⌜ (length (now (labels .exit)) ≡ sheetLinks) × Grew (now (to .entry)) set (now (labels .entry)) (now (labels .exit)) × AllTied (now (to .entry)) set (now (labels .exit)) × Bounded n (now (labels .exit)) ⌝ }
 {
-    let mut k = 0;
-    while k < count {
-        with_port(&mut *labels, to, ports, count, k, n);
-        k += 1;
+    let mut rest = set;
+    while !is_empty(rest) {
+        let a = first_link(rest);
+        let less = without_link(rest, a);
+        rest = less;
+        with_port(&mut *labels, to, rest, a, n);
     }
 }
 
 // Labels of all links, by the ports of the contexts, which are among the first n links.
-pub(crate) fn step_labels(
+fn step_labels(
     labels: &mut [u16; Sheet::LINKS],
     to: &[u16; Sheet::LINKS],
-    contexts: [Context; Sheet::CONTEXT_ROOM],
+    contexts: [PortSet; Sheet::CONTEXT_ROOM],
     count: usize,
     n: usize,
 )
-    requires { ⌜ (count ≤ figureContexts) × ((i : ℕ) → i < count → (rowAt contexts i .count ≤ mostLinks) × Within n (rowAt contexts i .count) (rowAt contexts i .links)) × (length (now labels) ≡ sheetLinks) × (n ≤ sheetLinks) ⌝ }
+    requires { ⌜ Ports contexts count n × (length (now labels) ≡ sheetLinks) ⌝ }
     ensures { λ r. ⌜ (length (now (labels .exit)) ≡ sheetLinks) × Labelled contexts count (now (to .entry)) (now (labels .exit)) ⌝ }
 {
     own_labels(&mut *labels);
@@ -99,14 +97,14 @@ pub(crate) fn step_labels(
     while c < count {
         let row = contexts[c];
         let ports = row.links;
-        with_context(&mut *labels, to, ports, row.count as usize, n);
+        with_context(&mut *labels, to, ports, n);
         c += 1;
     }
 }
 
 // A sheet link at which two figure links have different labels, 0 where there is none.
 pub fn apart(
-    contexts: [Context; Sheet::CONTEXT_ROOM],
+    contexts: [PortSet; Sheet::CONTEXT_ROOM],
     rows: usize,
     count: usize,
     to: &[u16; Sheet::LINKS],

@@ -42,24 +42,24 @@ put-filling-requires c κs = let t = c .before .before .before .before .context-
     let s = c .before .before .before .before .before .before .before .before .before .before in
     let a = s .args in
     let d = contextIn (contextAt (a .figure) (t .result)) in
-    let next = text-next (a .sheet) (a .figure) (s .pre .0 .0) (a .t3) (a .t4) (s .pre .0 .2) (s .pre .0 .3) (l .i) (omega arith) d (t .ensures .1) in (
+    let next = text-next (a .sheet) (a .figure) (s .pre .0 .0) (a .t3) (a .t4) (s .pre .0 .2) (s .pre .0 .3) (s .pre .0 .4) (l .i) (omega arith) d (t .ensures .1) in (
       (
         s .pre .0 .0 .sheet-fit,
         search needs,
         s .pre .0 .2,
         s .pre .0 .4 .names,
-        links-used (a .sheet) (a .figure) (s .pre .0 .0) (a .t3) (s .pre .0 .1) (t .result) (t .ensures .0),
+        links-used (a .sheet) (a .figure) (s .pre .0 .0) (s .pre .0 .4) (a .t3) (s .pre .0 .1) (t .result) (t .ensures .0),
         s .pre .0 .4 .numbers (t .result) (t .ensures .0),
       ),
       (
-        stands-low (a .sheet) (a .figure) (s .pre .0 .0) (a .t3) (s .pre .0 .1) (t .result) (t .ensures .0),
+        stands-low (a .sheet) (a .figure) (s .pre .0 .0) (s .pre .0 .4) (a .t3) (s .pre .0 .1) (t .result) (t .ensures .0),
         omega (
           arith,
           l .inv .1,
           l .inv .2,
           ap length next,
           length-append (textTo (a .sheet) (a .figure) (a .t3) (a .t4) (l .i)) (fillingBytes (a .sheet) (a .t3) (a .t4) d),
-          text-room (a .sheet) (a .figure) (s .pre .0 .0) (a .t3) (a .t4) (s .pre .0 .2) (s .pre .0 .3) (l .i + 1),
+          text-room (a .sheet) (a .figure) (s .pre .0 .0) (a .t3) (a .t4) (s .pre .0 .2) (s .pre .0 .3) (s .pre .0 .4) (l .i + 1),
           s .pre .1,
         ),
       ),
@@ -79,10 +79,10 @@ loop-again c = let p = c .before .before .put-filling in
     let h = c .before .before .before .before .before .before .before .before .if1 .taken in
     let a = s .args in
     let d = contextIn (contextAt (a .figure) (t .result)) in
-    let next = text-next (a .sheet) (a .figure) (s .pre .0 .0) (a .t3) (a .t4) (s .pre .0 .2) (s .pre .0 .3) (l .i) (omega arith) d (t .ensures .1) in
+    let next = text-next (a .sheet) (a .figure) (s .pre .0 .0) (a .t3) (a .t4) (s .pre .0 .2) (s .pre .0 .3) (s .pre .0 .4) (l .i) (omega arith) d (t .ensures .1) in
     let text = textTo (a .sheet) (a .figure) (a .t3) (a .t4) (l .i) in
     let more = fillingBytes (a .sheet) (a .t3) (a .t4) d in
-    let room = text-room (a .sheet) (a .figure) (s .pre .0 .0) (a .t3) (a .t4) (s .pre .0 .2) (s .pre .0 .3) (l .i + 1) in (
+    let room = text-room (a .sheet) (a .figure) (s .pre .0 .0) (a .t3) (a .t4) (s .pre .0 .2) (s .pre .0 .3) (s .pre .0 .4) (l .i + 1) in (
       omega arith,
       p .kept .1 .1 .1 .1 .0 ∙ l .inv .1,
       omega (arith, p .ensures .0, l .inv .2, ap length next, length-append text more),
@@ -96,8 +96,8 @@ returns : tie.Need-returns Inv-loop μ-loop
 returns c = let l = c .before .before .loop in
     let s = c .before .before .before .before .before in
     let a = s .args in (
-      λ atoms. l .inv .2 ∙ ap length (text-all (a .sheet) (a .figure) (s .pre .0 .0) (a .t3) (a .t4) (s .pre .0 .2) (s .pre .0 .3) atoms (l .i) (omega arith)),
-      λ atoms. rw (text-all (a .sheet) (a .figure) (s .pre .0 .0) (a .t3) (a .t4) (s .pre .0 .2) (s .pre .0 .3) atoms (l .i) (omega arith)) at (l .inv .3),
+      λ atoms. l .inv .2 ∙ ap length (text-all (a .sheet) (a .figure) (s .pre .0 .0) (a .t3) (a .t4) (s .pre .0 .2) (s .pre .0 .3) (s .pre .0 .4) atoms (l .i) (omega arith)),
+      λ atoms. rw (text-all (a .sheet) (a .figure) (s .pre .0 .0) (a .t3) (a .t4) (s .pre .0 .2) (s .pre .0 .3) (s .pre .0 .4) atoms (l .i) (omega arith)) at (l .inv .3),
     )
 
 pub write-fillings-spec : {M : Type 1} → statement M

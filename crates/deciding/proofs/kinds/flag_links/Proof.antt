@@ -1,49 +1,53 @@
--- `kinds::flag_links` meets its contract. The loop's invariant: the first k links are flagged. Assumes nothing.
+-- Invariant: the links that are not left have a flag.
 use borrow.Author.Needs.{needs}
-use Prim.Native.Nat.{ℕ, _-_, _≤_}
-use mathlib.Core.Path.{_≡_, subst}
+use Prim.Native.Nat.{_<_}
+use mathlib.Core.Path.{sym, _∙_}
 use native.Mathlib.Omega.{arith}
-use Rattle.deciding.specs.Kinds.{StandingIn}
-use Rattle.deciding.proofs.FlagLaws.{standing-start, standing-next}
+use borrow.Author.Tests.{not-true, not-false}
+use Rattle.rows.specs.Limits.{sheetLinks}
+use Rattle.candidates.specs.Words.{pairSize}
+use Rattle.candidates.proofs.Halves.{without-smaller}
+use Rattle.deciding.proofs.FlagLaws.{Flagging, flagging-start, flagging-next, flagging-end}
 use Rattle.deciding.proofs.kinds.flag_links.Statement.{statement}
 use Rattle.deciding.proofs.kinds.flag_links.Tie as tie
 
 abbrev Inv-loop : tie.InvT-loop
-Inv-loop flags₀ count links k₀ flags k = (k ≤ count) × StandingIn links k flags
+Inv-loop flags₀ rest₀ flags rest = Flagging rest₀ rest flags
 
 abbrev μ-loop : tie.MeasureT-loop
-μ-loop flags₀ count links k₀ flags k = count - k
+μ-loop flags₀ rest₀ flags rest = pairSize rest
+
+-- the link is one of a sheet
+small : (c : tie.After-without-link Inv-loop μ-loop) → c .before .first-link .result < sheetLinks
+small c = let f = c .before .first-link in
+    let l = c .before .before .before .before in
+    l .before .pre .0 (f .result) (f .ensures .0) (l .loop .inv .part (f .result) (f .ensures .0) (f .ensures .1))
 
 loop-holds : tie.Need-loop-holds Inv-loop μ-loop
-loop-holds c = (omega arith, standing-start _ _ (c .pre .1))
+loop-holds c = flagging-start (c .args .set) (c .args .flags .now) (c .pre .1)
 
-mul-flags : tie.Need-mul-flags Inv-loop μ-loop
-mul-flags c = search needs
+is-empty-requires : tie.Need-is-empty-requires Inv-loop μ-loop
+is-empty-requires c κs = search needs
 
-array-read-flags : tie.Need-array-read-flags Inv-loop μ-loop
-array-read-flags c = search needs
+first-link-requires : tie.Need-first-link-requires Inv-loop μ-loop
+first-link-requires c κs = sym (c .before .is-empty .ensures) ∙ not-true _ (c .if1 .taken)
 
-sub-flags : tie.Need-sub-flags Inv-loop μ-loop
-sub-flags c = omega (arith, c .before .before .pre .0 .numbered (c .before .loop .k) (c .loop-test .taken))
-
-cast-flags : tie.Need-cast-flags Inv-loop μ-loop
-cast-flags c = search (needs, c .before .before .pre .0 .numbered (c .before .loop .k) (c .loop-test .taken))
+without-link-requires : tie.Need-without-link-requires Inv-loop μ-loop
+without-link-requires c κs = search needs
 
 element-write-flags : tie.Need-element-write-flags Inv-loop μ-loop
-element-write-flags c = omega (arith, c .before .before .pre .0 .numbered (c .before .loop .k) (c .loop-test .taken))
-
-add-k : tie.Need-add-k Inv-loop μ-loop
-add-k c = search needs
+element-write-flags c = small c
 
 loop-less : tie.Need-loop-less Inv-loop μ-loop
-loop-less c = search needs
+loop-less c = let f = c .before .first-link .ensures in without-smaller _ _ (f .0) _ (c .without-link .ensures) (f .1)
 
 loop-again : tie.Need-loop-again Inv-loop μ-loop
-loop-again c = (omega arith, standing-next (c .before .before .args .t2) (c .before .before .args .count) (c .before .before .pre .0) (c .before .loop .k) (c .loop-test .taken) (c .before .loop .flags) (c .before .loop .inv .1))
+loop-again c = let f = c .before .first-link in
+    let l = c .before .before .before .before in
+    flagging-next (l .before .args .set) (l .loop .rest) (l .loop .flags) (l .loop .inv) (f .result) (f .ensures .0) (small c) (f .ensures .1) (c .without-link .result) (c .without-link .ensures)
 
 returns : tie.Need-returns Inv-loop μ-loop
-returns c = let e : c .before .loop .k ≡ c .before .before .args .count = omega arith in
-    subst (λ (n : ℕ). StandingIn (c .before .before .args .t2) n (c .before .loop .flags)) e (c .before .loop .inv .1)
+returns c = let l = c .before .before in flagging-end (l .before .args .set) (l .loop .rest) (l .loop .flags) (sym (c .before .is-empty .ensures) ∙ not-false _ (c .if1 .left)) (l .loop .inv)
 
 pub flag-links-spec : {M : Type 1} → statement M
 flag-links-spec =
@@ -52,12 +56,10 @@ flag-links-spec =
     Inv-loop
     μ-loop
     loop-holds
-    mul-flags
-    array-read-flags
-    sub-flags
-    cast-flags
+    is-empty-requires
+    first-link-requires
+    without-link-requires
     element-write-flags
-    add-k
     loop-less
     loop-again
     returns)

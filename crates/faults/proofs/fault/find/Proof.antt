@@ -4,7 +4,7 @@ use Prim.Native.Nat.{_+_}
 use mathlib.Core.Path.{refl, subst}
 use lib.ListN.{replicate}
 use Rattle.rows.specs.Limits.{sheetAtoms}
-use Rattle.network.proofs.NetIn.{ports-of}
+use Rattle.candidates.proofs.PortRows.{ports-of}
 use Rattle.network.specs.NetIn.{netIn}
 use Rattle.network.specs.Ready.{stateIn}
 use Rattle.stepping.specs.Labels.{Apart}

@@ -10,7 +10,7 @@ use Rattle.placing.specs.Net.{Range}
 use Rattle.placing.proofs.FirstLaws.{both-ways}
 use Rattle.candidates.specs.Words.{InPair}
 use Rattle.candidates.specs.Tables.{NoLink}
-use Rattle.candidates.proofs.Halves.{pair-in, none-in-pair}
+use Rattle.candidates.proofs.Halves.{in-pair, pair-in, none-in-pair}
 use Rattle.narrowing.proofs.Passes.{mark-hopeless}
 use Rattle.narrowing.proofs.empty.mark_lost.Statement.{statement}
 use Rattle.narrowing.proofs.empty.mark_lost.Tie as tie
@@ -52,7 +52,7 @@ returns c = let l = c .before .before .before .before .before in
     let rows = l .before .args .links .now in
     let x = getD (l .before .args .marked .now) p 0 - 1 in
     λ e sheet figure marks fs ns o pre a h. mark-hopeless sheet figure fs (o .fit) ns (o .normal) pre a rows h p (omega (arith, c .before .before .before .before .loop-test .taken, o .count))
-    (subst (λ (w : List ℕ). NoLink rows (getD w p 0 - 1)) (sym (o .same-marked)) (λ y b m. none-in-pair _ (sym (c .before .is-empty .ensures) ∙ c .if1 .taken) y b (subst (λ (w : List ℕ). InPair w y) (sym (c .before .before .pair-at .ensures)) (pair-in rows x y b m))))
+    (subst (λ (w : List ℕ). NoLink rows (getD w p 0 - 1)) (sym (o .same-marked)) (λ y b m. none-in-pair _ (sym (c .before .is-empty .ensures) ∙ c .if1 .taken) y (in-pair b) (subst (λ (w : List ℕ). InPair w y) (sym (c .before .before .pair-at .ensures)) (pair-in rows x y b m))))
 
 add-p : tie.Need-add-p Inv-loop μ-loop
 add-p c = search needs

@@ -9,7 +9,7 @@ use Rattle.rows.specs.declared.Atom.{Atom}
 use Rattle.candidates.specs.Laid.{laidAtom}
 use Rattle.candidates.specs.Words.{In, InPair}
 use Rattle.candidates.proofs.Digits.{in-some, alone-in, alone-only, in-fewer, fewer-smaller}
-use Rattle.candidates.proofs.Halves.{with-kept, with-there}
+use Rattle.candidates.proofs.Halves.{in-pair, with-kept, with-there}
 use Rattle.narrowing.specs.Steps.{Given, GivenBy}
 use borrow.Author.Needs.{needs}
 use Rattle.narrowing.proofs.given.given.Statement.{statement}
@@ -70,7 +70,7 @@ loop-again c = let l = c .before .before .before .before .before .before .before
     let a = c .before .before .link-at in
     let small : a .result - 1 < sheetLinks = omega (arith, a .ensures .2) in
     let e = c .with .ensures in
-    λ y h g. ⊎-elim (λ p. inl (with-kept _ _ small _ e y h p)) (λ q. ⊎-elim (λ b. inl (subst (InPair (c .with .result)) (let z : a .result - 1 ≡ y = omega (arith, a .ensures .0 (b .place), b .there) in z) (with-there _ _ small _ e))) inr (rest (c .before .before .before .before) y q)) (l .loop .inv y h g)
+    λ y h g. ⊎-elim (λ p. inl (with-kept _ _ small _ e y (in-pair h) p)) (λ q. ⊎-elim (λ b. inl (subst (InPair (c .with .result)) (let z : a .result - 1 ≡ y = omega (arith, a .ensures .0 (b .place), b .there) in z) (with-there _ _ small _ e))) inr (rest (c .before .before .before .before) y q)) (l .loop .inv y h g)
 
 loop-less-2 : tie.Need-loop-less-2 Inv-loop μ-loop
 loop-less-2 c = less (c .before .before .before)

@@ -8,7 +8,7 @@ use lib.ListN.{getD}
 use Rattle.rows.specs.Limits.{sheetLinks}
 use Rattle.candidates.specs.Words.{wordDigits, In, InPair}
 use Rattle.candidates.proofs.Digits.{none-in, in-and, alone-in, fewer-smaller}
-use Rattle.candidates.proofs.Halves.{by-half, with-only}
+use Rattle.candidates.proofs.Halves.{in-pair, with-only, empty-pair}
 use borrow.Author.Needs.{needs}
 use Rattle.narrowing.proofs.given.missing.Statement.{statement}
 use Rattle.narrowing.proofs.given.missing.Tie as tie
@@ -24,7 +24,7 @@ less : (c : tie.After-minus Inv-loop μ-loop) → c .minus .result < c .before .
 less c = fewer-smaller _ _ _ (c .minus .ensures) (c .before .before .first .result) (c .before .before .first .ensures .1) (alone-in _ _ (c .before .one .ensures))
 
 loop-holds : tie.Need-loop-holds Inv-loop μ-loop
-loop-holds c = λ y h p. absurd (by-half (λ (q : ℕ). ¬ In (getD (0 ∷ 0 ∷ []) q 0) (y % wordDigits)) y h (none-in (y % wordDigits)) (none-in (y % wordDigits)) p)
+loop-holds c = λ y h p. absurd (empty-pair y p)
 
 first-requires : tie.Need-first-requires Inv-loop μ-loop
 first-requires c κs = search needs
@@ -68,7 +68,7 @@ loop-again : tie.Need-loop-again Inv-loop μ-loop
 loop-again c = let l = c .before .before .before .before .before .before .before .before .before .before in
     let s = l .before .args in
     let k = s .k in
-    λ y h p t r u. ⊎-elim (λ q. l .loop .inv y h q t r u) (λ e. none-in t (subst (λ (w : ℕ). In w t) (c .before .if3 .taken) (in-and _ (s .row) t (subst (λ (z : ℕ). In (getD (s .users .now) (k * sheetLinks + z) 0) t) e u) r))) (with-only _ _ (omega (arith, c .before .before .before .before .link-at .ensures .2)) _ (c .with .ensures) y h p)
+    λ y h p t r u. ⊎-elim (λ q. l .loop .inv y h q t r u) (λ e. none-in t (subst (λ (w : ℕ). In w t) (c .before .if3 .taken) (in-and _ (s .row) t (subst (λ (z : ℕ). In (getD (s .users .now) (k * sheetLinks + z) 0) t) e u) r))) (with-only _ _ (omega (arith, c .before .before .before .before .link-at .ensures .2)) _ (c .with .ensures) y (in-pair h) p)
 
 loop-less-2 : tie.Need-loop-less-2 Inv-loop μ-loop
 loop-less-2 c = less (c .before .before .before .before .before)

@@ -12,7 +12,7 @@ use borrow.Author.Tests.{not-true, not-false}
 use borrow.Fn.Kinds.{In}
 use borrow.Fn.PlainCycle.{Measures, is, falls, and}
 use Rattle.rows.specs.declared.Sheet as form
-use Rattle.network.proofs.NetIn.{ports-of}
+use Rattle.candidates.proofs.PortRows.{ports-of}
 use Rattle.deciding.specs.Flags.{flagged}
 use Rattle.settling.specs.Completes.{Tables, CompletesAt}
 use Rattle.deciding.proofs.Flagged.{flagged-fewer}

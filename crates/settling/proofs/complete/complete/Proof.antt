@@ -4,6 +4,7 @@ use native.Mathlib.Omega.{arith}
 use borrow.Author.Tests.{not-true, not-false}
 use Rattle.rows.specs.declared.Sheet.{Sheet as NormalForm}
 use Rattle.candidates.specs.Frames.{whole}
+use Rattle.candidates.proofs.Framing.{whole-contexts}
 use Rattle.settling.proofs.Trying.{nets-of}
 use Rattle.settling.proofs.Starting.{twice-none, links-in}
 use Rattle.settling.proofs.Whole.{complete-none, complete-least}
@@ -57,7 +58,7 @@ least-requires c κs = let b = c .before .before .before .before .before .before
     let d = t .ensures .different (not-false _ (c .before .before .before .before .before .before .before .before .before .before .before .before .before .if1 .left)) in
     let g = l .ensures .passed (not-false _ (c .before .before .before .before .before .before .before .before .before .before .if2 .left)) in
     let m = links-in (sheet-of b) (figure-of b) (p .0) (a .atoms-to) (p .1) (l .result .to) g (o .result .to) (o .result .flags) (o .ensures) (t .result .flags) d in
-    ((sheet-of b, figure-of b, nets-of (sheet-of b) (figure-of b) (p .0) (a .laid .now) (p .2), m), o .ensures .flags-room)
+    ((sheet-of b, figure-of b, nets-of (sheet-of b) (figure-of b) (p .0) (a .laid .now) (p .2) (a .figure .contexts) (whole-contexts (a .figure) (a .parts .now) (p .0 .figure-fit)), m), o .ensures .flags-room)
 
 returns-3 : tie.Need-returns-3
 returns-3 c = let b = c .before .before .before .before .before .before .before .before .before .before .before .before .before .before .before .before .before in
@@ -70,7 +71,7 @@ returns-3 c = let b = c .before .before .before .before .before .before .before 
     let g = l .ensures .passed (not-false _ (c .before .before .before .before .before .before .before .before .before .before .before .if2 .left)) in
     let m = links-in (sheet-of b) (figure-of b) (p .0) (a .atoms-to) (p .1) (l .result .to) g (o .result .to) (o .result .flags) (o .ensures) (t .result .flags) d in
     complete-least (sheet-of b) (figure-of b) (p .0) (a .atoms-to) (p .1) (l .result .to) g (o .result .to) (o .result .flags) (o .ensures) (t .result .flags) d (c .least .result)
-    (c .least .ensures (sheet-of b) (figure-of b) (nets-of (sheet-of b) (figure-of b) (p .0) (a .laid .now) (p .2)) m)
+    (c .least .ensures (sheet-of b) (figure-of b) (nets-of (sheet-of b) (figure-of b) (p .0) (a .laid .now) (p .2) (a .figure .contexts) (whole-contexts (a .figure) (a .parts .now) (p .0 .figure-fit))) m)
 
 pub complete-spec : {M : Type 1} → statement M
 complete-spec =

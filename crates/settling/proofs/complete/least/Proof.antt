@@ -3,7 +3,7 @@ use borrow.Author.Needs.{needs}
 use borrow.Author.Tests.{not-true, not-false}
 use mathlib.Core.Path.{refl}
 use native.Mathlib.Omega.{arith}
-use Rattle.network.proofs.NetIn.{ports-of}
+use Rattle.candidates.proofs.PortRows.{ports-of}
 use Rattle.candidates.proofs.Laying.{laid-rowed}
 use Rattle.settling.proofs.Trying.{over-of, tables-of}
 use Rattle.settling.proofs.Whole.{least-none, least-some, closed-none, closed-some}

@@ -6,7 +6,7 @@ use native.Mathlib.Omega.{arith}
 use lib.ListN.{set, length-set}
 use lib.Seq.{set-set}
 use Rattle.rows.specs.declared.Sheet as form
-use Rattle.network.proofs.NetIn.{ports-of}
+use Rattle.candidates.proofs.PortRows.{ports-of}
 use Rattle.faults.proofs.Finding.{links-few}
 use Rattle.settling.specs.Completes.{Tables}
 use Rattle.settling.proofs.Trying.{TriedAll, tables-next, completes-next, tried-more, first-found, first-none}

@@ -4,7 +4,7 @@ use Prim.Native.Nat.{_-_, _≤_}
 use mathlib.Core.Logic.{⊎-elim}
 use native.Mathlib.Omega.{arith}
 use Rattle.rows.specs.declared.Sheet as form
-use Rattle.network.proofs.NetIn.{ports-of}
+use Rattle.candidates.proofs.PortRows.{ports-of}
 use Rattle.settling.specs.Completes.{Tables}
 use Rattle.settling.proofs.Trying.{tables-links}
 use Rattle.settling.proofs.SettleLaws.{SettledTo, settled-same, settled-start, settled-skip, settled-next, settled-end}

@@ -1,6 +1,6 @@
 -- Invariant: the links of the first i contexts are 0.
-use native.Mathlib.Omega.{arith}
 use borrow.Author.Needs.{needs}
+use native.Mathlib.Omega.{arith}
 use Prim.Native.Nat.{_≤_, _-_}
 use Rattle.starting.specs.Steps.{PortsCleared}
 use Rattle.starting.proofs.Ports.{ports-next}
@@ -14,31 +14,31 @@ abbrev μ-loop : tie.MeasureT-loop
 μ-loop n closed₀ contexts i₀ closed i = n - i
 
 loop-holds : tie.Need-loop-holds Inv-loop μ-loop
-loop-holds c = (search needs, λ h k l m. absurd (omega arith))
+loop-holds c = (search needs, λ h u. absurd (omega arith))
 
 mul-context : tie.Need-mul-context Inv-loop μ-loop
-mul-context c = search needs
+mul-context c = omega (arith, c .loop-test .taken, c .before .before .pre .1 .few)
 
 array-copy-out-context : tie.Need-array-copy-out-context Inv-loop μ-loop
-array-copy-out-context c = search needs
+array-copy-out-context c = omega (arith, c .loop-test .taken, c .before .before .pre .1 .few)
 
-clear-ports-requires : tie.Need-clear-ports-requires Inv-loop μ-loop
-clear-ports-requires c κs = let l = c .before .before .before in
-    l .before .pre .links (l .loop .i) (c .before .before .loop-test .taken)
+clear-links-requires : tie.Need-clear-links-requires Inv-loop μ-loop
+clear-links-requires c κs = let l = c .before .before .before .before in
+    let p = l .before .pre .1 in
+    λ x k m. omega (arith, p .within (l .loop .i) (c .before .before .before .loop-test .taken) x k m, p .links-few)
 
 add-i : tie.Need-add-i Inv-loop μ-loop
-add-i c = search needs
+add-i c = let l = c .before .before .before .before .before in omega (arith, c .before .before .before .before .loop-test .taken, l .before .pre .1 .few)
 
 loop-less : tie.Need-loop-less Inv-loop μ-loop
 loop-less c = search needs
 
 loop-again : tie.Need-loop-again Inv-loop μ-loop
-loop-again c = let l = c .before .before .before .before in
-    (search needs, ports-next (l .before .args .t1) (l .loop .closed) (c .clear-ports .last .1 .0) (l .loop .i) (l .loop .inv .1) (c .clear-ports .ensures .0) (c .clear-ports .ensures .1))
+loop-again c = let l = c .before .before .before .before .before in
+    (search needs, ports-next (l .before .args .t1) (l .loop .closed) (c .clear-links .last .1 .0) (l .loop .i) (l .loop .inv .1) (c .clear-links .ensures .0) (c .clear-links .ensures .1))
 
 returns : tie.Need-returns Inv-loop μ-loop
-returns c = let l = c .before in
-    λ i k h. l .loop .inv .1 i k (omega arith)
+returns c = let l = c .before in λ i h. l .loop .inv .1 i (omega arith)
 
 pub closed-links-spec : {M : Type 1} → statement M
 closed-links-spec =
@@ -49,7 +49,7 @@ closed-links-spec =
     loop-holds
     mul-context
     array-copy-out-context
-    clear-ports-requires
+    clear-links-requires
     add-i
     loop-less
     loop-again

@@ -9,8 +9,7 @@ use Rattle.rows.specs.Limits.{sheetLinks}
 use Rattle.candidates.specs.Words.{InPair}
 use Rattle.candidates.specs.Tables.{LinksStay}
 use Rattle.candidates.proofs.Staying.{links-put}
-use Rattle.candidates.proofs.Halves.{pair-in, in-fewer-pair, with-only}
-use Rattle.starting.proofs.Filling.{empty-pair}
+use Rattle.candidates.proofs.Halves.{in-pair, pair-in, in-fewer-pair, with-only, empty-pair}
 use Rattle.starting.proofs.start.only_closed.Statement.{statement}
 use Rattle.starting.proofs.start.only_closed.Tie as tie
 
@@ -61,7 +60,7 @@ loop-again c = let l = c .before .before .before in
       search needs,
       rw (w .7) (rw (w .6 .ensures) (links-put (s .links .now) (l .loop .links) P (l .loop .inv .1) (l .loop .z) (w .5 .result)
           (λ v h p m. in-fewer-pair _ _ _ v h (w .5 .ensures) (subst (λ (k : List ℕ). InPair k v) (sym (w .3 .ensures)) (pair-in (l .loop .links) (l .loop .z) v h m))
-          (λ i. ⊎-elim (empty-pair v) (λ e. w .1 .taken (p e (w .0 .taken))) (with-only _ _ small _ (only .ensures) v h i))))),
+          (λ i. ⊎-elim (empty-pair v) (λ e. w .1 .taken (p e (w .0 .taken))) (with-only _ _ small _ (only .ensures) v (in-pair h) i))))),
     ))
     (λ w. ⊎-elim (λ u. (search needs, rw (u .2) (l .loop .inv .1))) (λ u. (search needs, rw (u .1) (l .loop .inv .1))) w)
     (c .if1 .came)

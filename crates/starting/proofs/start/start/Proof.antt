@@ -3,10 +3,13 @@ use borrow.Author.Needs.{needs}
 use Rattle.rows.specs.declared.Sheet.{Sheet as NormalForm}
 use Rattle.candidates.specs.Frames.{whole}
 use Rattle.candidates.specs.Marks.{MarksIn}
+use Rattle.candidates.specs.PortSets.{ContextsIn}
+use Rattle.candidates.proofs.PortRows.{ports-of}
+use Rattle.candidates.proofs.Framing.{whole-contexts}
 use Rattle.candidates.proofs.Laying.{laid-rowed}
 use Rattle.candidates.proofs.Marks.{own-marks, mark-links}
 use Rattle.starting.proofs.Tallies.{tally-none}
-use Rattle.starting.proofs.Ports.{net-ported, ports-all}
+use Rattle.starting.proofs.Ports.{ports-all}
 use Rattle.starting.proofs.Starting.{start-keeps, alike-laid, enough-counted}
 use Rattle.starting.proofs.start.start.Statement.{statement}
 use Rattle.starting.proofs.start.start.Tie as tie
@@ -17,6 +20,9 @@ sheet-of s = whole (s .args .t1) (s .args .laid .now)
 
 abbrev figure-of : tie.Start → NormalForm
 figure-of s = whole (s .args .t2) (s .args .parts .now)
+
+figure-contexts : (s : tie.Start) → ContextsIn (figure-of s) (s .args .t2 .contexts) (s .args .t2 .«context_count») (s .args .t2 .«class_count»)
+figure-contexts s = whole-contexts (s .args .t2) (s .args .parts .now) (s .pre .1 .fit)
 
 -- the marks of the sheet and of the figure
 sheet-marks : (s : tie.Start) → MarksIn (sheet-of s) (s .args .t1 .marks) (s .args .t1 .marked) (s .args .t1 .«mark_count»)
@@ -31,7 +37,7 @@ start-atoms-requires c κs = let s = c .before in
 
 closed-links-requires : tie.Need-closed-links-requires
 closed-links-requires c κs = let s = c .before .before .before .before in
-    net-ported (figure-of s) (s .pre .1 .fit)
+    (_, ports-of (figure-contexts s))
 
 place-counts-requires : tie.Need-place-counts-requires
 place-counts-requires c κs = let s = c .before .before .before .before .before .before in
@@ -67,7 +73,7 @@ returns c = let marks = c .before .before .before .before .before .before .befor
     let closed = shut .closed-links .last .1 .1 .0 in
     let a = atoms .start-atoms .last .1 .1 .1 .1 .0 in
     let l = places .start-places .last .1 .1 .1 .1 .1 .0 in
-    start-keeps sheet figure (os .fit) (of .fit) (os .normal) (of .normal) a l (marks .start-marks .last .1 .1 .1 .1 .1 .1 .0) (c .start-closed .last .1 .1 .1 .1 .1 .1 .1 .1 .0) closed (ports-all figure (of .fit) closed (shut .closed-links .ensures))
+    start-keeps sheet figure (os .fit) (of .fit) (os .normal) (of .normal) a l (marks .start-marks .last .1 .1 .1 .1 .1 .1 .0) (c .start-closed .last .1 .1 .1 .1 .1 .1 .1 .1 .0) closed (ports-all (figure-contexts s) closed (shut .closed-links .ensures))
     (alike-laid sheet figure (s .args .laid .now) _ (s .args .parts .now) _ os of a (atoms .start-atoms .ensures))
     (enough-counted sheet figure (os .fit) (of .fit) closed (wanted .place-counts .last .1 .1 .0) (counted .place-counts2 .last .1 .1 .0) (wanted .place-counts .ensures figure of) (counted .place-counts2 .ensures sheet os) l (places .start-places .ensures))
     (marks .start-marks .ensures sheet figure (sheet-marks s) (figure-marks s)) (c .start-closed .ensures sheet figure (sheet-marks s) (figure-marks s))

@@ -1,12 +1,12 @@
 -- Invariant: the contexts so far are flagged.
 use borrow.Author.Needs.{needs}
-use Prim.Native.Nat.{ℕ, _+_, _*_, _-_, _≤_, _<_}
+use Prim.Native.Nat.{ℕ, _+_, _*_, _-_, _≤_}
 use mathlib.Core.Path.{_≡_, sym, subst}
 use mathlib.Core.Logic.{⊎-elim}
 use native.Mathlib.Omega.{arith}
 use lib.ListN.{length, getD}
 use Rattle.rows.specs.Limits.{sheetLinks, contextRoom}
-use Rattle.stepping.specs.Flags.{portFrom, atPort}
+use Rattle.stepping.specs.Flags.{portFrom, portOfSet}
 use Rattle.stepping.proofs.Tables.{Marked, marked-start, marked-more, marked-skip, flag-as}
 use Rattle.stepping.proofs.lookup.port_rows.Statement.{statement}
 use Rattle.stepping.proofs.lookup.port_rows.Tie as tie
@@ -26,13 +26,10 @@ mul-if1 c = search needs
 element-copy-out-if1 : tie.Need-element-copy-out-if1 Inv-loop μ-loop
 element-copy-out-if1 c = search needs
 
-cast-port-row : tie.Need-cast-port-row Inv-loop μ-loop
-cast-port-row c = search needs
-
 port-row-requires : tie.Need-port-row-requires Inv-loop μ-loop
-port-row-requires c κs = let s = c .before .before .before .before .before .before .before .before in
-    let l = c .before .before .before .before .before .before .loop in
-    (omega (arith, s .pre .0, c .before .before .before .before .before .loop-test .taken), s .pre .1, s .pre .2, l .inv .1)
+port-row-requires c κs = let l = c .before .before .before .before .before in
+    let s = l .before .before in
+    (omega (arith, s .pre .0, c .before .before .before .before .loop-test .taken), s .pre .1, s .pre .2, l .loop .inv .1)
 
 add-c : tie.Need-add-c Inv-loop μ-loop
 add-c c = search needs
@@ -43,13 +40,15 @@ loop-less c = search needs
 loop-again : tie.Need-loop-again Inv-loop μ-loop
 loop-again c = let l = c .before .before .before .before .loop in
     let a = c .before .before .before .before .before .before .args in
-    let w : (length (c .if1 .table) ≡ contextRoom * sheetLinks) × Marked (λ p. getD (a .table .now) p 0 ≡ 1) (portFrom (a .numbers .now) (a .row) (a .to .now) (a .none)) (l .c + 1) (c .if1 .table) = ⊎-elim
-    (λ w. subst (λ m. (length m ≡ contextRoom * sheetLinks) × Marked (λ p. getD (a .table .now) p 0 ≡ 1) (portFrom (a .numbers .now) (a .row) (a .to .now) (a .none)) (l .c + 1) m) (sym (w .4)) (
-      w .3 .ensures .0,
-      marked-more (λ p. getD (a .table .now) p 0 ≡ 1) (portFrom (a .numbers .now) (a .row) (a .to .now) (a .none)) (l .c) (l .table) (w .3 .last .0) (l .inv .2)
-          (flag-as (portFrom (a .numbers .now) (a .row) (a .to .now) (a .none) (l .c)) (λ p. (k : ℕ) × (k < a .row .count) × atPort (a .to .now) (a .none) (a .row .links) (l .c) k p) (l .table) (w .3 .last .0) (w .3 .ensures .1) (λ p. ((λ t. (w .0 .taken, t)), (λ t. t .1)))),
+    let Base : ℕ → Type 0 = λ p. getD (a .table .now) p 0 ≡ 1 in
+    let From : ℕ → ℕ → Type 0 = portFrom (a .numbers .now) (a .row) (a .to .now) (a .none) in
+    let w : (length (c .if1 .table) ≡ contextRoom * sheetLinks) × Marked Base From (l .c + 1) (c .if1 .table) = ⊎-elim
+    (λ w. subst (λ m. (length m ≡ contextRoom * sheetLinks) × Marked Base From (l .c + 1) m) (sym (w .3)) (
+      w .2 .ensures .0,
+      marked-more Base From (l .c) (l .table) (w .2 .last .0) (l .inv .2)
+          (flag-as (From (l .c)) (portOfSet (a .to .now) (a .none) (a .row .links) (l .c)) (l .table) (w .2 .last .0) (w .2 .ensures .1) (λ p. ((λ t. (w .0 .taken, t)), (λ t. t .1)))),
     ))
-    (λ w. subst (λ m. (length m ≡ contextRoom * sheetLinks) × Marked (λ p. getD (a .table .now) p 0 ≡ 1) (portFrom (a .numbers .now) (a .row) (a .to .now) (a .none)) (l .c + 1) m) (sym (w .1)) (l .inv .1, marked-skip (λ p. getD (a .table .now) p 0 ≡ 1) (portFrom (a .numbers .now) (a .row) (a .to .now) (a .none)) (l .c) (l .table) (l .inv .2) (λ p t. w .0 .left (t .0))))
+    (λ w. subst (λ m. (length m ≡ contextRoom * sheetLinks) × Marked Base From (l .c + 1) m) (sym (w .1)) (l .inv .1, marked-skip Base From (l .c) (l .table) (l .inv .2) (λ p t. w .0 .left (t .0))))
     (c .if1 .came) in
     (omega arith, w .0, w .1)
 
@@ -68,7 +67,6 @@ port-rows-spec =
     loop-holds
     mul-if1
     element-copy-out-if1
-    cast-port-row
     port-row-requires
     add-c
     loop-less

@@ -5,7 +5,7 @@ use mathlib.Core.Path.{_≡_, sym, _∙_, ap, subst}
 use native.Mathlib.Omega.{arith}
 use lib.ListN.{length, replicate, length-replicate}
 use Rattle.rows.specs.Limits.{sheetLinks, contextRoom}
-use Rattle.network.specs.NetIn.{rowAt}
+use Rattle.candidates.specs.PortSets.{setAt}
 use Rattle.stepping.specs.Flags.{portOfRow}
 use Rattle.stepping.proofs.Tables.{Marked, marked-start, marked-more, zeros-not}
 use Rattle.stepping.proofs.Rows.{ported}
@@ -14,7 +14,7 @@ use Rattle.stepping.proofs.lookup.port_table.Statement.{statement}
 use Rattle.stepping.proofs.lookup.port_table.Tie as tie
 
 abbrev Inv-loop : tie.InvT-loop
-Inv-loop table₀ numbers count to none contexts d₀ table d = (d ≤ count) × (length table ≡ contextRoom * sheetLinks) × Marked (λ p. ⊥) (λ i. portOfRow numbers count (rowAt contexts i) to none) d table
+Inv-loop table₀ numbers count to none contexts d₀ table d = (d ≤ count) × (length table ≡ contextRoom * sheetLinks) × Marked (λ p. ⊥) (λ i. portOfRow numbers count (setAt contexts i) to none) d table
 
 abbrev μ-loop : tie.MeasureT-loop
 μ-loop table₀ numbers count to none contexts d₀ table d = count - d
@@ -23,8 +23,8 @@ loop-holds : tie.Need-loop-holds Inv-loop μ-loop
 loop-holds c = let a = c .args in (
   omega arith,
   ap length (c .pre .2) ∙ length-replicate {A = ℕ} (contextRoom * sheetLinks) 0,
-  subst (Marked (λ p. ⊥) (λ d. portOfRow (a .numbers .now) (a .count) (rowAt (a .t3) d) (a .to .now) (a .none)) 0) (sym (c .pre .2))
-      (marked-start (λ p. ⊥) (λ d. portOfRow (a .numbers .now) (a .count) (rowAt (a .t3) d) (a .to .now) (a .none)) (replicate (contextRoom * sheetLinks) 0) (λ p. ((λ q. zeros-not (contextRoom * sheetLinks) p q), (λ b. absurd b)))),
+  subst (Marked (λ p. ⊥) (λ d. portOfRow (a .numbers .now) (a .count) (setAt (a .t3) d) (a .to .now) (a .none)) 0) (sym (c .pre .2))
+      (marked-start (λ p. ⊥) (λ d. portOfRow (a .numbers .now) (a .count) (setAt (a .t3) d) (a .to .now) (a .none)) (replicate (contextRoom * sheetLinks) 0) (λ p. ((λ q. zeros-not (contextRoom * sheetLinks) p q), (λ b. absurd b)))),
 )
 
 mul-row : tie.Need-mul-row Inv-loop μ-loop
@@ -48,14 +48,14 @@ loop-less c = search needs
 loop-again : tie.Need-loop-again Inv-loop μ-loop
 loop-again c = let l = c .before .before .before .before .loop in
     let a = c .before .before .before .before .before .args in
-    (omega (arith, c .before .before .before .loop-test .taken), c .port-rows .ensures .0, marked-more (λ p. ⊥) (λ d. portOfRow (a .numbers .now) (a .count) (rowAt (a .t3) d) (a .to .now) (a .none)) (l .d) (l .table) (c .port-rows .last .0) (l .inv .2) (c .port-rows .ensures .1))
+    (omega (arith, c .before .before .before .loop-test .taken), c .port-rows .ensures .0, marked-more (λ p. ⊥) (λ d. portOfRow (a .numbers .now) (a .count) (setAt (a .t3) d) (a .to .now) (a .none)) (l .d) (l .table) (c .port-rows .last .0) (l .inv .2) (c .port-rows .ensures .1))
 
 returns : tie.Need-returns Inv-loop μ-loop
 returns c = let l = c .before .loop in
     let s = c .before .before in
     let a = s .args in
     let e : l .d ≡ a .count = omega (arith, l .inv .0) in
-    ports-read (a .t3) (a .numbers .now) (a .to .now) (a .none) (a .count) (s .pre .3) (l .table) (subst (λ n. Marked (λ p. ⊥) (λ d. portOfRow (a .numbers .now) (a .count) (rowAt (a .t3) d) (a .to .now) (a .none)) n (l .table)) e (l .inv .2))
+    ports-read (a .t3) (a .numbers .now) (a .to .now) (a .none) (a .count) (s .pre .3) (l .table) (subst (λ n. Marked (λ p. ⊥) (λ d. portOfRow (a .numbers .now) (a .count) (setAt (a .t3) d) (a .to .now) (a .none)) n (l .table)) e (l .inv .2))
 
 pub port-table-spec : {M : Type 1} → statement M
 port-table-spec =

@@ -1,19 +1,11 @@
 -- `standing::standing` meets its contract. The loop's invariant: the words have the first c contexts. Assumes nothing.
-use borrow.Author.Needs.{needs}
 use Prim.Native.Nat.{ℕ, _-_, _≤_}
 use mathlib.Core.Path.{_≡_, refl, subst}
 use native.Mathlib.Omega.{arith}
-use Rattle.network.specs.NetIn.{rowAt}
-use Rattle.network.proofs.NetIn.{to-net}
 use Rattle.stepping.specs.Standing.{StandingTo}
-use Rattle.stepping.proofs.Rows.{wider, context-row}
 use Rattle.stepping.proofs.StandingWords.{standing-start, standing-next, standing-end}
 use Rattle.stepping.proofs.standing.standing.Statement.{statement}
 use Rattle.stepping.proofs.standing.standing.Tie as tie
-use Rattle.stepping.proofs.standing.standing.Reads as reads
-use Rattle.stepping.proofs.standing.standing.Lts as lts
-use Rattle.stepping.proofs.standing.context_word.Reads as context-word-reads
-use Rattle.stepping.proofs.standing.mark_links.Reads as mark-links-reads
 
 abbrev Inv-loop : tie.InvT-loop
 Inv-loop rows contexts words₀ c₀ words c = (c ≤ rows) × StandingTo contexts c words
@@ -21,55 +13,39 @@ Inv-loop rows contexts words₀ c₀ words c = (c ≤ rows) × StandingTo contex
 abbrev μ-loop : tie.MeasureT-loop
 μ-loop rows contexts words₀ c₀ words c = rows - c
 
--- src/standing.rt:46:5
 loop-holds : tie.Need-loop-holds Inv-loop μ-loop
 loop-holds c = (omega arith, standing-start (c .args .t1) _ refl)
 
--- src/standing.rt:47:19
 mul-row : tie.Need-mul-row Inv-loop μ-loop
 mul-row c = omega (arith, c .loop-test .taken, c .before .before .pre .1 .few)
 
--- src/standing.rt:47:19
 array-copy-out-row : tie.Need-array-copy-out-row Inv-loop μ-loop
 array-copy-out-row c = omega (arith, c .loop-test .taken, c .before .before .pre .1 .few)
 
--- src/standing.rt:49:39
-cast-mark-links : tie.Need-cast-mark-links Inv-loop μ-loop
-cast-mark-links c = let s = c .before .before .before .before .before .before in omega (arith, context-row (s .args .t1) (s .args .rows) (s .pre .0) (s .pre .1) (c .before .before .before .before .before .loop .c) (c .before .before .before .before .loop-test .taken) .0)
-
--- src/standing.rt:49:59
 context-word-requires : tie.Need-context-word-requires Inv-loop μ-loop
 context-word-requires c κs = tt
 
--- src/standing.rt:49:9
 mark-links-requires : tie.Need-mark-links-requires Inv-loop μ-loop
-mark-links-requires c κs = let s = c .before .before .before .before .before .before .before in
-        let l = c .before .before .before .before .before .before .loop in
-        let r = context-row (s .args .t1) (s .args .rows) (s .pre .0) (s .pre .1) (l .c) (c .before .before .before .before .before .loop-test .taken) in
-        (r .0, wider (s .pre .0) (rowAt (s .args .t1) (l .c) .count) (rowAt (s .args .t1) (l .c) .links) (s .pre .1 .links-few) (r .1), l .inv .1 .room)
+mark-links-requires c κs = let s = c .before .before .before .before .before .before in
+    let l = c .before .before .before .before .before .loop in
+    ((λ x k i. omega (arith, s .pre .1 .within (l .c) (c .before .before .before .before .loop-test .taken) x k i, s .pre .1 .links-few)), l .inv .1 .room)
 
--- src/standing.rt:50:9
 add-c : tie.Need-add-c Inv-loop μ-loop
-add-c c = omega (arith, c .before .before .before .before .before .before .loop-test .taken, c .before .before .before .before .before .before .before .before .pre .1 .few)
+add-c c = omega (arith, c .before .before .before .before .before .loop-test .taken, c .before .before .before .before .before .before .before .pre .1 .few)
 
--- src/standing.rt:46:5
 loop-less : tie.Need-loop-less Inv-loop μ-loop
-loop-less c = omega (arith, c .before .before .before .before .before .before .loop-test .taken)
+loop-less c = omega (arith, c .before .before .before .before .before .loop-test .taken)
 
--- src/standing.rt:46:5
 loop-again : tie.Need-loop-again Inv-loop μ-loop
-loop-again c = let s = c .before .before .before .before .before .before .before .before in
-        let l = c .before .before .before .before .before .before .before .loop in (
-          omega (arith, c .before .before .before .before .before .before .loop-test .taken),
-          standing-next (s .args .t1) (l .c) (l .words) (c .mark-links .last .0) (c .before .context-word .result) (c .before .context-word .ensures) (l .inv .1) (c .mark-links .ensures),
-        )
+loop-again c = let s = c .before .before .before .before .before .before .before in
+    let l = c .before .before .before .before .before .before .loop in
+    (omega (arith, c .before .before .before .before .before .loop-test .taken), standing-next (s .args .t1) (l .c) (l .words) (c .mark-links .last .0) (c .before .context-word .result) (c .before .context-word .ensures) (l .inv .1) (c .mark-links .ensures))
 
--- src/standing.rt:40:1
 returns : tie.Need-returns Inv-loop μ-loop
 returns c = let s = c .before .before in
-        let l = c .before .loop in
-        let e : l .c ≡ s .args .rows = omega arith in
-        λ figure links o. standing-end figure (o .fit) (l .words) (to-net o (λ contexts rows links. StandingTo contexts rows (l .words)) (subst (λ (n : ℕ). StandingTo (s .args .t1) n (l .words)) e (l .inv .1)))
+    let l = c .before .loop in
+    let e : l .c ≡ s .args .rows = omega arith in
+    λ figure links o. standing-end figure (s .args .t1) (s .args .rows) links o (l .words) (subst (λ (n : ℕ). StandingTo (s .args .t1) n (l .words)) e (l .inv .1))
 
 pub standing-spec : {M : Type 1} → statement M
 standing-spec =
@@ -80,7 +56,6 @@ standing-spec =
     loop-holds
     mul-row
     array-copy-out-row
-    cast-mark-links
     context-word-requires
     mark-links-requires
     add-c

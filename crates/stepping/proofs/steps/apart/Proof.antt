@@ -6,7 +6,6 @@ use mathlib.Core.Logic.{⊎-elim}
 use native.Mathlib.Omega.{arith}
 use lib.ListN.{length, getD, length-set}
 use Rattle.rows.specs.Limits.{sheetLinks}
-use Rattle.stepping.proofs.Rows.{context-row}
 use Rattle.stepping.proofs.Owners.{Owners, owners-start, owners-none, owners-same, owners-new, owners-apart, owners-one}
 use Rattle.stepping.proofs.steps.apart.Statement.{statement}
 use Rattle.stepping.proofs.steps.apart.Tie as tie
@@ -18,7 +17,7 @@ abbrev μ-loop : tie.MeasureT-loop
 μ-loop rows count to none labels owner₀ x₀ owner x = count - x
 
 step-labels-requires : tie.Need-step-labels-requires Inv-loop μ-loop
-step-labels-requires c κs = let s = c .before in (s .pre .0 .few, context-row (s .args .contexts) (s .args .rows) (s .args .count) (s .pre .0), search needs, s .pre .0 .links-few)
+step-labels-requires c κs = (c .before .pre .0, search needs)
 
 loop-holds : tie.Need-loop-holds Inv-loop μ-loop
 loop-holds c = let a = c .before .before .args in (omega arith, refl, owners-start (a .to .now) (c .step-labels .last .0) (a .none) sheetLinks)

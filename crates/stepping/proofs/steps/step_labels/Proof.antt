@@ -1,20 +1,19 @@
--- Invariant: the ports of the contexts so far have their labels, labels say no more than ties, and they stay bounded.
+-- Invariant: the links of the contexts so far are tied, labels say no more than ties, and they stay bounded.
 use borrow.Author.Needs.{needs}
 use Prim.Native.Nat.{ℕ, _-_, _≤_, _<_}
 use mathlib.Core.Path.{_≡_, refl}
 use native.Mathlib.Omega.{arith}
 use lib.ListN.{length}
 use Rattle.rows.specs.Limits.{sheetLinks}
-use Rattle.network.specs.NetIn.{rowAt}
-use Rattle.stepping.specs.Labels.{Sound, Bounded, Tied}
-use Rattle.stepping.proofs.Labels.{own-sound, own-bounded, tied-kept}
-use Rattle.stepping.proofs.Rows.{wider}
+use Rattle.candidates.specs.PortSets.{setAt}
+use Rattle.stepping.specs.Labels.{Sound, Bounded, AllTied}
+use Rattle.stepping.proofs.Labels.{own-sound, own-bounded, all-kept}
 use Rattle.stepping.proofs.Tables.{below-next}
 use Rattle.stepping.proofs.steps.step_labels.Statement.{statement}
 use Rattle.stepping.proofs.steps.step_labels.Tie as tie
 
 abbrev Inv-loop : tie.InvT-loop
-Inv-loop labels₀ to count n contexts c₀ labels c = (c ≤ count) × (length labels ≡ sheetLinks) × Sound contexts count to labels × ((i k : ℕ) → i < c → k < rowAt contexts i .count → Tied to (rowAt contexts i .links) (rowAt contexts i .count) labels k) × Bounded n labels
+Inv-loop labels₀ to count n contexts c₀ labels c = (c ≤ count) × (length labels ≡ sheetLinks) × Sound contexts count to labels × ((i : ℕ) → i < c → AllTied to (setAt contexts i .links) labels) × Bounded n labels
 
 abbrev μ-loop : tie.MeasureT-loop
 μ-loop labels₀ to count n contexts c₀ labels c = count - c
@@ -29,47 +28,43 @@ loop-holds c = let s = c .before .before in
       omega arith,
       o .ensures .0,
       own-sound (a .t3) (a .count) (a .to .now) (o .last .0) (o .ensures .1),
-      (λ i k h. absurd (omega arith)),
-      own-bounded (a .n) (s .pre .3) (o .last .0) (o .ensures .1),
+      (λ i h. absurd (omega arith)),
+      own-bounded (a .n) (s .pre .0 .links-few) (o .last .0) (o .ensures .1),
     )
 
 mul-row : tie.Need-mul-row Inv-loop μ-loop
-mul-row c = search needs
+mul-row c = omega (arith, c .loop-test .taken, c .before .before .before .before .pre .0 .few)
 
 array-copy-out-row : tie.Need-array-copy-out-row Inv-loop μ-loop
-array-copy-out-row c = search needs
-
-cast-with-context : tie.Need-cast-with-context Inv-loop μ-loop
-cast-with-context c = search needs
+array-copy-out-row c = omega (arith, c .loop-test .taken, c .before .before .before .before .pre .0 .few)
 
 with-context-requires : tie.Need-with-context-requires Inv-loop μ-loop
-with-context-requires c κs = let l = c .before .before .before .before .before .loop in
-    let s = c .before .before .before .before .before .before .before .before in
-    let w = s .pre .1 (l .c) (omega arith) in
-    (w .0, w .1, l .inv .1, s .pre .3, l .inv .4)
+with-context-requires c κs = let l = c .before .before .before .before .loop in
+    let s = c .before .before .before .before .before .before .before in
+    (s .pre .0 .within (l .c) (omega arith), l .inv .1, s .pre .0 .links-few, l .inv .4)
 
 add-c : tie.Need-add-c Inv-loop μ-loop
-add-c c = search needs
+add-c c = let l = c .before .before .before .before .before in omega (arith, c .before .before .before .before .loop-test .taken, l .before .before .before .pre .0 .few)
 
 loop-less : tie.Need-loop-less Inv-loop μ-loop
 loop-less c = search needs
 
 loop-again : tie.Need-loop-again Inv-loop μ-loop
-loop-again c = let l = c .before .before .before .before .before .before .loop in
-    let s = c .before .before .before .before .before .before .before .before .before in
+loop-again c = let l = c .before .before .before .before .before .loop in
+    let s = c .before .before .before .before .before .before .before .before in
     let a = s .args in
     let m = c .with-context .last .0 in
     let g = c .with-context .ensures in (
       omega arith,
       g .0,
-      g .1 .sound (a .t3) (a .count) (l .c) (omega arith) refl refl (l .inv .2),
-      λ i k h. below-next (λ i. (k : ℕ) → k < rowAt (a .t3) i .count → Tied (a .to .now) (rowAt (a .t3) i .links) (rowAt (a .t3) i .count) m k) (l .c)
-          (λ i h k e. tied-kept (a .to .now) (rowAt (a .t3) i .links) (rowAt (a .t3) i .count) (wider (a .n) (rowAt (a .t3) i .count) (rowAt (a .t3) i .links) (s .pre .3) (s .pre .1 i (omega arith) .1)) (l .labels) m (g .1 .kept) k e (l .inv .3 i k h e)) (g .2) i h k,
+      g .1 .sound (a .t3) (a .count) (l .c) (omega arith) refl (l .inv .2),
+      below-next (λ i. AllTied (a .to .now) (setAt (a .t3) i .links) m) (l .c)
+          (λ i h. all-kept (a .to .now) (setAt (a .t3) i .links) (λ x k j. omega (arith, s .pre .0 .within i (omega arith) x k j, s .pre .0 .links-few)) (l .labels) m (g .1 .kept) (l .inv .3 i h)) (g .2),
       g .3,
     )
 
 returns : tie.Need-returns Inv-loop μ-loop
-returns c = let l = c .before .loop in (l .inv .1, record { sound = l .inv .2; complete = λ i k h. l .inv .3 i k (omega arith) })
+returns c = let l = c .before .loop in (l .inv .1, record { sound = l .inv .2; complete = λ i h. l .inv .3 i (omega arith) })
 
 pub step-labels-spec : {M : Type 1} → statement M
 step-labels-spec =
@@ -81,7 +76,6 @@ step-labels-spec =
     loop-holds
     mul-row
     array-copy-out-row
-    cast-with-context
     with-context-requires
     add-c
     loop-less
