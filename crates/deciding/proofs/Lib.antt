@@ -6,3 +6,4 @@ pub mod KindLaws
 pub mod Telling
 pub mod LaidTelling
 pub mod MarkLaws
+pub mod BarLaws

@@ -1,4 +1,5 @@
 pub mod Agrees
+pub mod Bars
 pub mod Flags
 pub mod Kinds
 pub mod Links

@@ -1,4 +1,6 @@
-// What placed atoms and marks decide of a figure's links, and the kinds of the links that they leave open.
+// What placed atoms and marks decide of a figure's links, the kinds of the links that they leave open, and where those
+// cannot go.
+pub mod bars;
 pub mod decided;
 pub mod kinds;
 pub mod links;
