@@ -6,26 +6,29 @@ use mathlib.Core.Bool.{Bool, true, false}
 use native.Mathlib.Omega.{arith}
 use native.Mathlib.Numerals.{add-one}
 use lib.ListN.{length, getD, set}
+use Rattle.hyperlmntal.specs.Link.{_∈_}
 use Rattle.rows.specs.Limits.{sheetLinks}
 use Rattle.rows.specs.declared.Sheet as form
-use Rattle.hyperlmntal.specs.Link.{_∈_}
 use Rattle.placing.proofs.FirstLaws.{both-ways}
 use Rattle.network.specs.NetIn.{netIn}
 use Rattle.network.specs.Ready.{Ready, LinksIn, stateIn}
 use Rattle.candidates.specs.Laid.{LaidOut}
 use Rattle.candidates.specs.PortSets.{ContextsIn}
+use Rattle.candidates.specs.Tables.{LinkIn}
 use Rattle.candidates.specs.declared.ports.PortSet.{PortSet}
 use Rattle.stepping.specs.Chains.{ChainsIn}
 use Rattle.stepping.specs.Standing.{Standing, Described, Refuses}
+use Rattle.completing.specs.Completion.{remove}
 use Rattle.completing.proofs.Completing.{no-fault-completable}
 use Rattle.faults.specs.declared.nets.Nets.{Nets}
 use Rattle.faults.specs.Finds.{NetsIn, Over, FindsAll}
-use Rattle.deciding.specs.Kinds.{KindsIn}
 use Rattle.faults.specs.declared.fault.Fault.{Fault}
-use Rattle.settling.specs.Completes.{unsettled, Tables, Working, CompletableIn, CompletableAt, Completes, CompletesAt, Hinders, FirstFor, FirstOfKind}
+use Rattle.deciding.specs.Bars.{BarredTo}
+use Rattle.deciding.specs.Kinds.{KindsIn}
 use Rattle.deciding.proofs.Sets.{below-cases}
 use Rattle.deciding.proofs.Flagged.{flagged-out}
-use Rattle.settling.proofs.States.{links-set, working-put, put-back, way-out, earlier-refused}
+use Rattle.settling.specs.Completes.{unsettled, Tables, Working, CompletableIn, CompletableAt, BarsIn, Completes, KeepsBars, CompletesAt, Mends, Hinders, FirstFor}
+use Rattle.settling.proofs.States.{links-set, of-put, to-put, working-put, put-back, bars-at, barred-at, failed-at, tried-partial, several-in, way-out}
 
 -- what is read of a net, as it stands there
 pub nets-of : (sheet figure : form.Sheet) → Ready sheet figure → (laid : List ℕ) → LaidOut sheet laid (sheet .«atom_count») → (sets : List PortSet) → ContextsIn figure sets (figure .«context_count») (figure .«class_count»)
@@ -68,132 +71,154 @@ pub tables-next : {sheet figure : form.Sheet} {nets : Nets} {laid chains kinds s
     → set next x (y + 1) ≡ set to x (y + 1) → Tables sheet figure nets laid chains kinds standing (set next x (y + 1))
 tables-next {sheet} {figure} {nets} {laid} {chains} {kinds} {standing} {to} next t x y h k e = subst (Tables sheet figure nets laid chains kinds standing) (sym e) (tables-put t x y h k)
 
-pub completes-next : {sheet figure : form.Sheet} {nets : Nets} {laid chains kinds standing to : List ℕ} (next : List ℕ) (t : Tables sheet figure nets laid chains kinds standing to) (x y : ℕ) → x < nets .count → y < nets .links
-    → set next x (y + 1) ≡ set to x (y + 1) → (taken rest : List ℕ) (r : Bool) → (Tables sheet figure nets laid chains kinds standing (set next x (y + 1)) → Completes sheet figure taken (set next x (y + 1)) rest r)
-    → Completes sheet figure taken (set to x (y + 1)) rest r
-completes-next {sheet} {figure} next t x y h k e taken rest r f = subst (λ (l : List ℕ). Completes sheet figure taken l rest r) e (f (tables-next next t x y h k e))
+-- What is barred stays so from one table to the next.
+module _ (sheet figure : form.Sheet) (taken to flags : List ℕ) where
+  -- whatever link was tried
+  abbrev pub Keeps : List ℕ → List ℕ → Type 0
+  Keeps bars after = (atoms un : List ℕ) → Working sheet figure taken to flags atoms un → BarsIn sheet figure to un atoms bars → BarsIn sheet figure to un atoms after
 
--- Link x at every sheet link before y was tried, where it has a flag in `links`.
-abbrev pub TriedAt : form.Sheet → form.Sheet → List ℕ → List ℕ → ℕ → List ℕ → List ℕ → ℕ → Type 0
-TriedAt sheet figure taken to x links rest y =
-    (z : ℕ) → z < y → getD links z 0 ≡ 1 → (atoms : List ℕ) → Working sheet figure taken (set to x (suc z)) rest atoms → ¬ CompletableIn sheet figure (set to x (suc z)) rest atoms
+  pub keeps-same : (bars : List ℕ) → Keeps bars bars
+  keeps-same bars atoms un w b = b
 
--- the same at every sheet link
-abbrev pub TriedAll : form.Sheet → form.Sheet → List ℕ → List ℕ → ℕ → List ℕ → ℕ → Type 0
-TriedAll sheet figure taken to x rest y =
-    (z : ℕ) → z < y → (atoms : List ℕ) → Working sheet figure taken (set to x (suc z)) rest atoms → ¬ CompletableIn sheet figure (set to x (suc z)) rest atoms
+  -- a link with a flag was
+  pub keeps-then : (a b c : List ℕ) (x : ℕ) → x < figure .«class_count» → getD flags x 0 ≡ 1 → Keeps a b → KeepsBars sheet figure taken to flags b x c → Keeps a c
+  keeps-then a b c x h e f g atoms un w k = g atoms un w (w .several .flag-in x h e) (f atoms un w k)
 
--- Every link before x was tried at every link with a flag in `links`.
-abbrev pub TriedTo : form.Sheet → form.Sheet → List ℕ → List ℕ → List ℕ → List ℕ → ℕ → Type 0
-TriedTo sheet figure taken to flags links x =
-    (atoms : List ℕ) → Working sheet figure taken to flags atoms
-    → (z : ℕ) → z < x → getD flags z 0 ≡ 1 → (y : ℕ) → y < sheet .«class_count» → getD links y 0 ≡ 1 → ¬ CompletableAt sheet figure to flags z (suc y) atoms
+  pub tried-same : (bars : List ℕ) (x : ℕ) → KeepsBars sheet figure taken to flags bars x bars
+  tried-same bars x atoms un w m b = b
 
-module _ (sheet figure : form.Sheet) (taken to : List ℕ) (x : ℕ) (rest : List ℕ) (y : ℕ) where
-  -- one sheet link more
-  refused-here : Completes sheet figure taken (set to x (y + 1)) rest false → (atoms : List ℕ) → Working sheet figure taken (set to x (suc y)) rest atoms → ¬ CompletableIn sheet figure (set to x (suc y)) rest atoms
-  refused-here r atoms w c =
-      let e = add-one y in
-      r .cannot atoms (subst (λ (n : ℕ). Working sheet figure taken (set to x n) rest atoms) (sym e) w) refl (subst (λ (n : ℕ). CompletableIn sheet figure (set to x n) rest atoms) (sym e) c)
+  pub tried-then : (a b c : List ℕ) (x : ℕ) → KeepsBars sheet figure taken to flags a x b → KeepsBars sheet figure taken to flags b x c → KeepsBars sheet figure taken to flags a x c
+  tried-then a b c x f g atoms un w m k = g atoms un w m (f atoms un w m k)
 
-  as-false : {r : Bool} → r ≡ false → Completes sheet figure taken (set to x (y + 1)) rest r → Completes sheet figure taken (set to x (y + 1)) rest false
-  as-false e w = subst (Completes sheet figure taken (set to x (y + 1)) rest) e w
+  -- Link x at every sheet link before y was tried, where P holds of it.
+  abbrev pub TriedAt : List ℕ → ℕ → (ℕ → Type 0) → ℕ → Type 0
+  TriedAt bars x P y = (atoms un : List ℕ) → Working sheet figure taken to flags atoms un → BarsIn sheet figure to un atoms bars → suc x ∈ un
+      → (z : ℕ) → z < y → P z → ¬ CompletableAt sheet figure to un x (suc z) atoms
 
-  pub tried-next : (links : List ℕ) → TriedAt sheet figure taken to x links rest y → (r : Bool) → r ≡ false → Completes sheet figure taken (set to x (y + 1)) rest r → TriedAt sheet figure taken to x links rest (y + 1)
-  tried-next links t r e w z h = below-cases (λ (i : ℕ). getD links i 0 ≡ 1 → (atoms : List ℕ) → Working sheet figure taken (set to x (suc i)) rest atoms → ¬ CompletableIn sheet figure (set to x (suc i)) rest atoms) y z
-      (omega (arith, add-one y)) (λ k. t z k) (λ f. refused-here (as-false e w))
+  -- Every link before x was tried at every link with a flag in `links`.
+  abbrev pub TriedTo : List ℕ → List ℕ → ℕ → Type 0
+  TriedTo bars links x = (atoms un : List ℕ) → Working sheet figure taken to flags atoms un → BarsIn sheet figure to un atoms bars
+      → (z : ℕ) → z < x → getD flags z 0 ≡ 1 → (y : ℕ) → y < sheet .«class_count» → getD links y 0 ≡ 1 → ¬ CompletableAt sheet figure to un z (suc y) atoms
 
-  pub tried-skip : (links : List ℕ) → TriedAt sheet figure taken to x links rest y → ¬ (getD links y 0 ≡ 1) → TriedAt sheet figure taken to x links rest (y + 1)
-  tried-skip links t n z h = below-cases (λ (i : ℕ). getD links i 0 ≡ 1 → (atoms : List ℕ) → Working sheet figure taken (set to x (suc i)) rest atoms → ¬ CompletableIn sheet figure (set to x (suc i)) rest atoms) y z
-      (omega (arith, add-one y)) (λ k. t z k) (λ f. absurd (n f))
+  module _ (bars now : List ℕ) (x : ℕ) (keeps : KeepsBars sheet figure taken to flags bars x now) (P : ℕ → Type 0) (y : ℕ) (t : TriedAt bars x P y) where
+    more : ((atoms un : List ℕ) → Working sheet figure taken to flags atoms un → BarsIn sheet figure to un atoms bars → suc x ∈ un → P y → ¬ CompletableAt sheet figure to un x (suc y) atoms) → TriedAt bars x P (y + 1)
+    more n atoms un w b m z h = below-cases (λ (i : ℕ). P i → ¬ CompletableAt sheet figure to un x (suc i) atoms) y z (omega (arith, add-one y)) (λ k. t atoms un w b m z k) (n atoms un w b m)
 
-  pub tried-more : TriedAll sheet figure taken to x rest y → (r : Bool) → r ≡ false → Completes sheet figure taken (set to x (y + 1)) rest r → TriedAll sheet figure taken to x rest (y + 1)
-  tried-more t r e w z h = below-cases (λ (i : ℕ). (atoms : List ℕ) → Working sheet figure taken (set to x (suc i)) rest atoms → ¬ CompletableIn sheet figure (set to x (suc i)) rest atoms) y z
-      (omega (arith, add-one y)) (λ k. t z k) (refused-here (as-false e w))
+    pub tried-next : (r : Bool) → r ≡ false → CompletesAt sheet figure taken to flags now x y r → TriedAt bars x P (y + 1)
+    tried-next r e c = more (λ atoms un w b m p. c .cannot atoms un w (keeps atoms un w m b) m e)
+
+    pub tried-skip : ¬ P y → TriedAt bars x P (y + 1)
+    tried-skip n = more (λ atoms un w b m p. absurd (n p))
+
+  module _ (bars now : List ℕ) (keeps : Keeps bars now) (links : List ℕ) (x : ℕ) (t : TriedTo bars links x) where
+    one-more : ((atoms un : List ℕ) → Working sheet figure taken to flags atoms un → BarsIn sheet figure to un atoms bars → getD flags x 0 ≡ 1 → (y : ℕ) → y < sheet .«class_count» → getD links y 0 ≡ 1 → ¬ CompletableAt sheet figure to un x (suc y) atoms)
+        → TriedTo bars links (x + 1)
+    one-more n atoms un w b z h = below-cases (λ (i : ℕ). getD flags i 0 ≡ 1 → (y : ℕ) → y < sheet .«class_count» → getD links y 0 ≡ 1 → ¬ CompletableAt sheet figure to un i (suc y) atoms) x z
+        (omega (arith, add-one x)) (λ k. t atoms un w b z k) (n atoms un w b)
+
+    -- no sheet link will do for x
+    pub link-refused : x < figure .«class_count» → (r : Bool) → r ≡ false → Mends sheet figure taken to flags now links x r → TriedTo bars links (x + 1)
+    link-refused h r e c = one-more (λ atoms un w b f. c .cannot atoms un w (keeps atoms un w b) (w .several .flag-in x h f) e)
+
+    pub link-settled : ¬ (getD flags x 0 ≡ 1) → TriedTo bars links (x + 1)
+    link-settled n = one-more (λ atoms un w b f. absurd (n f))
 
 module _ (sheet figure : form.Sheet) (ready : Ready sheet figure) (taken to flags : List ℕ) (room : length flags ≡ sheetLinks) where
-  module _ (x : ℕ) (h : x < figure .«class_count») (flag : getD flags x 0 ≡ 1) where
-    -- some sheet link will do
-    pub at-can : (y : ℕ) → y < sheet .«class_count» → (r : Bool) → r ≡ true → Completes sheet figure taken (set to x (y + 1)) (set flags x 0) r
-        → (atoms : List ℕ) → Working sheet figure taken to flags atoms → CompletableAt sheet figure to flags x (y + 1) atoms
-    at-can y k r e w atoms u = w .can atoms (working-put sheet figure ready taken to flags atoms room u x h flag (y + 1) (omega arith, omega arith)) e
+  module _ (bars : List ℕ) (x : ℕ) (h : x < figure .«class_count») where
+    module _ (y : ℕ) (k : y < sheet .«class_count») where
+      -- x is barred there
+      pub at-barred : LinkIn bars x y → CompletesAt sheet figure taken to flags bars x y false
+      at-barred i = record {
+        can = λ atoms un w m e. both-ways e refl;
+        cannot = λ atoms un w b m e. barred-at sheet figure ready taken to flags atoms un room w x h m bars b y k i;
+      }
 
-    pub at-found : (links : List ℕ) (y : ℕ) → y < sheet .«class_count» → (r : Bool) → r ≡ true → Completes sheet figure taken (set to x (y + 1)) (set flags x 0) r → CompletesAt sheet figure taken to flags links x true
-    at-found links y k r e w = record {
-      can = λ atoms u g. put-back sheet figure ready taken to flags atoms room u x h flag (y + 1) (at-can y k r e w atoms u);
-      cannot = λ atoms u g. both-ways refl g;
+      module _ (r : Bool) (c : Completes sheet figure taken (set to x (y + 1)) (set flags x 0) bars r) where
+        put-working : (atoms un : List ℕ) → Working sheet figure taken to flags atoms un → suc x ∈ un → Working sheet figure taken (set to x (y + 1)) (set flags x 0) atoms (remove (suc x) un)
+        put-working atoms un w m = working-put sheet figure ready taken to flags atoms un room w x h m (y + 1) (omega arith, omega (arith, k))
+
+        as-suc : (atoms un : List ℕ) → CompletableAt sheet figure to un x (y + 1) atoms → CompletableAt sheet figure to un x (suc y) atoms
+        as-suc atoms un d = subst (λ (n : ℕ). CompletableAt sheet figure to un x n atoms) (add-one y) d
+
+        as-sum : (atoms un : List ℕ) → CompletableAt sheet figure to un x (suc y) atoms → CompletableAt sheet figure to un x (y + 1) atoms
+        as-sum atoms un d = subst (λ (n : ℕ). CompletableAt sheet figure to un x n atoms) (sym (add-one y)) d
+
+        pub at-can : r ≡ true → CompletesAt sheet figure taken to flags bars x y true
+        at-can e = record {
+          can = λ atoms un w m f. as-suc atoms un (to-put sheet figure ready taken to flags atoms un room w x h m (y + 1) (c .can atoms (remove (suc x) un) (put-working atoms un w m) e));
+          cannot = λ atoms un w b m f. both-ways refl f;
+        }
+
+        fails : r ≡ false → (atoms un : List ℕ) → Working sheet figure taken to flags atoms un → BarsIn sheet figure to un atoms bars → suc x ∈ un → ¬ CompletableAt sheet figure to un x (suc y) atoms
+        fails e atoms un w b m d = c .cannot atoms (remove (suc x) un) (put-working atoms un w m) (bars-at sheet figure ready taken to flags atoms un room w x h m bars b (y + 1)) e
+            (of-put sheet figure ready taken to flags atoms un room w x h m (y + 1) (as-sum atoms un d))
+
+        pub at-cannot : r ≡ false → CompletesAt sheet figure taken to flags bars x y false
+        at-cannot e = record { can = λ atoms un w m f. both-ways f refl; cannot = λ atoms un w b m f. fails e atoms un w b m }
+
+        -- and is barred to its kind from there on
+        pub at-barring : r ≡ false → (kinds : List ℕ) → KindsIn figure kinds → (after : List ℕ) → BarredTo kinds x y bars after → KeepsBars sheet figure taken to flags bars x after
+        at-barring e kinds n after f atoms un w m b = failed-at sheet figure ready taken to flags atoms un room w x h m bars b y k (fails e atoms un w b m) kinds n after f
+
+    -- some sheet link will do
+    pub mends-found : (links now : List ℕ) → (y : ℕ) → y < sheet .«class_count» → (r : Bool) → r ≡ true → CompletesAt sheet figure taken to flags now x y r → Mends sheet figure taken to flags bars links x true
+    mends-found links now y k r e c = record {
+      can = λ atoms un w m f. put-back sheet figure ready taken to flags atoms un room w x h m (suc y) (c .can atoms un w m e);
+      cannot = λ atoms un w b m f. both-ways refl f;
     }
 
     -- none will
-    pub at-none : (links : List ℕ) (y : ℕ) → sheet .«class_count» ≤ y → TriedAt sheet figure taken to x links (set flags x 0) y → CompletesAt sheet figure taken to flags links x false
-    at-none links y k t = record {
-      can = λ atoms u g. both-ways g refl;
-      cannot = λ atoms u g z m f. t z (omega arith) f atoms (working-put sheet figure ready taken to flags atoms room u x h flag (suc z) (omega arith, omega arith));
-    }
+    pub mends-none : (links : List ℕ) (y : ℕ) → sheet .«class_count» ≤ y → TriedAt sheet figure taken to flags bars x (λ z. getD links z 0 ≡ 1) y → Mends sheet figure taken to flags bars links x false
+    mends-none links y k t = record { can = λ atoms un w m f. both-ways f refl; cannot = λ atoms un w b m f z l g. t atoms un w b m z (omega (arith, k, l)) g }
 
     -- the first that will
-    pub first-found : (y : ℕ) → y < sheet .«class_count» → TriedAll sheet figure taken to x (set flags x 0) y → (r : Bool) → r ≡ true → Completes sheet figure taken (set to x (y + 1)) (set flags x 0) r
-        → FirstFor sheet figure taken to flags x (y + 1)
-    first-found y k t r e w = record {
-      within = (omega arith, omega arith);
-      refused = λ atoms u z m. t z (omega arith) atoms (working-put sheet figure ready taken to flags atoms room u x h flag (suc z) (omega arith, omega arith));
-      found = λ atoms u m. at-can y k r e w atoms u;
+    pub first-found : (now : List ℕ) (y : ℕ) → y < sheet .«class_count» → TriedAt sheet figure taken to flags bars x (λ z. Unit {0}) y → (r : Bool) → r ≡ true → CompletesAt sheet figure taken to flags now x y r
+        → FirstFor sheet figure taken to flags bars x (y + 1)
+    first-found now y k t r e c = record {
+      within = (omega arith, omega (arith, k));
+      refused = λ atoms un w b m z l. t atoms un w b m z (omega (arith, l)) tt;
+      found = λ atoms un w m l. subst (λ (n : ℕ). CompletableAt sheet figure to un x n atoms) (sym (add-one y)) (c .can atoms un w m e);
     }
 
-    pub first-none : (y : ℕ) → y ≡ sheet .«class_count» → TriedAll sheet figure taken to x (set flags x 0) y → FirstFor sheet figure taken to flags x (y + 1)
+    pub first-none : (y : ℕ) → y ≡ sheet .«class_count» → TriedAt sheet figure taken to flags bars x (λ z. Unit {0}) y → FirstFor sheet figure taken to flags bars x (y + 1)
     first-none y e t = record {
-      within = (omega arith, omega arith);
-      refused = λ atoms u z m. t z (omega arith) atoms (working-put sheet figure ready taken to flags atoms room u x h flag (suc z) (omega arith, omega arith));
-      found = λ atoms u m. absurd (omega arith);
+      within = (omega arith, omega (arith, e));
+      refused = λ atoms un w b m z l. t atoms un w b m z (omega (arith, l)) tt;
+      found = λ atoms un w m l. absurd (omega (arith, l, e));
     }
-
-  module _ (links : List ℕ) (x : ℕ) (t : TriedTo sheet figure taken to flags links x) where
-    one-more : ((atoms : List ℕ) → Working sheet figure taken to flags atoms → getD flags x 0 ≡ 1 → (y : ℕ) → y < sheet .«class_count» → getD links y 0 ≡ 1 → ¬ CompletableAt sheet figure to flags x (suc y) atoms)
-        → TriedTo sheet figure taken to flags links (x + 1)
-    one-more n atoms u z h = below-cases (λ (i : ℕ). getD flags i 0 ≡ 1 → (y : ℕ) → y < sheet .«class_count» → getD links y 0 ≡ 1 → ¬ CompletableAt sheet figure to flags i (suc y) atoms) x z
-        (omega (arith, add-one x)) (λ k. t atoms u z k) (n atoms u)
-
-    -- no sheet link will do for x
-    pub link-refused : (r : Bool) → r ≡ false → CompletesAt sheet figure taken to flags links x r → TriedTo sheet figure taken to flags links (x + 1)
-    link-refused r e w = one-more (λ atoms u f. w .cannot atoms u e)
-
-    -- x is settled, or one of its kind was tried
-    pub link-skipped : (kinds : List ℕ) → KindsIn figure kinds → x < figure .«class_count» → (r : Bool) → r ≡ false → FirstOfKind flags kinds x r → TriedTo sheet figure taken to flags links (x + 1)
-    link-skipped kinds k h r e w = one-more (λ atoms u f y m g.
-        let s = w .earlier e f in
-        earlier-refused sheet figure ready taken to flags atoms room u kinds k x (s .0) (suc y) h f (s .1) (s .2) (s .3) (t atoms u (s .0) (s .1) (s .2) y m g))
 
   -- What stands in the way.
   pub find-hinders : (r : Fault) → FindsAll sheet figure taken to r → Hinders sheet figure taken to flags r
   find-hinders r finds = record {
-    free = λ atoms u e. no-fault-completable (netIn sheet) (netIn figure) (ready .sheet-normal) (ready .figure-normal) (stateIn figure atoms to) (unsettled figure flags) (u .partial)
-        (finds atoms (unsettled figure flags) (u .taken-in) (u .partial) .none-found e .0);
-    held = λ atoms u e. let t = finds atoms (unsettled figure flags) (u .taken-in) (u .partial) .some-found e in
-        way-out sheet figure ready taken to flags atoms room u (t .1) (r .links) (t .2);
+    free = λ atoms un w e. no-fault-completable (netIn sheet) (netIn figure) (ready .sheet-normal) (ready .figure-normal) (stateIn figure atoms to) un (w .placed .partial)
+        (finds atoms un (w .placed .taken-in) (w .placed .partial) .none-found e .0);
+    held = λ atoms un w e. let t = finds atoms un (w .placed .taken-in) (w .placed .partial) .some-found e in
+        way-out sheet figure ready taken to flags atoms un room w (t .1) (r .links) (t .2);
   }
 
-  -- the links that are unsettled have a flag
-  pub flag-of : (x : ℕ) → suc x ∈ unsettled figure flags → getD flags x 0 ≡ 1
+  -- the links that are flagged have a flag
+  flag-of : (x : ℕ) → suc x ∈ unsettled figure flags → getD flags x 0 ≡ 1
   flag-of x m = let t = flagged-out (figure .«class_count») flags (suc x) m in
       let e : t .index ≡ x = (let k : suc x ≡ suc (t .index) = t .number in omega arith) in
       subst (λ (i : ℕ). getD flags i 0 ≡ 1) e (t .flag)
 
   -- where no completion is left, nothing can mend it
   pub refused-hinders : (b : Bool) → b ≡ true → Refuses sheet figure taken to flags b → (r : Fault) → r .found ≡ true → Hinders sheet figure taken to flags r
-  refused-hinders b e w r f = record {
-    free = λ atoms u g. both-ways f g;
-    held = λ atoms u g c. absurd (w e atoms (unsettled figure flags) (u .taken-in) (u .partial) flag-of c);
+  refused-hinders b e f r g = record {
+    free = λ atoms un w h. both-ways g h;
+    held = λ atoms un w h c. absurd (f e atoms (unsettled figure flags) (w .placed .taken-in) (tried-partial sheet figure ready taken to flags atoms un room w) flag-of
+        (several-in sheet figure ready taken to flags atoms un room w c));
   }
 
-  module _ (r : Fault) (hinders : Hinders sheet figure taken to flags r) where
-    pub found-none : r .found ≡ false → Completes sheet figure taken to flags true
-    found-none e = record { can = λ atoms u g. hinders .free atoms u e; cannot = λ atoms u g. both-ways refl g }
+  module _ (bars : List ℕ) (r : Fault) (hinders : Hinders sheet figure taken to flags r) where
+    pub found-none : r .found ≡ false → Completes sheet figure taken to flags bars true
+    found-none e = record { can = λ atoms un w g. hinders .free atoms un w e; cannot = λ atoms un w b g. both-ways refl g }
 
-    pub found-tried : (x : ℕ) → CompletesAt sheet figure taken to flags (r .links) x true → Completes sheet figure taken to flags true
-    found-tried x w = record { can = w .can; cannot = λ atoms u g. both-ways refl g }
+    pub found-tried : (now : List ℕ) (x : ℕ) → x < figure .«class_count» → getD flags x 0 ≡ 1 → Mends sheet figure taken to flags now (r .links) x true → Completes sheet figure taken to flags bars true
+    found-tried now x h f m = record { can = λ atoms un w g. m .can atoms un w (w .several .flag-in x h f) refl; cannot = λ atoms un w b g. both-ways refl g }
 
-    pub found-refused : r .found ≡ true → (x : ℕ) → figure .«class_count» ≤ x → TriedTo sheet figure taken to flags (r .links) x → Completes sheet figure taken to flags false
+    pub found-refused : r .found ≡ true → (x : ℕ) → figure .«class_count» ≤ x → TriedTo sheet figure taken to flags bars (r .links) x → Completes sheet figure taken to flags bars false
     found-refused e x k t = record {
-      can = λ atoms u g. both-ways g refl;
-      cannot = λ atoms u g c. let w = hinders .held atoms u e c in t atoms u (w .link) (omega (arith, w .link-in)) (w .flag) (w .at) (w .at-in) (w .at-flag) (w .completes);
+      can = λ atoms un w g. both-ways g refl;
+      cannot = λ atoms un w b g c. let o = hinders .held atoms un w e c in t atoms un w b (o .link) (omega (arith, o .link-in, k)) (o .flag) (o .at) (o .at-in) (o .at-flag) (o .completes);
     }

@@ -2,10 +2,12 @@
 use crate::completable::completable;
 use crate::settle::settled;
 use candidates::LAID;
+use candidates::LINK_SETS;
 use candidates::frame::Frame;
 use deciding::decided::links_of;
 use deciding::kinds::kinds;
 use deciding::opening::open_links;
+
 use deciding::taken::taken_by;
 use faults::fault::find;
 use faults::nets::Nets;
@@ -89,10 +91,12 @@ fn least(
     let contexts = nets.contexts;
     let kind = kinds(contexts, nets.rows);
     let words = standing(contexts, nets.rows);
-    if !completable(nets, laid, &table, taken, &kind, &words, to, flags) {
+    let tried = *flags;
+    let bars = [0u64; LINK_SETS];
+    if !completable(nets, laid, &table, taken, &kind, &words, to, &tried, &bars) {
         return nothing();
     }
-    let links_to = settled(nets, laid, &table, taken, &kind, &words, to, flags);
+    let links_to = settled(nets, laid, &table, taken, &kind, &words, to, flags, &tried);
     let last = find(nets, laid, &table, taken, &links_to);
     let given = last.given;
     Completed {
