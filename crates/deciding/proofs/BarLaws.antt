@@ -1,26 +1,17 @@
 -- Sets of barred links: what is in them after one more is stored.
-use Prim.Native.Nat.{ℕ, _+_, _*_, _/_, _%_, _^_, _<_}
+use Prim.Native.Nat.{ℕ, _+_, _*_, _/_, _%_, _<_}
 use mathlib.Core.Path.{_≡_, sym, _∙_, ap, subst}
-use mathlib.Core.Bool.{true}
-use mathlib.Core.Logic.{_≢_, _⊎_, inl, inr, ⊎-elim, _↔_}
+use mathlib.Core.Logic.{_≢_, _⊎_, inl, inr, ⊎-elim}
 use mathlib.Core.List.{List, [], _∷_}
 use native.Mathlib.Decide.{ℕ-discrete, decLt}
 use native.Mathlib.Omega.{arith}
-use borrow.Author.Tests.{eq-eqb, eqb-true}
-use lib.Bits.{bitAnd}
-use lib.Dec.{eqb}
 use lib.ListN.{length, getD, set}
 use lib.Seq.{getD-set-same, getD-set-other, set-out}
 use Rattle.rows.specs.Limits.{sheetLinks}
 use Rattle.candidates.specs.Words.{wordDigits, In, InPair, withLink}
 use Rattle.candidates.specs.Tables.{LinkIn}
-use Rattle.candidates.proofs.Digits.{shifted-one}
-use Rattle.candidates.proofs.Halves.{by-half, stored, with-only}
+use Rattle.candidates.proofs.Halves.{by-half, in-pair, stored, with-only}
 use Rattle.deciding.specs.Bars.{BarredTo}
-
--- A digit as the machine reads it.
-pub digit-read : (s t : ℕ) → (eqb (bitAnd (s / 2 ^ t) 1) 1 ≡ true) ↔ In s t
-digit-read s t = ((λ e. sym (shifted-one s t) ∙ eqb-true _ _ e), λ i. eq-eqb _ _ (shifted-one s t ∙ i))
 
 -- A word that is stored is there afterwards, or the one that was.
 word-from : (k : List ℕ) (q v t : ℕ) → In (getD (set k q v) q 0) t → In v t ⊎ In (getD k q 0) t
@@ -38,12 +29,12 @@ module _ (k : List ℕ) (x : ℕ) (y : ℕ) (h : y < sheetLinks) where
   even = omega arith
 
   pair-out : InPair (getD k (x * 2) 0 ∷ getD k (x * 2 + 1) 0 ∷ []) y → LinkIn k x y
-  pair-out = by-half (λ z. In (getD (getD k (x * 2) 0 ∷ getD k (x * 2 + 1) 0 ∷ []) z 0) (y % wordDigits) → In (getD k (x * 2 + z) 0) (y % wordDigits)) y (omega (arith, h))
+  pair-out = by-half (λ z. In (getD (getD k (x * 2) 0 ∷ getD k (x * 2 + 1) 0 ∷ []) z 0) (y % wordDigits) → In (getD k (x * 2 + z) 0) (y % wordDigits)) y (in-pair h)
       (subst (λ (q : ℕ). In (getD k q 0) (y % wordDigits)) (sym even)) (λ i. i)
 
   -- of the set that was stored, or of the one before
   stored-from : (pair : List ℕ) → LinkIn (stored k x pair) x y → InPair pair y ⊎ LinkIn k x y
-  stored-from pair = by-half (λ z. In (getD (stored k x pair) (x * 2 + z) 0) (y % wordDigits) → In (getD pair z 0) (y % wordDigits) ⊎ In (getD k (x * 2 + z) 0) (y % wordDigits)) y (omega (arith, h))
+  stored-from pair = by-half (λ z. In (getD (stored k x pair) (x * 2 + z) 0) (y % wordDigits) → In (getD pair z 0) (y % wordDigits) ⊎ In (getD k (x * 2 + z) 0) (y % wordDigits)) y (in-pair h)
       (λ i. subst (λ (q : ℕ). In (getD pair 0 0) (y % wordDigits) ⊎ In (getD k q 0) (y % wordDigits)) (sym even)
       (word-from k (x * 2) (getD pair 0 0) (y % wordDigits) (word-other (set k (x * 2) (getD pair 0 0)) (x * 2 + 1) (x * 2) (getD pair 1 0) (y % wordDigits) (λ e. omega (arith, e))
       (subst (λ (q : ℕ). In (getD (stored k x pair) q 0) (y % wordDigits)) even i))))
@@ -68,7 +59,7 @@ module _ (kinds : List ℕ) (x y : ℕ) where
   one-barred was z alike small pair e u w g h i = go (ℕ-discrete u z)
     where
       there : LinkIn (stored was z pair) z w → LinkIn was z w ⊎ (w ≡ y)
-      there j = ⊎-elim (λ m. ⊎-elim (λ n. inl (pair-out was z w h n)) inr (with-only _ y small pair e w (omega (arith, h)) m)) inl (stored-from was z w h pair j)
+      there j = ⊎-elim (λ m. ⊎-elim (λ n. inl (pair-out was z w h n)) inr (with-only _ y small pair e w (in-pair h) m)) inl (stored-from was z w h pair j)
 
       go : Dec (u ≡ z) → LinkIn was u w ⊎ ((getD kinds u 0 ≡ getD kinds x 0) × (w ≡ y))
       go (yes q) = ⊎-elim (λ m. inl (subst (λ (v : ℕ). LinkIn was v w) (sym q) m)) (λ f. inr (ap (λ (v : ℕ). getD kinds v 0) q ∙ alike, f)) (there (subst (λ (v : ℕ). LinkIn (stored was z pair) v w) q i))

@@ -7,3 +7,4 @@ pub mod Telling
 pub mod LaidTelling
 pub mod MarkLaws
 pub mod BarLaws
+pub mod SeveralLaws

@@ -3,3 +3,4 @@ pub mod Bars
 pub mod Flags
 pub mod Kinds
 pub mod Links
+pub mod Several

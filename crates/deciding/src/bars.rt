@@ -1,4 +1,5 @@
 // Sheet links that are barred to figure links, as a table of sets. All are counted from 0.
+use crate::words::has;
 use candidates::LINK_SETS;
 use candidates::pairs::pair_at;
 use candidates::pairs::set_pair;
@@ -18,7 +19,7 @@ pub fn barred(bars: &[u64; LINK_SETS], x: usize, y: usize) -> bool
     requires { ⌜ (x < sheetLinks) × (y < sheetLinks) ⌝ }
     ensures { λ r. ⌜ ((r ≡ true) ↔ LinkIn (now (bars .entry)) x y) ⌝ }
 {
-    (bars[x * 2 + y / DIGITS] >> (y % DIGITS)) & 1 == 1
+    has(bars[x * 2 + y / DIGITS], y % DIGITS)
 }
 
 // y is barred to z, where z is of the kind of x.

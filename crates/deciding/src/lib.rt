@@ -6,4 +6,6 @@ pub mod kinds;
 pub mod links;
 mod marks;
 pub mod opening;
+pub mod several;
 pub mod taken;
+mod words;
