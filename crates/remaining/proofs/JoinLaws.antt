@@ -121,9 +121,12 @@ module _ (standing flags to : List ℕ) (count : ℕ) where
   TableTo w table = (length table ≡ wordCount) × ((v : ℕ) → v < w → Closure standing flags to count 0 v (getD table v 0))
 
   pub table-start : (table : List ℕ) → table ≡ replicate wordCount 0 → TableTo 1 table
-  table-start table e = (ap length e ∙ length-replicate {A = ℕ} wordCount 0, λ v h. let z : v ≡ 0 = omega (arith, h) in
-      subst (λ (i : ℕ). Closure standing flags to count 0 i (getD table i 0)) (sym z)
-      (subst (Closure standing flags to count 0 0) (sym (ap (λ (k : List ℕ). getD k 0 0) e)) (closure-none standing flags to count 0)))
+  table-start table e = (
+    ap length e ∙ length-replicate {A = ℕ} wordCount 0,
+    λ v h. let z : v ≡ 0 = omega (arith, h) in
+        subst (λ (i : ℕ). Closure standing flags to count 0 i (getD table i 0)) (sym z)
+        (subst (Closure standing flags to count 0 0) (sym (ap (λ (k : List ℕ). getD k 0 0) e)) (closure-none standing flags to count 0)),
+  )
 
   pub table-next : (w : ℕ) (table : List ℕ) → w < wordCount → TableTo w table → (r : ℕ) → Closure standing flags to count 0 w r → TableTo (w + 1) (set table w r)
   table-next w table h t r c = (length-set table w r ∙ t .0, each)

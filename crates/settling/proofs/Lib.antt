@@ -1,5 +1,5 @@
 pub mod States
 pub mod Trying
 pub mod SettleLaws
--- pub mod Starting
--- pub mod Whole
+pub mod Starting
+pub mod Whole

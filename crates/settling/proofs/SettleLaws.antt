@@ -1,5 +1,5 @@
 -- The loop that settles the open links in ascending order.
-use Prim.Native.Nat.{ℕ, suc, _+_, _-_, _≤_, _<_}
+use Prim.Native.Nat.{ℕ, suc, _+_, _*_, _/_, _%_, _-_, _≤_, _<_}
 use mathlib.Core.Path.{_≡_, sym, _∙_, ap, subst}
 use mathlib.Core.Logic.{_≢_}
 use mathlib.Core.List.{List, _∷_}
@@ -12,7 +12,7 @@ use Rattle.rows.specs.Limits.{sheetLinks}
 use Rattle.rows.proofs.Padding.{getD-filled}
 use Rattle.rows.specs.declared.Sheet as form
 use Rattle.placing.specs.Net.{Net}
-use Rattle.placing.specs.Placing.{Placing}
+use Rattle.placing.specs.Placing.{Placing, linkTo}
 use Rattle.network.specs.NetIn.{netIn}
 use Rattle.network.specs.Ready.{Ready, LinksIn, stateIn}
 use Rattle.candidates.specs.Words.{wordDigits, In}
@@ -29,7 +29,10 @@ use Rattle.settling.proofs.States.{links-set, state-put, taken-in-same,
 
 -- Nothing is barred by a table of zeros.
 pub zeros-bar : (sheet figure : form.Sheet) (to un atoms bars : List ℕ) (n : ℕ) → bars ≡ replicate n 0 → BarsIn sheet figure to un atoms bars
-zeros-bar sheet figure to un atoms bars n e p c x m (r, i) = none-in _ (subst (λ (v : ℕ). In v _) (ap (λ (l : List ℕ). getD l _ 0) e ∙ getD-filled {A = ℕ} 0 n _) i)
+zeros-bar sheet figure to un atoms bars n e p c x m (r, i) =
+    let y = linkTo p x - 1 in
+    let k = (x - 1) * 2 + y / wordDigits in
+    none-in (y % wordDigits) (subst (λ (v : ℕ). In v (y % wordDigits)) (ap (λ (l : List ℕ). getD l k 0) e ∙ getD-filled {A = ℕ} 0 n k) i)
 
 -- The links before x are settled.
 pub record SettledTo (sheet figure : form.Sheet) (taken to₀ opened₀ flags₀ to rest flags bars : List ℕ) (x : ℕ) : Type 0 where

@@ -182,7 +182,7 @@ module _ (sheet figure : form.Sheet) (ready : Ready sheet figure) (taken to flag
       let s = t .2 in
       let r : Range (S .links) (s .0) = fault-links S F (ready .sheet-normal) q f (s .0) (s .1) in
       let d = completable-wider S F (put q (t .0) (s .0)) (remove (t .0) tried) (remove (t .0) un)
-          (λ z m. let o = of-remove z (t .0) tried m in in-remove z (t .0) un (tried-in z (o .0)) (o .1)) (s .2) in
+      (λ z m. let o = of-remove z (t .0) tried m in in-remove z (t .0) un (tried-in z (o .0)) (o .1)) (s .2) in
       record {
         link = u .index;
         link-in = u .within;

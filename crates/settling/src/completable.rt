@@ -39,7 +39,19 @@ pub(crate) fn completable(
     let mut x = 0;
     while x < nets.count {
         if flags[x] == 1 {
-            if mendable(nets, laid, chains, taken, kinds, standing, to, flags, &links, x, &mut known) {
+            if mendable(
+                nets,
+                laid,
+                chains,
+                taken,
+                kinds,
+                standing,
+                to,
+                flags,
+                &links,
+                x,
+                &mut known,
+            ) {
                 return true;
             }
         }
@@ -68,7 +80,19 @@ fn mendable(
     let mut y = 0;
     while y < nets.links {
         if links[y] == 1 {
-            if completable_at(nets, laid, chains, taken, kinds, standing, to, flags, x, y, bars) {
+            if tried_at(
+                nets,
+                laid,
+                chains,
+                taken,
+                kinds,
+                standing,
+                to,
+                flags,
+                x,
+                y,
+                bars,
+            ) {
                 return true;
             }
         }
@@ -78,7 +102,7 @@ fn mendable(
 }
 
 // The same with link x at y. Where that fails it is barred.
-pub(crate) fn completable_at(
+pub(crate) fn tried_at(
     nets: Nets,
     laid: &[u16; LAID],
     chains: &[u16; CHAINS],
@@ -101,7 +125,17 @@ pub(crate) fn completable_at(
     next[x] = (y + 1) as u16;
     let mut rest = *flags;
     rest[x] = 0;
-    if completable(nets, laid, chains, taken, kinds, standing, &next, &rest, bars) {
+    if completable(
+        nets,
+        laid,
+        chains,
+        taken,
+        kinds,
+        standing,
+        &next,
+        &rest,
+        bars,
+    ) {
         return true;
     }
     bar(bars, kinds, nets.count, x, y);

@@ -7,7 +7,7 @@ use candidates::frame::Frame;
 use deciding::decided::links_of;
 use deciding::kinds::kinds;
 use deciding::opening::open_links;
-
+use deciding::several::several;
 use deciding::taken::taken_by;
 use faults::fault::find;
 use faults::nets::Nets;
@@ -91,7 +91,7 @@ fn least(
     let contexts = nets.contexts;
     let kind = kinds(contexts, nets.rows);
     let words = standing(contexts, nets.rows);
-    let tried = *flags;
+    let tried = several(contexts, nets.rows, flags);
     let bars = [0u64; LINK_SETS];
     if !completable(nets, laid, &table, taken, &kind, &words, to, &tried, &bars) {
         return nothing();

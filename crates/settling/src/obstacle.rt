@@ -34,7 +34,17 @@ fn hopeless(
     if refused(atoms, links, count, chains, taken, standing, to, flags) {
         return true;
     }
-    outnumbered(atoms, links, count, laid, chains, taken, standing, to, flags)
+    outnumbered(
+        atoms,
+        links,
+        count,
+        laid,
+        chains,
+        taken,
+        standing,
+        to,
+        flags,
+    )
 }
 
 // A fault, if there is one. It has no links where no unsettled link can mend it.

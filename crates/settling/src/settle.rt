@@ -1,5 +1,5 @@
 // The open links settled one by one, each at the first sheet link with which the rest can be completed.
-use crate::completable::completable_at;
+use crate::completable::tried_at;
 use candidates::LAID;
 use candidates::LINK_SETS;
 use faults::nets::Nets;
@@ -30,7 +30,19 @@ fn first_link(
 {
     let mut y = 0;
     while y < nets.links {
-        if completable_at(nets, laid, chains, taken, kinds, standing, to, flags, x, y, bars) {
+        if tried_at(
+            nets,
+            laid,
+            chains,
+            taken,
+            kinds,
+            standing,
+            to,
+            flags,
+            x,
+            y,
+            bars,
+        ) {
             return (y + 1) as u16;
         }
         y += 1;
@@ -60,7 +72,18 @@ pub(crate) fn settled(
     let mut x = 0;
     while x < nets.count {
         if rest[x] == 1 {
-            let y = first_link(nets, laid, chains, taken, kinds, standing, &next, &several, x, &mut bars);
+            let y = first_link(
+                nets,
+                laid,
+                chains,
+                taken,
+                kinds,
+                standing,
+                &next,
+                &several,
+                x,
+                &mut bars,
+            );
             next[x] = y;
             rest[x] = 0;
             several[x] = 0;

@@ -72,9 +72,10 @@ loop-again c = let s = c .before .before .before .before .before in
       s .pre .2 .above (l .v),
       length-set (l .words) (atomOf (l .v)) (bitAnd (getD (l .words) (atomOf (l .v)) 0) (a .word)) ∙ l .inv .2,
       λ S n k. let w = l .inv .3 S n k in
-          let o = w .0 t in
-          ((λ e. (k .nodes .within (l .v), chain-next S n (a .chains .now) k (a .y) (l .v) (o .0) (o .1) e)),
-          λ taken digits u v. allows-cut S taken digits (l .words) (a .y) (atomOf (l .v)) (a .word) (omega (arith, few, l .inv .2)) (node-touches S (a .y) (l .v) (o .1)) u (w .1 taken digits u v)),
+          let o = w .0 t in (
+            (λ e. (k .nodes .within (l .v), chain-next S n (a .chains .now) k (a .y) (l .v) (o .0) (o .1) e)),
+            λ taken digits u v. allows-cut S taken digits (l .words) (a .y) (atomOf (l .v)) (a .word) (omega (arith, few, l .inv .2)) (node-touches S (a .y) (l .v) (o .1)) u (w .1 taken digits u v),
+          ),
     )
 
 returns : tie.Need-returns Inv-loop μ-loop

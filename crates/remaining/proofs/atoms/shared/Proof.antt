@@ -72,10 +72,11 @@ loop-again c = let s = c .before .before .before .before .before .before .before
       s .pre .1 .within (l .v),
       s .pre .1 .above (l .v),
       λ S n k. let w = l .inv .2 S n k in
-          let o = w .0 t in
-          ((λ e. (k .nodes .within (l .v), chain-next S n (a .chains .now) k (a .y) (l .v) (o .0) (o .1) e)),
-          shared-next S (a .taken .now) (a .words .now) (a .table .now) (a .y) (l .word) (l .v) (c .before .kept-by .result) (o .1) (w .1)
-          (subst (λ (z : ℕ). KeptBy (l .word) (getD (a .taken .now) (atomOf (l .v)) 0) z (c .before .kept-by .result)) (c .before .before .closure-of .ensures) (c .before .kept-by .ensures))),
+          let o = w .0 t in (
+            (λ e. (k .nodes .within (l .v), chain-next S n (a .chains .now) k (a .y) (l .v) (o .0) (o .1) e)),
+            shared-next S (a .taken .now) (a .words .now) (a .table .now) (a .y) (l .word) (l .v) (c .before .kept-by .result) (o .1) (w .1)
+                (subst (λ (z : ℕ). KeptBy (l .word) (getD (a .taken .now) (atomOf (l .v)) 0) z (c .before .kept-by .result)) (c .before .before .closure-of .ensures) (c .before .kept-by .ensures)),
+          ),
     )
 
 returns : tie.Need-returns Inv-loop μ-loop

@@ -91,8 +91,7 @@ loop-less c = search needs
 loop-again : tie.Need-loop-again Inv-loop μ-loop
 loop-again c = let s = c .before .before .before .before .before .before .before .before .before .before .before .before .before .before .before .before in
     let a = s .args in
-    let d = s .pre .2 in
-    (
+    let d = s .pre .2 in (
       omega (arith, c .before .before .before .before .before .before .before .before .loop-test .taken),
       c .before .before .before .before .round .ensures .0,
       λ sheet figure w. kept-round sheet figure (a .atoms) (a .links) (a .count) (a .chains .now) (a .standing .now) (a .to .now) w (a .taken .now) (a .flags .now) (c .before .before .before .before .before .before .before .before .before .before .closures .last .0) (c .before .before .before .before .before .before .before .before .before .before .before .before .used-links .result) (c .before .before .before .before .before .before .before .before .before .loop .words) (c .before .before .before .before .round .last .0) (c .before .before .before .before .before .before .before .before .before .before .closures .ensures) (c .before .before .before .before .before .before .before .before .before .before .before .before .used-links .ensures) (c .before .before .before .before .round .ensures .1) (c .before .before .before .before .before .before .before .before .before .loop .inv .2 sheet figure w),

@@ -18,9 +18,9 @@ cut-requires c κs = (c .before .before .before .before .before .pre .0, c .befo
 
 returns-2 : tie.Need-returns-2
 returns-2 c = let a = c .before .before .before .before .before .before .args in (
-      c .cut .ensures .0,
-      λ S n k digits g w. c .cut .ensures .1 S n k (a .taken .now) digits (shared-all S (a .taken .now) digits (a .table .now) (a .used .now) (a .words .now) g w (a .y) (c .before .before .before .before .if1 .left) (c .before .before .shared .result) (c .before .before .shared .ensures S n k)) w,
-    )
+  c .cut .ensures .0,
+  λ S n k digits g w. c .cut .ensures .1 S n k (a .taken .now) digits (shared-all S (a .taken .now) digits (a .table .now) (a .used .now) (a .words .now) g w (a .y) (c .before .before .before .before .if1 .left) (c .before .before .shared .result) (c .before .before .shared .ensures S n k)) w,
+)
 
 pub unused-cut-spec : {M : Type 1} → statement M
 unused-cut-spec =
