@@ -45,7 +45,8 @@ impl<'a> Completing<'a> {
         }
         let fault = self.ends.fault();
         let known = self.open.pairs();
-        let found = kinds_in(kinds).any(|kind| self.possible_at(fault, kind));
+        // a link on one context alone mends nothing: it may as well go to none
+        let found = kinds_in(kinds).any(|kind| kind.count_ones() > 1 && self.possible_at(fault, kind));
         self.open.forget(known);
         found
     }
