@@ -104,8 +104,24 @@ impl<'a> Ends<'a> {
     /// The atoms joined with `first` by links where no figure link goes,
     /// and the contexts with a port at each of their links where one goes.
     fn component(&self, first: usize) -> (Atoms, u8) {
-        let (atoms, links) = self.sheet.joined(first, self.others, !self.sets.held);
-        (atoms, links_in(links & self.sets.held).fold(self.contexts, |contexts, s| contexts & self.here[s]))
+        let mut atoms: Atoms = 1 << first;
+        let mut pending = atoms;
+        let mut contexts = self.contexts;
+        let mut links: Links = 0;
+        while pending != 0 {
+            let x = pending.trailing_zeros() as usize;
+            pending &= pending - 1;
+            let fresh = self.sheet.links_of[x] & !links;
+            links |= fresh;
+            for s in links_in(fresh & self.sets.held) {
+                contexts &= self.here[s];
+            }
+            for s in links_in(fresh & !self.sets.held) {
+                pending |= self.sheet.atoms_on[s] & !atoms;
+                atoms |= self.sheet.atoms_on[s];
+            }
+        }
+        (atoms, contexts)
     }
 
     /// The components of the other atoms, each with the contexts that can take it.

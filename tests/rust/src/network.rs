@@ -104,24 +104,6 @@ impl Network {
         (1 << self.contexts) - 1
     }
 
-    /// The atoms among `within` joined with `first` by the links in `through`, and all links of these atoms.
-    pub fn joined(&self, first: usize, within: Atoms, through: Links) -> (Atoms, Links) {
-        let mut atoms: Atoms = 1 << first;
-        let mut pending = atoms;
-        let mut links: Links = 0;
-        while pending != 0 {
-            let x = pending.trailing_zeros() as usize;
-            pending &= pending - 1;
-            let fresh = self.links_of[x] & !links;
-            links |= fresh;
-            for s in links_in(fresh & through) {
-                pending |= self.atoms_on[s] & within & !atoms;
-                atoms |= self.atoms_on[s] & within;
-            }
-        }
-        (atoms, links)
-    }
-
     /// A link that touches no atom and no mark, so that only contexts hold it.
     pub fn is_open(&self, link: usize) -> bool {
         self.ports[link] == 0 && self.marks[link] == 0

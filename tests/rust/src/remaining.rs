@@ -6,21 +6,15 @@ use crate::open::{kinds_in, Open};
 
 /// Whether a context remains for each other atom: at a sheet link the other atoms, and the figure links that go there,
 /// have their contexts in one class, as figure links that go there or may go there make them. False only where no
-/// good placing is left.
+/// good placing is left. Each sheet link is looked at once; more seldom pays.
 pub fn contexts_remain(ends: &Ends, open: &Open) -> bool {
     let mut remaining = [ends.contexts; ATOMS];
-    let mut pending = ends.sheet.all_links();
-    while pending != 0 {
-        let s = pending.trailing_zeros() as usize;
-        pending &= pending - 1;
+    for s in 0..ends.sheet.links {
         let Some(allowed) = allowed(ends, open, s, &remaining) else {
             return false;
         };
         for x in atoms_in(ends.others_on(s)) {
-            if remaining[x] & !allowed != 0 {
-                remaining[x] &= allowed;
-                pending |= ends.sheet.links_of[x] & !ends.held();
-            }
+            remaining[x] &= allowed;
             if remaining[x] == 0 {
                 return false;
             }
