@@ -9,7 +9,7 @@ use plain::case::Case;
 use crate::report::show_case;
 
 /// How many times its limit a call may take before it is given up.
-const FAR: u32 = 4;
+const FAR: u32 = 10;
 /// How often the thread looks.
 const PAUSE: Duration = Duration::from_millis(100);
 

@@ -106,23 +106,23 @@ fn blanks_alone(rng: &mut Rng, least: usize, widths: &[usize]) -> (Lines, Lines)
     (sheet, pattern.lines(rng))
 }
 
-/// Two or three symbols that stand apart from each other.
+/// Symbols that stand apart from each other, fewer in a larger sheet: there are not very many placings of them.
 pub fn apart(rng: &mut Rng) -> (Lines, Lines) {
-    let count = rng.between(2, 3);
-    symbols_apart(rng, count)
+    symbols_apart(rng, 10_000)
 }
 
-/// More of them, of which there are very many placings.
+/// The same with any number of placings.
 pub fn scattered(rng: &mut Rng) -> (Lines, Lines) {
-    let count = rng.between(4, 6);
-    symbols_apart(rng, count)
+    symbols_apart(rng, usize::MAX)
 }
 
-/// Symbols of the sheet that have no joint in common, all joints on blanks.
-fn symbols_apart(rng: &mut Rng, count: usize) -> (Lines, Lines) {
+/// Two to six symbols of the sheet without a joint in common, all their joints on blanks.
+fn symbols_apart(rng: &mut Rng, most: usize) -> (Lines, Lines) {
     let sheet = sheet(rng);
-    let mut pattern = Pattern::new(rng.between(1, LAST_CONTEXT as usize));
     let chosen = symbols(&sheet);
+    let few = |&count: &u32| chosen.len().checked_pow(count).is_some_and(|placings| placings <= most);
+    let count = (2..=rng.between(2, 6) as u32).rev().find(few).unwrap_or(2);
+    let mut pattern = Pattern::new(rng.between(1, LAST_CONTEXT as usize));
     for _ in 0..count {
         let symbol = chosen[rng.below(chosen.len())];
         let joints: Vec<u16> = symbol.fields[2..].iter().map(|_| pattern.joint()).collect();
