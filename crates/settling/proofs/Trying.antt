@@ -8,7 +8,6 @@ use native.Mathlib.Numerals.{add-one}
 use lib.ListN.{length, getD, set}
 use Rattle.rows.specs.Limits.{sheetLinks}
 use Rattle.rows.specs.declared.Sheet as form
-use Rattle.hyperlmntal.specs.Link.{_∈_}
 use Rattle.placing.proofs.FirstLaws.{both-ways}
 use Rattle.network.specs.NetIn.{netIn}
 use Rattle.network.specs.Ready.{Ready, LinksIn, stateIn}
