@@ -22,9 +22,6 @@ ghost use Rattle.stepping.specs.Flags.{Within};
 ghost use Rattle.stepping.specs.Standing.{Described, Refuses};
 ghost use Rattle.remaining.specs.Allowing.{Allows, SettledIn, Together, TornAt, ApartFrom};
 
-// How often all sheet links are gone through at most.
-const ROUNDS: usize = 64;
-
 // A link other than x goes to y and has no context in the word.
 fn apart_from(
     standing: &[u16; Sheet::LINKS],
@@ -101,17 +98,6 @@ fn settled_cuts(
     false
 }
 
-// The link that is the n-th to be gone through: from the last back, or from the first on.
-fn turn(n: usize, links: usize, back: bool) -> usize
-    requires { ⌜ n < links ⌝ }
-    ensures { λ r. ⌜ r < links ⌝ }
-{
-    if back {
-        return links - 1 - n;
-    }
-    n
-}
-
 // Where no figure link goes the atoms keep what is joined to the words of all of them.
 fn unused_cut(
     words: &mut [u16; Sheet::ATOMS],
@@ -131,7 +117,7 @@ fn unused_cut(
     cut(words, chains, y, word);
 }
 
-// The same for all sheet links.
+// The same for all sheet links, once: further rounds were no gain.
 fn round(
     words: &mut [u16; Sheet::ATOMS],
     chains: &[u16; CHAINS],
@@ -139,29 +125,15 @@ fn round(
     table: &[u16; WORDS],
     used: &[u8; Sheet::LINKS],
     links: usize,
-    back: bool,
 )
     requires { ⌜ (links ≤ sheetLinks) × (length (now words) ≡ sheetAtoms) × Falls nodeCount (now chains) ⌝ }
     ensures { λ _. ⌜ (length (now (words .exit)) ≡ sheetAtoms) × ((S : Net) (n : ℕ) → Chained S n (now (chains .entry)) → (digits : ℕ → ℕ) → Together S (now (taken .entry)) digits (now (table .entry)) (now (used .entry)) → Allows S (now (taken .entry)) digits (now (words .entry)) → Allows S (now (taken .entry)) digits (now (words .exit))) ⌝ }
 {
-    let mut n = 0;
-    while n < links {
-        let y = turn(n, links, back);
+    let mut y = 0;
+    while y < links {
         unused_cut(words, chains, taken, table, used, y);
-        n += 1;
+        y += 1;
     }
-}
-
-// Two tables of words are the same.
-fn same(a: &[u16; Sheet::ATOMS], b: &[u16; Sheet::ATOMS]) -> bool {
-    let mut j = 0;
-    while j < Sheet::ATOMS {
-        if a[j] != b[j] {
-            return false;
-        }
-        j += 1;
-    }
-    true
 }
 
 // No completion is left.
@@ -186,14 +158,6 @@ pub fn refused(
     let used = used_links(count, to, none);
     let mut table = [0u16; WORDS];
     closures(&mut table, standing, flags, to, count);
-    let mut n = 0;
-    while n < ROUNDS {
-        let before = words;
-        round(&mut words, chains, taken, &table, &used, links, n % 2 == 1);
-        if same(&before, &words) {
-            return some_empty(&words, taken, atoms);
-        }
-        n += 1;
-    }
+    round(&mut words, chains, taken, &table, &used, links);
     some_empty(&words, taken, atoms)
 }

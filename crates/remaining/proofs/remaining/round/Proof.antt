@@ -12,28 +12,25 @@ use Rattle.remaining.proofs.remaining.round.Statement.{statement}
 use Rattle.remaining.proofs.remaining.round.Tie as tie
 
 abbrev Inv-loop : tie.InvT-loop
-Inv-loop words₀ chains taken table used links back n₀ words n = (n ≤ links) × (length words ≡ sheetAtoms) × ((S : Net) (m : ℕ) → Chained S m chains → (digits : ℕ → ℕ) → Together S taken digits table used → Allows S taken digits words₀ → Allows S taken digits words)
+Inv-loop words₀ chains taken table used links y₀ words y = (y ≤ links) × (length words ≡ sheetAtoms) × ((S : Net) (n : ℕ) → Chained S n chains → (digits : ℕ → ℕ) → Together S taken digits table used → Allows S taken digits words₀ → Allows S taken digits words)
 
 abbrev μ-loop : tie.MeasureT-loop
-μ-loop words₀ chains taken table used links back n₀ words n = links - n
+μ-loop words₀ chains taken table used links y₀ words y = links - y
 
 loop-holds : tie.Need-loop-holds Inv-loop μ-loop
-loop-holds c = (omega arith, c .pre .1, λ S m k digits g a. a)
-
-turn-requires : tie.Need-turn-requires Inv-loop μ-loop
-turn-requires c κs = c .loop-test .taken
+loop-holds c = (omega arith, c .pre .1, λ S n k digits g a. a)
 
 unused-cut-requires : tie.Need-unused-cut-requires Inv-loop μ-loop
-unused-cut-requires c κs = (omega (arith, c .before .turn .ensures, c .before .before .before .before .pre .0), c .before .before .before .loop .inv .1, c .before .before .before .before .pre .2)
+unused-cut-requires c κs = (omega (arith, c .before .loop-test .taken, c .before .before .before .pre .0), c .before .before .loop .inv .1, c .before .before .before .pre .2)
 
-add-n : tie.Need-add-n Inv-loop μ-loop
-add-n c = search needs
+add-y : tie.Need-add-y Inv-loop μ-loop
+add-y c = search needs
 
 loop-less : tie.Need-loop-less Inv-loop μ-loop
 loop-less c = search needs
 
 loop-again : tie.Need-loop-again Inv-loop μ-loop
-loop-again c = (omega (arith, c .before .before .before .loop-test .taken), c .unused-cut .ensures .0, λ S m k digits g a. c .unused-cut .ensures .1 S m k digits g (c .before .before .before .before .loop .inv .2 S m k digits g a))
+loop-again c = (omega (arith, c .before .before .loop-test .taken), c .unused-cut .ensures .0, λ S n k digits g a. c .unused-cut .ensures .1 S n k digits g (c .before .before .before .loop .inv .2 S n k digits g a))
 
 returns : tie.Need-returns Inv-loop μ-loop
 returns c = (c .before .loop .inv .1, c .before .loop .inv .2)
@@ -41,13 +38,4 @@ returns c = (c .before .loop .inv .1, c .before .loop .inv .2)
 pub round-spec : {M : Type 1} → statement M
 round-spec =
     tie.close
-    (tie.spec
-    Inv-loop
-    μ-loop
-    loop-holds
-    turn-requires
-    unused-cut-requires
-    add-n
-    loop-less
-    loop-again
-    returns)
+    (tie.spec Inv-loop μ-loop loop-holds unused-cut-requires add-y loop-less loop-again returns)
