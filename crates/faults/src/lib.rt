@@ -2,4 +2,4 @@
 pub mod fault;
 mod growth;
 pub mod nets;
-mod part;
+pub mod part;

@@ -18,7 +18,7 @@ fn wide(x: u16) -> usize {
 }
 
 // Link z, from 1, is a link of atom j.
-fn stands(laid: &[u16; LAID], atoms: usize, j: usize, z: usize) -> bool
+pub fn stands(laid: &[u16; LAID], atoms: usize, j: usize, z: usize) -> bool
     requires { ⌜ Rowed (now laid) atoms ⌝ }
     ensures { λ r. ⌜ (r ≡ true → (j < atoms) × StandsOn (now (laid .entry)) atoms j z) ⌝ }
 {

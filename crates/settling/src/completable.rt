@@ -1,5 +1,6 @@
 // Whether the unsettled links can be placed so that nothing stands in the way. Only those on several context rows
 // are tried, which have a flag; what failed once is barred, and not tried again.
+use crate::neighbours::bar_along;
 use crate::obstacle::obstacle;
 use candidates::LAID;
 use candidates::LINK_SETS;
@@ -101,7 +102,7 @@ fn mendable(
     false
 }
 
-// The same with link x at y. Where that fails it is barred.
+// The same with link x at y. Where that fails it is barred, there and along the plain ways from y.
 pub(crate) fn tried_at(
     nets: Nets,
     laid: &[u16; LAID],
@@ -139,5 +140,6 @@ pub(crate) fn tried_at(
         return true;
     }
     bar(bars, kinds, nets.count, x, y);
+    bar_along(nets, laid, chains, taken, kinds, standing, to, x, y, bars);
     false
 }

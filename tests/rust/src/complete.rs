@@ -78,8 +78,21 @@ impl<'a> Completing<'a> {
             }
             self.ends.undo(before);
         }
-        self.open.bar(kind, s);
+        self.bar(kind, s);
         None
+    }
+
+    /// Bars a kind at `s`, and at the links along plain ways from there.
+    fn bar(&mut self, kind: u8, s: usize) {
+        let mut pending: Links = 1 << s;
+        while pending != 0 {
+            let y = pending.trailing_zeros() as usize;
+            pending &= pending - 1;
+            if !self.open.is_barred(kind, y) {
+                self.open.bar(kind, y);
+                pending |= self.ends.plain_beside(y);
+            }
+        }
     }
 
     /// Where the open links go in the least good placing, in their order; all was found possible before.

@@ -101,6 +101,23 @@ impl<'a> Ends<'a> {
         self.sets.alone >> s & 1 == 1 || self.linked[s].iter().any(crosses)
     }
 
+    /// Sheet links where no figure link goes and whose open links might as well go to `s`: an other atom has both, and
+    /// nothing else but links of its own, and one more atom is there, which could take it along.
+    pub fn plain_beside(&self, s: usize) -> Links {
+        let mut found: Links = 0;
+        for x in atoms_in(self.others_on(s)) {
+            let further = self.sheet.links_of[x] & !(1 << s);
+            for z in links_in(further & !self.sets.held) {
+                let rest = further & !(1 << z);
+                let own = rest & self.sets.held == 0 && links_in(rest).all(|w| self.sheet.atoms_on[w] == 1 << x);
+                if own && self.sheet.atoms_on[z].count_ones() == 2 {
+                    found |= 1 << z;
+                }
+            }
+        }
+        found
+    }
+
     /// The atoms joined with `first` by links where no figure link goes,
     /// and the contexts with a port at each of their links where one goes.
     fn component(&self, first: usize) -> (Atoms, u8) {
