@@ -1,10 +1,9 @@
 -- On a plain way an open link may as well go to the neighbour of a sheet link.
-use Prim.Native.Nat.{ℕ, suc, _≤_}
+use Prim.Native.Nat.{ℕ}
 use mathlib.Core.Path.{_≡_, refl, sym, _∙_, ap, subst}
 use mathlib.Core.Logic.{_⊎_, inl, inr, _≢_}
 use mathlib.Core.List.{List, Memᴰ·cast}
 use native.Mathlib.Decide.{ℕ-discrete}
-use native.Mathlib.Omega.{arith}
 use lib.ListN.{length}
 use Rattle.hyperlmntal.specs.Link.{_∈_}
 use Rattle.hyperlmntal.proofs.Lists.{map-agree}
@@ -18,7 +17,7 @@ use Rattle.completing.specs.Neighbours.{PlainStep, OneEach}
 use Rattle.completing.proofs.Decide.{member-dec}
 use Rattle.completing.proofs.Kept.{taken-same, unused-unmarked}
 use Rattle.completing.proofs.Put.{completion-put, put-completion, put-there}
-use Rattle.completing.proofs.Shifted.{Further, Stays, Moved, over, away, still, from-z, stays-there, Came, came, Shifted, shift}
+use Rattle.completing.proofs.Shifted.{Further, Stays, Moved, over, away, still, from-z, stays-there, Came, came, moved-range, Shifted, shift}
 
 -- A completion p with figure link x at z, and its links and contexts shifted.
 module _ (S F : Net) (NS : Normal S) (NF : Normal F) (one : OneEach F) (q : Placing) (un : List ℕ) (a : Partial S F q un)
@@ -183,21 +182,18 @@ module _ (S F : Net) (NS : Normal S) (NF : Normal F) (one : OneEach F) (q : Plac
 
   -- at z, both atoms have the context of u
   own-z : (j : ℕ) → Range (length (S .atoms)) j → Touches S j z → Inside S F after (givenTo after j) z
-  own-z j r m = empty (givenTo after j) z (x-at .sheet-link) (λ e. way .differ (sym e)) (λ s. s .0 refl) (λ j′ r′ m′. (other j′ r′ m′, of-u j′ r′ m′ ∙ sym (of-u j r m)))
+  own-z j r m = empty (givenTo after j) z (x-at .sheet-link) (λ e. way .differ (sym e)) (λ s. s .0 refl)
+      (λ i h k. let o = of-u i h k in (o .0, o .1 ∙ sym (of-u j r m .1)))
     where
-      other : (i : ℕ) → Range (length (S .atoms)) i → Touches S i z → ¬ Taken S F after i
-      other i s k h = go (way .only i s k)
-        where
-          go : (i ≡ t) ⊎ (i ≡ u) → ⊥
-          go (inl e) = free t (way .step-other) (to-p t (subst (Taken S F after) e h))
-          go (inr e) = free u (way .next-other) (to-p u (subst (Taken S F after) e h))
+      OfU : ℕ → Type 0
+      OfU i = (¬ Taken S F after i) × (givenTo after i ≡ givenTo p u)
 
-      of-u : (i : ℕ) → Range (length (S .atoms)) i → Touches S i z → givenTo after i ≡ givenTo p u
-      of-u i s k = go (way .only i s k)
+      of-u : (i : ℕ) → Range (length (S .atoms)) i → Touches S i z → OfU i
+      of-u i h k = go (way .only i h k)
         where
-          go : (i ≡ t) ⊎ (i ≡ u) → givenTo after i ≡ givenTo p u
-          go (inl e) = ap (givenTo after) e ∙ shifted .given-t
-          go (inr e) = ap (givenTo after) e ∙ given-u
+          go : (i ≡ t) ⊎ (i ≡ u) → OfU i
+          go (inl e) = subst OfU (sym e) ((λ s. free t (way .step-other) (to-p t s)), shifted .given-t)
+          go (inr e) = subst OfU (sym e) ((λ s. free u (way .next-other) (to-p u s)), given-u)
 
   -- t is alone at its further links
   own-further : (j b : ℕ) → Range (length (S .atoms)) j → Touches S j b → Further S t y z b → Inside S F after (givenTo after j) b
@@ -251,14 +247,6 @@ module _ (S F : Net) (NS : Normal S) (NF : Normal F) (one : OneEach F) (q : Plac
       go (no h) (no k) (yes f) = inr (own-further j b r m (f, (h, k)))
       go (no h) (no k) (no f) = own-elsewhere j b r n m f
 
-  to-links : (v : ℕ) → Range (F .links) v → Range (suc (S .links)) (linkTo after v)
-  to-links v r = go (shifted .to v r)
-    where
-      go : Moved S t y z (linkTo p v) (linkTo after v) → Range (suc (S .links)) (linkTo after v)
-      go (over h d) = let k = place-link S NS t y (way .step-other .0) (way .from) in (omega (arith, k .0), omega (arith, k .1))
-      go (away f d) = (omega arith, omega arith)
-      go (still s d) = subst (Range (suc (S .links))) (sym d) (g .sending .to-links v r)
-
   after-good : Good S F after
   after-good = record {
     sending = record {
@@ -266,7 +254,7 @@ module _ (S F : Net) (NS : Normal S) (NF : Normal F) (one : OneEach F) (q : Plac
       to-atoms = g .sending .to-atoms;
       different = g .sending .different;
       links-sent = shifted .links-sent;
-      to-links = to-links;
+      to-links = λ v r. moved-range S t y z (place-link S NS t y (way .step-other .0) (way .from)) (shifted .to v r) (g .sending .to-links v r);
       atoms-given = shifted .atoms-given;
       not-given = λ j r k. shifted .given-other j r (λ e. free t (way .step-other) (subst (Taken S F p) e (to-p j k))) ∙ g .sending .not-given j r (to-p j k);
       to-contexts = contexts-given;

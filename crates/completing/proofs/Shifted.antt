@@ -49,7 +49,11 @@ module _ (S : Net) (t y z : ℕ) where
   came (away f e) c l k = absurd (omega arith)
   came (still s e) c l k = let h = sym e ∙ k in inr (subst Stays h s, h)
 
-  -- Where what went to b goes is computed,
+  pub moved-range : {b d : ℕ} → Range (S .links) y → Moved b d → Range (suc (S .links)) b → Range (suc (S .links)) d
+  moved-range r (over h e) k = (omega (arith, r .0), omega (arith, r .1))
+  moved-range r (away f e) k = (omega arith, omega arith)
+  moved-range r (still s e) k = subst (Range (suc (S .links))) (sym e) k
+
   further-dec : (b : ℕ) → Dec (Further b)
   further-dec b = dec-and (member-dec b ((cellAt (S .atoms) t) .1)) (dec-and (dec-not (ℕ-discrete b y)) (dec-not (ℕ-discrete b z)))
 
@@ -69,7 +73,6 @@ pub record Shifted (S F : Net) (p : Placing) (t u y z : ℕ) (links given : List
   pub given-t : numberAt given t ≡ givenTo p u
   pub given-other : (j : ℕ) → Range (length (S .atoms)) j → j ≢ t → numberAt given j ≡ givenTo p j
 
--- and so there is such a shift.
 pub shift : (S F : Net) (p : Placing) (t u y z : ℕ) → Range (length (S .atoms)) t → length (p .given) ≡ length (S .atoms)
     → (links : List ℕ) × (given : List ℕ) × Shifted S F p t u y z links given
 shift S F p t u y z r e = (
