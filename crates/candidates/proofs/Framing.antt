@@ -5,16 +5,15 @@ use mathlib.Core.List.{List, []}
 use native.Mathlib.Omega.{arith}
 use lib.ListN.{length, take, getD, length-map}
 use lib.Seq.{length-take-le, getD-take, ext-getD}
-use Rattle.hyperlmntal.specs.Link.{_∈_}
 use Rattle.rows.specs.Limits.{atomRoom, contextRoom}
 use Rattle.rows.specs.declared.Atom.{Atom}
 use Rattle.rows.specs.declared.Context.{Context}
 use Rattle.rows.specs.declared.Sheet.{Sheet as NormalForm}
 use Rattle.rows.proofs.Lists.{getD-mapped}
 use Rattle.reading.proofs.normal.Merging.{getD-in}
-use Rattle.placing.specs.Net.{NetCell, Net, Range, Normal}
+use Rattle.placing.specs.Net.{Range, Normal}
 use Rattle.placing.specs.Smallest.{smallest}
-use Rattle.network.specs.NetIn.{netIn, atomAt, contextAt, Fit, Used, Numbered}
+use Rattle.network.specs.NetIn.{netIn, atomAt, Fit, Used, Numbered}
 use Rattle.network.proofs.SamePorts.{SamePorts, withContexts, normal-with, smallest-with}
 use Rattle.candidates.specs.Laid.{laidAtom, LaidOut}
 use Rattle.candidates.specs.Words.{pairDigits}

@@ -2,7 +2,6 @@
 use crate::ports::PortSet;
 use crate::ports::port_sets;
 use rows::Sheet;
-ghost use mathlib.Core.Path.{_≡_};
 ghost use Rattle.network.specs.NetIn.{Fit};
 ghost use Rattle.candidates.specs.Frames.{FrameOf};
 

@@ -9,8 +9,8 @@ use lib.ListN.{length, take, getD, set, replicate}
 use lib.Seq.{getD-take, getD-set-same, length-take-le}
 use Rattle.rows.specs.Limits.{sheetLinks}
 use Rattle.rows.specs.declared.Sheet as form
-use Rattle.placing.specs.Net.{NetCell, Net, Range}
-use Rattle.placing.specs.Placing.{Placing, numberAt, cellAt}
+use Rattle.placing.specs.Net.{Net, Range}
+use Rattle.placing.specs.Placing.{Placing, numberAt}
 use Rattle.network.specs.NetIn.{netIn}
 use Rattle.network.specs.Ready.{Ready, TakenIn, stateIn}
 use Rattle.network.proofs.NetIn.{atoms-length, contexts-length}

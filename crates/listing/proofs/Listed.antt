@@ -25,7 +25,7 @@ use Rattle.placing.proofs.Standing.{context-link}
 use Rattle.network.specs.NetIn.{netIn, contextIn, contextAt, Used}
 use Rattle.network.specs.Ready.{Ready, LinksIn}
 use Rattle.network.proofs.NetIn.{contexts-length, used-length}
-use Rattle.listing.specs.Writing.{Columns, fillingsText, standsAt, fillingBytes, listBytes}
+use Rattle.listing.specs.Writing.{Narrow, Columns, fillingsText, standsAt, fillingBytes, listBytes}
 use Rattle.listing.proofs.Given.{list-bytes}
 use Rattle.listing.proofs.Texts.{list-append}
 use Rattle.listing.proofs.Ranks.{by-number-length, context-at}
@@ -88,10 +88,10 @@ module _ (sheet figure : form.Sheet) (ready : Ready sheet figure) (linksTo given
       ∙ sym (list-bytes sheet figure (ready .sheet-fit) atoms linksTo given room ordered (λ c m x k. context-link (netIn figure) (ready .figure-normal) c x (by-number-out (netIn figure .contexts) c m) k))
 
 -- Where the ports of a context stand.
-module _ (sheet figure : form.Sheet) (ready : Ready sheet figure) (columns : Columns sheet figure) (linksTo : List ℕ) (to : LinksIn sheet figure linksTo) (j : ℕ) (h : j < figure .«context_count») where
+module _ (sheet figure : form.Sheet) (ready : Ready sheet figure) (narrow : Narrow figure) (linksTo : List ℕ) (to : LinksIn sheet figure linksTo) (j : ℕ) (h : j < figure .«context_count») where
   pub links-used : Used sheetLinks (contextAt figure j .count) (contextAt figure j .links)
   links-used =
-      let u = columns .ports j h in
+      let u = narrow j h in
       record { few = u .few; width = u .width; numbered = λ k q. let r = u .numbered k q in (r .0, omega (arith, r .1, ready .figure-fit .class-count)) }
 
   pub stands-low : (k : ℕ) → k < contextAt figure j .count → standsAt (sheet .«class_count») linksTo (getD (contextAt figure j .links) k 0) < numberRoom

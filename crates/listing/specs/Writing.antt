@@ -18,12 +18,15 @@ use Rattle.placing.specs.Fillings.{normalFillingsOf}
 use Rattle.placing.specs.ListText.{listText}
 use Rattle.network.specs.NetIn.{netIn, atomIn, contextIn, atomAt, contextAt, Used}
 
--- A name has three digits at most, the number of a context four, and a context no more links than a row, so that they fit the
--- columns of a row.
+-- no context has more links than a row
+abbrev pub Narrow : form.Sheet → Type 0
+Narrow figure = (i : ℕ) → i < figure .«context_count» → Used (figure .«class_count») (contextAt figure i .count) (contextAt figure i .links)
+
+-- a name has three digits at most and the number of a context four, so that they and its links fit the columns of a row
 pub record Columns (sheet figure : form.Sheet) : Type 0 where
   pub names : (i : ℕ) → i < sheet .«atom_count» → atomAt sheet i .name ≤ mostName
   pub numbers : (i : ℕ) → i < figure .«context_count» → contextAt figure i .number ≤ mostNumber
-  pub ports : (i : ℕ) → i < figure .«context_count» → Used (figure .«class_count») (contextAt figure i .count) (contextAt figure i .links)
+  pub ports : Narrow figure
 
 -- the placing whose links and contexts stand in arrays; where atoms go plays no part in its fillings
 abbrev pub placingIn : form.Sheet → form.Sheet → List ℕ → List ℕ → List ℕ → Placing

@@ -10,7 +10,6 @@ use lib.Seq.{length-take-le}
 use Rattle.rows.specs.Pick.{pick}
 use Rattle.rows.specs.Limits.{sheetAtoms, sheetLinks}
 use Rattle.rows.specs.declared.Sheet as form
-use Rattle.placing.specs.Net.{Net}
 use Rattle.placing.specs.Placing.{Placing}
 use Rattle.placing.specs.Smallest.{placingFrom, placingIn, smallest}
 use Rattle.placing.proofs.SmallestLaws.{placing-of-list}

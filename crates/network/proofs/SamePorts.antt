@@ -5,9 +5,8 @@ use mathlib.Core.Path.{_≡_, refl, sym, _∙_}
 use mathlib.Core.Logic.{_⊎_, inl, inr, ⊎-elim}
 use mathlib.Core.List.{List, _++_, List·Memᴰ·append-cases, Memᴰ·append-left, Memᴰ·append-right}
 use mathlib.Core.Option.{Option, none, some}
-use lib.ListN.{length}
 use Rattle.hyperlmntal.specs.Link.{_∈_}
-use Rattle.placing.specs.Net.{NetCell, Net, Range, cellLinks, markLinks, standing, Normal}
+use Rattle.placing.specs.Net.{NetCell, Net, cellLinks, markLinks, standing, Normal}
 use Rattle.placing.specs.Placing.{Placing, givenTo, Taken, At, Linked, here, step, PortAt, Inside, Good}
 use Rattle.placing.specs.Smallest.{smallest}
 use Rattle.placing.proofs.Standing.{in-cells, of-cells}

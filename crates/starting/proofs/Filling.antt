@@ -1,16 +1,14 @@
 -- Sets stored one after another.
-use Prim.Native.Nat.{ℕ, _+_, _*_, _%_, _/_, _≤_, _<_}
+use Prim.Native.Nat.{ℕ, _+_, _*_, _≤_, _<_}
 use mathlib.Core.Path.{_≡_, sym, subst}
 use mathlib.Core.List.{List}
 use native.Mathlib.Decide.{ℕ-discrete}
 use native.Mathlib.Omega.{arith}
-use lib.ListN.{length, set, replicate}
+use lib.ListN.{length, set}
 use lib.Seq.{getD-set-same, getD-set-other}
 use Rattle.rows.specs.Limits.{sheetLinks}
-use Rattle.rows.proofs.Padding.{getD-filled}
-use Rattle.candidates.specs.Words.{wordDigits, In, InPair}
+use Rattle.candidates.specs.Words.{In, InPair}
 use Rattle.candidates.specs.Tables.{AtomIn, LinkIn}
-use Rattle.candidates.proofs.Digits.{none-in}
 use Rattle.candidates.proofs.Halves.{stored, pair-stored, stored-other}
 
 module _ (P : ℕ → ℕ → Type 0) (l : List ℕ) (i n : ℕ) where

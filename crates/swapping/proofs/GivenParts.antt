@@ -21,7 +21,7 @@ use Rattle.placing.specs.Net.{NetCell, Range, cellLinks}
 use Rattle.network.specs.NetIn.{netIn, contextIn, contextAt, Used, Fit}
 use Rattle.network.specs.Ready.{Ready, LinksIn}
 use Rattle.network.proofs.NetIn.{contexts-length, used-length}
-use Rattle.listing.specs.Writing.{numberIn, givenCells, standsAt, portLinks, appearing}
+use Rattle.listing.specs.Writing.{Narrow, numberIn, givenCells, standsAt, portLinks, appearing}
 use Rattle.listing.proofs.Atoms.{mapped-low}
 use Rattle.listing.proofs.Ranks.{context-at}
 use Rattle.listing.proofs.Filled.{ports-taken, port-low, agrees}
@@ -38,7 +38,7 @@ cells-agree f g (c ∷ l) h =
     ap₂ _∷_ (ap (λ (m : List ℕ). record { name = c .0; count = length (c .1); links = padded mostLinks 0 m }) (map-agree f g (c .1) (λ x m. h x (Memᴰ·append-left (cellLinks l) m))))
     (cells-agree f g l (λ x m. h x (Memᴰ·append-right (c .1) m)))
 
-module _ (sheet pattern : form.Sheet) (ready : Ready sheet pattern) (links given : List ℕ) (to : LinksIn sheet pattern links) (j : ℕ) (h : j < pattern .«context_count») where
+module _ (sheet pattern : form.Sheet) (ready : Ready sheet pattern) (narrow : Narrow pattern) (links given : List ℕ) (to : LinksIn sheet pattern links) (j : ℕ) (h : j < pattern .«context_count») where
   abbrev c : Context
   c = contextAt pattern j
 
@@ -52,10 +52,10 @@ module _ (sheet pattern : form.Sheet) (ready : Ready sheet pattern) (links given
   fit = ready .sheet-fit
 
   used : Used sheetLinks (c .count) (c .links)
-  used = links-used sheet pattern ready links to j h
+  used = links-used sheet pattern ready narrow links to j h
 
   low : (k : ℕ) → k < c .count → standsAt (sheet .«class_count») links (getD (c .links) k 0) < numberRoom
-  low = stands-low sheet pattern ready links to j h
+  low = stands-low sheet pattern ready narrow links to j h
 
   -- The blank is one of the pattern's.
   pub blank-in : contextIn c ∈ netIn pattern .contexts

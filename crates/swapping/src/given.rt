@@ -22,7 +22,7 @@ ghost use Rattle.numbering.specs.Numbering.{numbering, noNumbers, withClasses};
 ghost use Rattle.placing.specs.Net.{NetCell, cellLinks};
 ghost use Rattle.network.specs.NetIn.{netIn, rowAt, Fit};
 ghost use Rattle.network.specs.Ready.{Ready, LinksIn};
-ghost use Rattle.listing.specs.Writing.{numberIn, givenCells};
+ghost use Rattle.listing.specs.Writing.{Narrow, numberIn, givenCells};
 ghost use Rattle.filling.specs.Read.{listHeld};
 ghost use Rattle.filling.specs.Fill.{figureHeld, firstLacking, firstDiffering};
 ghost use Rattle.filling.specs.Filled.{FilledIs};
@@ -95,7 +95,7 @@ fn whole_given<'a>(
     labels: &mut [u16; PLACES],
 ) -> Whole
     requires { ⌜ ContextsRanged contexts count × (own .count ≤ atomRoom) × Own (now labels) ⌝ }
-    requires { ⌜ Ready sheet pattern × LinksIn sheet pattern (now «links_to») × (length (now given) ≡ sheetAtoms) × Covered pattern contexts count ⌝ }
+    requires { ⌜ Ready sheet pattern × LinksIn sheet pattern (now «links_to») × (length (now given) ≡ sheetAtoms) × Covered pattern contexts count × Narrow pattern ⌝ }
     ensures { λ r. ⌜ ((list : List ℕ) → ((c : NetCell) → c ∈ netIn pattern .contexts → GivenPart sheet (now («links_to» .entry)) (now (given .entry)) list c) → Puts list own (take count contexts) (now (labels .entry)) (now (labels .exit)) r) ⌝ }
 {
     let blanks = pattern.contexts;
@@ -136,7 +136,7 @@ pub(crate) fn swapped(
     links_to: [u16; Sheet::LINKS],
     given: [u16; Sheet::ATOMS],
 ) -> Sheet
-    requires { ⌜ Ready sheet pattern × LinksIn sheet pattern «links_to» × (length given ≡ sheetAtoms) × Covered pattern (replacement .contexts) (replacement .«context_count») ⌝ }
+    requires { ⌜ Ready sheet pattern × LinksIn sheet pattern «links_to» × (length given ≡ sheetAtoms) × Covered pattern (replacement .contexts) (replacement .«context_count») × Narrow pattern ⌝ }
     requires { ⌜ ((text : List ℕ) × (replacement ≡ packedNormal (figureHeld text))) ⌝ }
     requires { ⌜ ((list : List ℕ) × ((c : NetCell) → c ∈ netIn pattern .contexts → GivenPart sheet «links_to» given list c)) ⌝ }
     ensures { λ r. ⌜ ((list text : List ℕ) → ((c : NetCell) → c ∈ netIn pattern .contexts → GivenPart sheet «links_to» given list c) → replacement ≡ packedNormal (figureHeld text) → firstLacking (listHeld list .contexts) (figureHeld text .contexts) ≡ 0 → firstDiffering list (listHeld list .contexts) ≡ 0 → FilledIs text list r) ⌝ }

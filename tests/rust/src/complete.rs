@@ -1,16 +1,16 @@
 //! Completing: with all atoms placed, only links on contexts alone are open.
 
-use crate::ends::Ends;
-use crate::network::{atoms_in, links_in, Network, CONTEXTS};
-
-/// Open links that are left, counted by the set of contexts they are on: those on the same are interchangeable.
-type Left = [u8; 1 << CONTEXTS];
+use crate::ends::{Before, Ends};
+use crate::network::{atoms_in, links_in, Links, Network, CONTEXTS};
+use crate::open::{kinds_in, Open};
+use crate::remaining::contexts_remain;
+use crate::ways::enough_cross;
 
 pub struct Completing<'a> {
     sheet: &'a Network,
     figure: &'a Network,
     ends: Ends<'a>,
-    left: Left,
+    open: Open,
     /// Steps taken, for the search's idea of what a candidate costs.
     pub work: usize,
 }
@@ -21,15 +21,15 @@ impl<'a> Completing<'a> {
     pub fn new(figure: &'a Network, sheet: &'a Network, used: &[u8], goes: impl Fn(usize) -> usize) -> Option<Self> {
         let taken = used.iter().fold(0, |set, &x| set | 1 << x);
         let mut ends = Ends::new(sheet, sheet.all() & !taken, figure.all_contexts());
-        let mut left = [0; 1 << CONTEXTS];
+        let mut open = Open::new();
         for l in 0..figure.links {
             if figure.is_open(l) {
-                left[figure.rows[l] as usize] += 1;
+                open.add(figure.rows[l]);
             } else {
                 ends.put(goes(l), figure.rows[l])?;
             }
         }
-        Some(Completing { sheet, figure, ends, left, work: 0 })
+        Some(Completing { sheet, figure, ends, open, work: 0 })
     }
 
     /// Whether the open links that are left can be placed so that a good placing comes out.
@@ -39,52 +39,56 @@ impl<'a> Completing<'a> {
         if self.ends.sound() {
             return true;
         }
-        if self.left == [0; 1 << CONTEXTS] {
+        let kinds = self.open.kinds();
+        if kinds == 0 || !contexts_remain(&self.ends, &self.open) || !enough_cross(&self.ends, &self.open) {
             return false;
         }
         let fault = self.ends.fault();
-        for rows in 1..self.left.len() {
-            if self.left[rows] == 0 {
-                continue;
-            }
-            self.left[rows] -= 1;
-            let found = links_in(fault).any(|s| self.possible_with(s, rows as u8));
-            self.left[rows] += 1;
-            if found {
-                return true;
-            }
-        }
-        false
+        let known = self.open.pairs();
+        // a link on one context alone mends nothing: it may as well go to none
+        let found = kinds_in(kinds).any(|kind| kind.count_ones() > 1 && self.possible_at(fault, kind));
+        self.open.forget(known);
+        found
     }
 
-    fn possible_with(&mut self, s: usize, rows: u8) -> bool {
-        let Some(before) = self.ends.put(s, rows) else {
+    /// Whether an open link of this kind can go to one of these sheet links; those where it cannot are barred.
+    fn possible_at(&mut self, links: Links, kind: u8) -> bool {
+        self.open.take(kind);
+        let found = links_in(links).any(|s| self.possible_with(s, kind));
+        self.open.add(kind);
+        found
+    }
+
+    fn possible_with(&mut self, s: usize, kind: u8) -> bool {
+        let Some(before) = self.put(s, kind) else {
             return false;
         };
-        let found = self.possible();
         self.ends.undo(before);
-        found
+        true
+    }
+
+    /// Puts an open link at `s` if the others can be completed then, else bars its kind there.
+    fn put(&mut self, s: usize, kind: u8) -> Option<Before> {
+        if self.open.is_barred(kind, s) {
+            return None;
+        }
+        if let Some(before) = self.ends.put(s, kind) {
+            if self.possible() {
+                return Some(before);
+            }
+            self.ends.undo(before);
+        }
+        self.open.bar(kind, s);
+        None
     }
 
     /// Where the open links go in the least good placing, in their order; all was found possible before.
     pub fn settle(&mut self, links: &mut [Option<u8>]) {
         for l in (0..self.figure.links).filter(|&l| self.figure.is_open(l)) {
-            let rows = self.figure.rows[l];
-            self.left[rows as usize] -= 1;
-            links[l] = (0..self.sheet.links).find(|&s| self.keep(s, rows)).map(|s| s as u8);
+            let kind = self.figure.rows[l];
+            self.open.take(kind);
+            links[l] = (0..self.sheet.links).find(|&s| self.put(s, kind).is_some()).map(|s| s as u8);
         }
-    }
-
-    /// Puts an open link at `s` and leaves it there if the others can be completed.
-    fn keep(&mut self, s: usize, rows: u8) -> bool {
-        let Some(before) = self.ends.put(s, rows) else {
-            return false;
-        };
-        let good = self.possible();
-        if !good {
-            self.ends.undo(before);
-        }
-        good
     }
 
     /// Gives each component of the other atoms to the first context that can take it.

@@ -5,16 +5,35 @@ use crate::network::{atoms_in, links_in, Atoms, Links, Network, ATOMS, CONTEXTS,
 /// Figure links at sheet links. What matters of a figure link is the set of contexts that it is on:
 /// two of them at one sheet link are linked by steps exactly when shared contexts lead from one to the other.
 pub struct Ends<'a> {
-    sheet: &'a Network,
+    pub sheet: &'a Network,
     /// Sheet atoms to which no figure atom goes.
-    others: Atoms,
+    pub others: Atoms,
     /// All contexts of the figure.
-    contexts: u8,
+    pub contexts: u8,
     /// Contexts with a port at a sheet link.
-    here: [u8; LINKS],
+    pub here: [u8; LINKS],
     /// For a context with a port at a sheet link, the contexts linked with it there.
-    linked: [[u8; CONTEXTS]; LINKS],
+    pub linked: [Classes; LINKS],
     sets: Sets,
+}
+
+/// For each context those that are in one class with it.
+pub type Classes = [u8; CONTEXTS];
+
+/// Puts contexts and all that are in a class with one of them into one class, which is returned.
+pub fn join(classes: &mut Classes, contexts: u8) -> u8 {
+    let mut joined = contexts;
+    for c in 0..CONTEXTS {
+        if contexts >> c & 1 == 1 {
+            joined |= classes[c];
+        }
+    }
+    for c in 0..CONTEXTS {
+        if joined >> c & 1 == 1 {
+            classes[c] = joined;
+        }
+    }
+    joined
 }
 
 /// Sheet links where a figure link goes, where one on no context goes, and where not all are linked.
@@ -29,7 +48,7 @@ struct Sets {
 pub struct Before {
     link: usize,
     here: u8,
-    linked: [u8; CONTEXTS],
+    linked: Classes,
     sets: Sets,
 }
 
@@ -51,21 +70,10 @@ impl<'a> Ends<'a> {
             self.sets.alone |= bit;
             return Some(before);
         }
-        let linked = &mut self.linked[s];
-        let mut group = rows;
-        for c in 0..CONTEXTS {
-            if rows >> c & 1 == 1 {
-                group |= linked[c];
-            }
-        }
-        for c in 0..CONTEXTS {
-            if group >> c & 1 == 1 {
-                linked[c] = group;
-            }
-        }
+        let class = join(&mut self.linked[s], rows);
         self.here[s] |= rows;
         self.sets.split &= !bit;
-        if group != self.here[s] {
+        if class != self.here[s] {
             self.sets.split |= bit;
         }
         Some(before)
@@ -75,6 +83,22 @@ impl<'a> Ends<'a> {
         self.here[before.link] = before.here;
         self.linked[before.link] = before.linked;
         self.sets = before.sets;
+    }
+
+    /// Sheet links where figure links go.
+    pub fn held(&self) -> Links {
+        self.sets.held
+    }
+
+    /// Other atoms at a sheet link.
+    pub fn others_on(&self, s: usize) -> Atoms {
+        self.sheet.atoms_on[s] & self.others
+    }
+
+    /// Whether a figure link on contexts of `half` and on others goes to a sheet link, or one on none.
+    pub fn crossed(&self, s: usize, half: u8) -> bool {
+        let crosses = |&class: &u8| class & half != 0 && class & !half != 0;
+        self.sets.alone >> s & 1 == 1 || self.linked[s].iter().any(crosses)
     }
 
     /// The atoms joined with `first` by links where no figure link goes,

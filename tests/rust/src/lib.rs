@@ -12,12 +12,15 @@ pub mod generate;
 pub mod graph;
 pub mod narrow;
 pub mod network;
+pub mod open;
 pub mod placing;
 pub mod read;
+pub mod remaining;
 pub mod row;
 pub mod search;
 pub mod stored;
 pub mod symmetry;
 pub mod tasks;
+pub mod ways;
 
 pub use tasks::{claim, compare, fill, filling_of, normalise_figure, normalise_sheet, place, swap, Answer, Verdict};

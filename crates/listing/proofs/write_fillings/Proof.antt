@@ -48,11 +48,11 @@ put-filling-requires c κs = let t = c .before .before .before .before .context-
         search needs,
         s .pre .0 .2,
         s .pre .0 .4 .names,
-        links-used (a .sheet) (a .figure) (s .pre .0 .0) (s .pre .0 .4) (a .t3) (s .pre .0 .1) (t .result) (t .ensures .0),
+        links-used (a .sheet) (a .figure) (s .pre .0 .0) (s .pre .0 .4 .ports) (a .t3) (s .pre .0 .1) (t .result) (t .ensures .0),
         s .pre .0 .4 .numbers (t .result) (t .ensures .0),
       ),
       (
-        stands-low (a .sheet) (a .figure) (s .pre .0 .0) (s .pre .0 .4) (a .t3) (s .pre .0 .1) (t .result) (t .ensures .0),
+        stands-low (a .sheet) (a .figure) (s .pre .0 .0) (s .pre .0 .4 .ports) (a .t3) (s .pre .0 .1) (t .result) (t .ensures .0),
         omega (
           arith,
           l .inv .1,

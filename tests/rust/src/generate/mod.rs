@@ -1,12 +1,15 @@
 //! Seeded texts and cases for tests: random, damaged, as large as allowed, and such that belong together.
 
 pub mod damage;
+pub mod hard;
 pub mod limits;
 pub mod lines;
 pub mod matching;
+pub mod pattern;
 pub mod random;
 pub mod regular;
 pub mod rng;
+pub mod shapes;
 
 use crate::case::{Case, Task};
 use crate::read::Ports;

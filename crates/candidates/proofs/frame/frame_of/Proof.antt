@@ -1,6 +1,4 @@
-use borrow.Author.Needs.{needs}
 use mathlib.Core.Path.{refl}
-use native.Mathlib.Omega.{arith}
 use Rattle.candidates.proofs.PortRows.{wider}
 use Rattle.candidates.proofs.frame.frame_of.Statement.{statement}
 use Rattle.candidates.proofs.frame.frame_of.Tie as tie

@@ -1,12 +1,11 @@
 -- Invariant: no atom of the row has a link that is in the pair.
 use native.Mathlib.Omega.{arith}
-use Prim.Native.Nat.{ℕ, _+_, _*_, _%_, _<_}
+use Prim.Native.Nat.{ℕ, _+_, _*_, _<_}
 use mathlib.Core.Path.{subst}
 use mathlib.Core.Logic.{⊎-elim}
-use mathlib.Core.List.{[], _∷_}
 use lib.ListN.{getD}
 use Rattle.rows.specs.Limits.{sheetLinks}
-use Rattle.candidates.specs.Words.{wordDigits, In, InPair}
+use Rattle.candidates.specs.Words.{In, InPair}
 use Rattle.candidates.proofs.Digits.{none-in, in-and, alone-in, fewer-smaller}
 use Rattle.candidates.proofs.Halves.{in-pair, with-only, empty-pair}
 use borrow.Author.Needs.{needs}

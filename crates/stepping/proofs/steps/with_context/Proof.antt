@@ -1,15 +1,14 @@
 -- Invariant: the links of the set that are not left are tied to all of it, and labels stay bounded.
 use borrow.Author.Needs.{needs}
-use Prim.Native.Nat.{ℕ, _<_}
 use mathlib.Core.Path.{_≡_, sym, _∙_}
 use native.Mathlib.Omega.{arith}
 use borrow.Author.Tests.{not-true, not-false}
 use lib.ListN.{length}
 use Rattle.rows.specs.Limits.{sheetLinks}
-use Rattle.candidates.specs.Words.{pairDigits, InPair, PartOf, pairSize}
+use Rattle.candidates.specs.Words.{PartOf, pairSize}
 use Rattle.candidates.proofs.Halves.{without-smaller}
 use Rattle.candidates.proofs.Members.{Seen, part-self, part-less, seen-none, seen-all}
-use Rattle.stepping.specs.Labels.{Bounded, Grew, Tied}
+use Rattle.stepping.specs.Labels.{Bounded, Grew}
 use Rattle.stepping.proofs.Labels.{AllWith, grew-same, grew-then, context-step}
 use Rattle.stepping.proofs.steps.with_context.Statement.{statement}
 use Rattle.stepping.proofs.steps.with_context.Tie as tie

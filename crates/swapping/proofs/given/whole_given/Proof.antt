@@ -70,7 +70,7 @@ ports-of-requires c κs = let x = c .before .before in
     let j = x .context-numbered .result in
     let h = x .context-numbered .ensures .0 in
     let q = s .pre .1 .3 .ports i j (t .loop-test .taken) h (x .context-numbered .ensures .1) in
-    (ready .sheet-fit .class-count, s .pre .1 .1 .room, s .pre .0 .0 .counted .count i, ends-range (a .sheet) (a .pattern) ready (a .links-to .now) (a .given .now) (s .pre .1 .1) j h (x′ .number) (x′ .count) (x .context-numbered .ensures .1) q)
+    (ready .sheet-fit .class-count, s .pre .1 .1 .room, s .pre .0 .0 .counted .count i, ends-range (a .sheet) (a .pattern) ready (s .pre .1 .4) (a .links-to .now) (a .given .now) (s .pre .1 .1) j h (x′ .number) (x′ .count) (x .context-numbered .ensures .1) q)
 
 add-with-given : tie.Need-add-with-given Inv-loop μ-loop
 add-with-given c = let t = c .before .before .before .before .before .before .before in
@@ -95,8 +95,8 @@ numbers-of-requires c κs = let g = c .before .before in
     let h = x .context-numbered .ensures .0 in
     let q = s .pre .1 .3 .ports i j (t .loop-test .taken) h (x .context-numbered .ensures .1) in (
       s .pre .0 .0 .counted .count i,
-      omega (arith, begun-few (a .sheet) (a .pattern) ready (a .links-to .now) (a .given .now) (s .pre .1 .1) j h (x′ .number) (x′ .count) (x .context-numbered .ensures .1) q (o .ports-of .result) (o .ports-of .ensures) (numbering (g .with-given .last .1 .1 .0) (g .with-given .last .1 .1 .1 .0)) (g .with-given .ensures .0), s .pre .0 .0 .counted .count i),
-      ports-low (a .sheet) (a .pattern) ready (a .links-to .now) (a .given .now) (s .pre .1 .1) j h (x′ .number) (x′ .count) (x .context-numbered .ensures .1) q (o .ports-of .result) (o .ports-of .ensures),
+      omega (arith, begun-few (a .sheet) (a .pattern) ready (s .pre .1 .4) (a .links-to .now) (a .given .now) (s .pre .1 .1) j h (x′ .number) (x′ .count) (x .context-numbered .ensures .1) q (o .ports-of .result) (o .ports-of .ensures) (numbering (g .with-given .last .1 .1 .0) (g .with-given .last .1 .1 .1 .0)) (g .with-given .ensures .0), s .pre .0 .0 .counted .count i),
+      ports-low (a .sheet) (a .pattern) ready (s .pre .1 .4) (a .links-to .now) (a .given .now) (s .pre .1 .1) j h (x′ .number) (x′ .count) (x .context-numbered .ensures .1) q (o .ports-of .result) (o .ports-of .ensures),
     )
 
 add-with-ports : tie.Need-add-with-ports Inv-loop μ-loop
@@ -124,7 +124,7 @@ with-ports-requires c κs = let m = c .before .before in
     let from = numbering (g .with-given .last .1 .1 .0) (g .with-given .last .1 .1 .1 .0) in
     let after = numbering (m .numbers-of .last .0) (m .numbers-of .last .1 .0) in
     let size : length (m .numbers-of .result) ≡ mostLinks = search (needs, m .numbers-of .ok) in
-    let low = marked-low (a .sheet) (a .pattern) ready (a .links-to .now) (a .given .now) (s .pre .1 .1) j h (x′ .number) (x′ .count) (x .context-numbered .ensures .1) q (o .ports-of .result) (o .ports-of .ensures) from (g .with-given .ensures .0) after (m .numbers-of .ensures .0) (m .numbers-of .result) (m .numbers-of .ensures .1) in (
+    let low = marked-low (a .sheet) (a .pattern) ready (s .pre .1 .4) (a .links-to .now) (a .given .now) (s .pre .1 .1) j h (x′ .number) (x′ .count) (x .context-numbered .ensures .1) q (o .ports-of .result) (o .ports-of .ensures) from (g .with-given .ensures .0) after (m .numbers-of .ensures .0) (m .numbers-of .result) (m .numbers-of .ensures .1) in (
       (omega (arith, s .pre .0 .0 .counted .few, t .loop-test .taken), s .pre .0 .0 .counted .count i, fresh-more (l .loop .labels) ((i + 1) * partRoom) ((i + 1 + 1) * partRoom) (omega arith) (omega (arith, s .pre .0 .0 .counted .few, t .loop-test .taken)) (l .loop .inv .2), omega arith, omega (arith, s .pre .0 .0 .counted .count i, size)),
       λ k. (s .pre .0 .0 .links i k, low k),
     )
@@ -161,13 +161,13 @@ loop-again c = let m = c .before .before .before in
       l .loop .inv .1,
       c .with-ports .ensures .1,
       g .with-given .ensures .1 (take (x′ .count) (o .ports-of .result)) .few,
-      λ list parts. let part = parts _ (blank-in (a .sheet) (a .pattern) ready (a .links-to .now) (a .given .now) (s .pre .1 .1) j h) in
+      λ list parts. let part = parts _ (blank-in (a .sheet) (a .pattern) ready (s .pre .1 .4) (a .links-to .now) (a .given .now) (s .pre .1 .1) j h) in
           let pairs = allPairs list (i + 1 + 1) left in
           let rest = contextAtoms list (i + 1 + 1) left in
           let P = partAtoms (i + 1) (partNormal list (x′ .number)) in
           let e = l .loop .inv .4 list parts in
-          let marked = marked-part (a .sheet) (a .pattern) ready (a .links-to .now) (a .given .now) (s .pre .1 .1) j h (x′ .number) (x′ .count) z q (o .ports-of .result) (o .ports-of .ensures) from (g .with-given .ensures .0) after (m .numbers-of .ensures .0) (m .numbers-of .result) (m .numbers-of .ensures .1) list part in
-          let atoms = atoms-part (a .sheet) (a .pattern) ready (a .links-to .now) (a .given .now) (s .pre .1 .1) j h (x′ .number) (x′ .count) z q (o .ports-of .result) (o .ports-of .ensures) from (g .with-given .ensures .0) after (m .numbers-of .ensures .0) (m .numbers-of .result) (m .numbers-of .ensures .1) list part (i + 1) in
+          let marked = marked-part (a .sheet) (a .pattern) ready (s .pre .1 .4) (a .links-to .now) (a .given .now) (s .pre .1 .1) j h (x′ .number) (x′ .count) z q (o .ports-of .result) (o .ports-of .ensures) from (g .with-given .ensures .0) after (m .numbers-of .ensures .0) (m .numbers-of .result) (m .numbers-of .ensures .1) list part in
+          let atoms = atoms-part (a .sheet) (a .pattern) ready (s .pre .1 .4) (a .links-to .now) (a .given .now) (s .pre .1 .1) j h (x′ .number) (x′ .count) z q (o .ports-of .result) (o .ports-of .ensures) from (g .with-given .ensures .0) after (m .numbers-of .ensures .0) (m .numbers-of .result) (m .numbers-of .ensures .1) list part (i + 1) in
           let more : wholeAtoms (g .with-given .result) ≡ roomFor (W ++ P) = g .with-given .ensures .1 (take (x′ .count) (o .ports-of .result)) .atoms ∙ ap (λ (k : List Atom). roomFor (W ++ k)) atoms in (
             ap (λ (k : List ℕ). joinedAll k pairs) (c .with-ports .ensures .0 ∙ ap (λ (k : List ℕ). joinedAll (l .loop .labels) (portPairs (i + 1) (take (x′ .count) (x′ .links)) k)) marked)
                 ∙ sym (pairs-next list (a .t2) (a .count) i pastContexts (l .loop .labels) (i + 1) many (t .loop-test .taken)) ∙ e .0,

@@ -9,7 +9,7 @@ use lib.ListN.{length}
 use Rattle.rows.specs.Limits.{sheetAtoms}
 use Rattle.answers.specs.Done.{slipAfter}
 use Rattle.answers.specs.declared.outcome.Done.the-variants.{Written}
-use Rattle.finding.proofs.PlaceCode.{inputs-ready, found-links}
+use Rattle.finding.proofs.PlaceCode.{inputs-ready, inputs-columns, found-links}
 use Rattle.swapping.specs.Inputs.{SwapInputs}
 use Rattle.swapping.specs.FilledFrom.{PlacingSwaps}
 use Rattle.swapping.proofs.ReplacementBlanks.{replacement-blanks}
@@ -75,6 +75,7 @@ swapped-requires c κs =
         found-links (a .sheet) (a .t2) (i .0) (i .1 .0) (I .placed) (f .smallest-placing .result) (f .smallest-placing .ensures) (not-false _ (g .if2 .left)) (search (needs, f .smallest-placing .ok .1 .1)),
         room g,
         replacement-blanks (a .sheet) (a .t2) (a .t3) (i .0) (i .1 .0) (i .1 .1 .0) I,
+        inputs-columns (a .sheet) (a .t2) (i .0) (i .1 .0) (I .placed) .ports,
       ),
       ((i .1 .1 .0, l .fills .of-figure), (l .list, l .parts)),
     )
