@@ -10,6 +10,9 @@ pub mod Put
 pub mod Interchange
 -- Links that need not be tried.
 pub mod OneRow
+-- Sheet links that need not be tried.
+pub mod Shifted
+pub mod Neighbours
 -- Without a fault.
 pub mod Completed
 pub mod NoFault

@@ -6,4 +6,5 @@ pub mod Leaf
 pub mod Known
 pub mod Remaining
 pub mod OneRow
+pub mod Neighbours
 pub mod Ways

@@ -5,6 +5,8 @@ pub mod Rows
 pub mod StandingWords
 pub mod Reading
 pub mod Chaining
+pub mod Walking
+pub mod PlainSteps
 -- Contexts that are left.
 pub mod Least
 -- Labels of figure links.

@@ -3,3 +3,4 @@ pub mod Flags
 pub mod Contexts
 pub mod Chains
 pub mod Standing
+pub mod Plain

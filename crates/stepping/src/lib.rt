@@ -2,6 +2,7 @@
 pub mod chains;
 pub mod contexts;
 pub mod lookup;
+pub mod plain;
 pub mod standing;
 pub mod steps;
 
