@@ -122,25 +122,25 @@ module _ (to set : List ℕ) (n : ℕ) (few : n ≤ sheetLinks) (below : Below n
   )
 
 -- links of a set that are tied stay tied
-pub all-kept : (to : List ℕ) (none : ℕ) (set : List ℕ) → Below sheetLinks set → (l m : List ℕ) → ((x z : ℕ) → x < sheetLinks → z < sheetLinks → getD l x 0 ≡ getD l z 0 → getD m x 0 ≡ getD m z 0) → AllTied to none set l → AllTied to none set m
-all-kept to none set below l m kept f x z h k i j n e = kept x z (below x h i) (below z k j) (f x z h k i j n e)
+pub all-kept : (to set : List ℕ) → Below sheetLinks set → (l m : List ℕ) → ((x z : ℕ) → x < sheetLinks → z < sheetLinks → getD l x 0 ≡ getD l z 0 → getD m x 0 ≡ getD m z 0) → AllTied to set l → AllTied to set m
+all-kept to set below l m kept f x z h k i j e = kept x z (below x h i) (below z k j) (f x z h k i j e)
 
--- tied to all links of a set, or going nowhere
-abbrev pub AllWith : List ℕ → ℕ → List ℕ → List ℕ → ℕ → Type 0
-AllWith to none set l x = (z : ℕ) → z < pairDigits → InPair set z → getD to x 0 ≢ none → Tied to l x z
+-- tied to all links of a set
+abbrev pub AllWith : List ℕ → List ℕ → List ℕ → ℕ → Type 0
+AllWith to set l x = (z : ℕ) → z < pairDigits → InPair set z → Tied to l x z
 
 -- Link a is tied to all of a set: to those that are left by one more turn, to those before it since they were.
-module _ (to : List ℕ) (none : ℕ) (set : List ℕ) (below : Below sheetLinks set) (a : ℕ) (small : a < pairDigits) (rest less : List ℕ) (e : less ≡ withoutLink rest a) (part : PartOf rest set) (ia : InPair rest a) where
+module _ (to set : List ℕ) (below : Below sheetLinks set) (a : ℕ) (small : a < pairDigits) (rest less : List ℕ) (e : less ≡ withoutLink rest a) (part : PartOf rest set) (ia : InPair rest a) where
   pub context-step : (labels next : List ℕ) → ((x z : ℕ) → x < sheetLinks → z < sheetLinks → getD labels x 0 ≡ getD labels z 0 → getD next x 0 ≡ getD next z 0)
-      → Seen (AllWith to none set labels) set rest → (getD to a 0 ≢ none → (z : ℕ) → z < pairDigits → InPair less z → Tied to next a z) → Seen (AllWith to none set next) set less
-  context-step labels next kept f t = seen-more set rest a small less e (AllWith to none set labels) (AllWith to none set next) f onward (λ z h i n. at z h i n (ℕ-discrete z a))
+      → Seen (AllWith to set labels) set rest → ((z : ℕ) → z < pairDigits → InPair less z → Tied to next a z) → Seen (AllWith to set next) set less
+  context-step labels next kept f t = seen-more set rest a small less e (AllWith to set labels) (AllWith to set next) f onward (λ z h i. at z h i (ℕ-discrete z a))
     where
-      onward : (x : ℕ) → x < pairDigits → InPair set x → AllWith to none set labels x → AllWith to none set next x
-      onward x l j w z h i n q = kept x z (below x l j) (below z h i) (w z h i n q)
+      onward : (x : ℕ) → x < pairDigits → InPair set x → AllWith to set labels x → AllWith to set next x
+      onward x l j w z h i q = kept x z (below x l j) (below z h i) (w z h i q)
 
-      at : (z : ℕ) → z < pairDigits → InPair set z → getD to a 0 ≢ none → Dec (z ≡ a) → Tied to next a z
-      at z h i n (yes q) w = ap (λ (x : ℕ). getD next x 0) (sym q)
-      at z h i n (no d) w = ⊎-elim (λ j. t n z h (in-without rest a small less e z h j d) w) (λ s. sym (onward z h i s a small (part a small ia) (λ q. n (w ∙ q)) (sym w))) (f z h i)
+      at : (z : ℕ) → z < pairDigits → InPair set z → Dec (z ≡ a) → Tied to next a z
+      at z h i (yes q) w = ap (λ (x : ℕ). getD next x 0) (sym q)
+      at z h i (no d) w = ⊎-elim (λ j. t z h (in-without rest a small less e z h j d) w) (λ s. sym (onward z h i s a small (part a small ia) (sym w))) (f z h i)
 
 -- each link its own label
 pub own-sound : (sets : List PortSet) (rows : ℕ) (to labels : List ℕ) → ((x : ℕ) → x < sheetLinks → getD labels x 0 ≡ x + 1) → Sound sets rows to labels

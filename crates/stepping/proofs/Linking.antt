@@ -32,6 +32,18 @@ module _ (S : Net) {figure : form.Sheet} {sets : List PortSet} {rows links : ℕ
   few : links ≤ sheetLinks
   few = omega (arith, o .fit .class-count, o .link-count)
 
+  -- linked links have one label
+  linked-label : (labels : List ℕ) → Labelled sets rows to labels → (y : ℕ) {a b : ℕ} → Linked S F q y a b → numberAt labels a ≡ numberAt labels b
+  linked-label labels w y here = refl
+  linked-label labels w y (step {x = x} {x′ = z} s l) =
+      let c = context-of figure (o .fit) (s .row) (s .of-figure) in
+      let h : c .0 < rows = omega (arith, c .1, o .row-count) in
+      let i = in-port o (c .0) x h (subst (λ (r : NetCell). x ∈ r .1) (sym (c .2)) (s .first)) in
+      let j = in-port o (c .0) z h (subst (λ (r : NetCell). z ∈ r .1) (sym (c .2)) (s .second)) in
+      let a : numberAt to x ≡ y = sym (link-at figure (o .fit) S atoms to x (s .first-at .figure-link)) ∙ s .first-at .there in
+      let b : numberAt to z ≡ y = sym (link-at figure (o .fit) S atoms to z (s .second-at .figure-link)) ∙ s .second-at .there in
+      w .complete (c .0) h (x - 1) (z - 1) (omega (arith, i .0, i .1, few)) (omega (arith, j .0, j .1, few)) (i .2) (j .2) (a ∙ sym b) ∙ linked-label labels w y l
+
   reach-linked : {a b : ℕ} (y : ℕ) → Reach (Tie sets rows to) a b → At S F q (suc a) y → Linked S F q y (suc a) (suc b)
   reach-linked y stay h = here
   reach-linked {a} y (move {y = c} t r) h = step (record {
@@ -53,18 +65,6 @@ module _ (S : Net) {figure : form.Sheet} {sets : List PortSet} {rows links : ℕ
       next = record { figure-link = (omega arith, omega (arith, second .1, o .link-count)); sheet-link = h .sheet-link; there = goes o S atoms to c (second .1) ∙ sym (t .together) ∙ sym (goes o S atoms to a (first .1)) ∙ h .there }
 
   module _ (none : ℕ) (last : none ≡ S .links + 1) (within : Within none links to) where
-    -- linked links have one label
-    linked-label : (labels : List ℕ) → Labelled sets rows to none labels → (y : ℕ) {a b : ℕ} → Linked S F q y a b → numberAt labels a ≡ numberAt labels b
-    linked-label labels w y here = refl
-    linked-label labels w y (step {x = x} {x′ = z} s l) =
-        let c = context-of figure (o .fit) (s .row) (s .of-figure) in
-        let h : c .0 < rows = omega (arith, c .1, o .row-count) in
-        let i = in-port o (c .0) x h (subst (λ (r : NetCell). x ∈ r .1) (sym (c .2)) (s .first)) in
-        let j = in-port o (c .0) z h (subst (λ (r : NetCell). z ∈ r .1) (sym (c .2)) (s .second)) in
-        let a : numberAt to x ≡ y = sym (link-at figure (o .fit) S atoms to x (s .first-at .figure-link)) ∙ s .first-at .there in
-        let b : numberAt to z ≡ y = sym (link-at figure (o .fit) S atoms to z (s .second-at .figure-link)) ∙ s .second-at .there in
-        w .complete (c .0) h (x - 1) (z - 1) (omega (arith, i .0, i .1, few)) (omega (arith, j .0, j .1, few)) (i .2) (j .2) (λ n. omega (arith, n, a, last, s .first-at .sheet-link .1)) (a ∙ sym b) ∙ linked-label labels w y l
-
     -- a figure link by its index
     by-index : (x : ℕ) → Range (figure .«class_count») x → (x - 1 < links) × (suc (x - 1) ≡ x)
     by-index x r = (omega (arith, r .0, r .1, o .link-count), omega (arith, r .0))

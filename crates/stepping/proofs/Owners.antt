@@ -62,7 +62,7 @@ module _ (to labels : List ℕ) (none : ℕ) where
             ((λ q. w .0 (sym e ∙ q)), w .1 ∙ ap (λ (k : ℕ). getD labels (k - 1) 0) (sym e))
 
     -- the link has another label than the owner of where it goes
-    pub owners-apart : (sets : List PortSet) (rows links : ℕ) → Labelled sets rows to none labels → x < links → 1 ≤ getD to x 0 → getD to x 0 ≢ none
+    pub owners-apart : (sets : List PortSet) (rows links : ℕ) → Labelled sets rows to labels → x < links → 1 ≤ getD to x 0 → getD to x 0 ≢ none
         → getD owner (getD to x 0 - 1) 0 ≢ 0 → getD labels (getD owner (getD to x 0 - 1) 0 - 1) 0 ≢ getD labels x 0 → Apart sets rows links to none (getD to x 0)
     owners-apart sets rows links l h low not-none n e =
         let w = f .0 (getD to x 0 - 1) n in
@@ -86,7 +86,7 @@ module _ (to labels : List ℕ) (none : ℕ) where
         }
 
   -- all links have the label of the owner of where they go
-  pub owners-one : (sets : List PortSet) (rows links : ℕ) (owner : List ℕ) → Labelled sets rows to none labels → Owners links owner → Apart sets rows links to none 0
+  pub owners-one : (sets : List PortSet) (rows links : ℕ) (owner : List ℕ) → Labelled sets rows to labels → Owners links owner → Apart sets rows links to none 0
   owners-one sets rows links owner l f = record {
     labels = labels;
     labelled = l;

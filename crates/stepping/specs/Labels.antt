@@ -47,13 +47,13 @@ GrewWith to set a labels next = (whole : List ℕ) → InPair whole a → PartOf
 abbrev pub Tied : List ℕ → List ℕ → ℕ → ℕ → Type 0
 Tied to labels x z = getD to x 0 ≡ getD to z 0 → getD labels x 0 ≡ getD labels z 0
 
--- so all links of a set, but for those that go nowhere
-abbrev pub AllTied : List ℕ → ℕ → List ℕ → List ℕ → Type 0
-AllTied to none set labels = (x z : ℕ) → x < pairDigits → z < pairDigits → InPair set x → InPair set z → getD to x 0 ≢ none → Tied to labels x z
+-- so all links of a set
+abbrev pub AllTied : List ℕ → List ℕ → List ℕ → Type 0
+AllTied to set labels = (x z : ℕ) → x < pairDigits → z < pairDigits → InPair set x → InPair set z → Tied to labels x z
 
-pub record Labelled (sets : List PortSet) (rows : ℕ) (to : List ℕ) (none : ℕ) (labels : List ℕ) : Type 0 where
+pub record Labelled (sets : List PortSet) (rows : ℕ) (to labels : List ℕ) : Type 0 where
   pub sound : Sound sets rows to labels
-  pub complete : (c : ℕ) → c < rows → AllTied to none (setAt sets c .links) labels
+  pub complete : (c : ℕ) → c < rows → AllTied to (setAt sets c .links) labels
 
 -- x and z, from 0, are two of the first `links` that go to y, and y is not none
 pub record Meet (links : ℕ) (to : List ℕ) (none x z y : ℕ) : Type 0 where
@@ -66,6 +66,6 @@ pub record Meet (links : ℕ) (to : List ℕ) (none x z y : ℕ) : Type 0 where
 -- By labels: 0 where links that meet have one label, else where two meet that have not.
 pub record Apart (sets : List PortSet) (rows links : ℕ) (to : List ℕ) (none y : ℕ) : Type 0 where
   pub labels : List ℕ
-  pub labelled : Labelled sets rows to none labels
+  pub labelled : Labelled sets rows to labels
   pub all-one : y ≡ 0 → (x z w : ℕ) → Meet links to none x z w → getD labels x 0 ≡ getD labels z 0
   pub two-apart : y ≢ 0 → (x : ℕ) × (z : ℕ) × Meet links to none x z y × (getD labels x 0 ≢ getD labels z 0)

@@ -67,25 +67,17 @@ fn with_port(
     }
 }
 
-// The links of a context with each other, but for those that go nowhere.
-fn with_context(
-    labels: &mut [u16; Sheet::LINKS],
-    to: &[u16; Sheet::LINKS],
-    none: u16,
-    set: [u64; 2],
-    n: usize,
-)
+// The links of a context with each other.
+fn with_context(labels: &mut [u16; Sheet::LINKS], to: &[u16; Sheet::LINKS], set: [u64; 2], n: usize)
     requires { ⌜ Below n set × (length (now labels) ≡ sheetLinks) × (n ≤ sheetLinks) × Bounded n (now labels) ⌝ }
-    ensures { λ r. ⌜ (length (now (labels .exit)) ≡ sheetLinks) × Grew (now (to .entry)) set (now (labels .entry)) (now (labels .exit)) × AllTied (now (to .entry)) none set (now (labels .exit)) × Bounded n (now (labels .exit)) ⌝ }
+    ensures { λ r. ⌜ (length (now (labels .exit)) ≡ sheetLinks) × Grew (now (to .entry)) set (now (labels .entry)) (now (labels .exit)) × AllTied (now (to .entry)) set (now (labels .exit)) × Bounded n (now (labels .exit)) ⌝ }
 {
     let mut rest = set;
     while !is_empty(rest) {
         let a = first_link(rest);
         let less = without_link(rest, a);
         rest = less;
-        if to[a] != none {
-            with_port(&mut *labels, to, rest, a, n);
-        }
+        with_port(&mut *labels, to, rest, a, n);
     }
 }
 
@@ -93,20 +85,19 @@ fn with_context(
 fn step_labels(
     labels: &mut [u16; Sheet::LINKS],
     to: &[u16; Sheet::LINKS],
-    none: u16,
     contexts: [PortSet; Sheet::CONTEXT_ROOM],
     count: usize,
     n: usize,
 )
     requires { ⌜ Ports contexts count n × (length (now labels) ≡ sheetLinks) ⌝ }
-    ensures { λ r. ⌜ (length (now (labels .exit)) ≡ sheetLinks) × Labelled contexts count (now (to .entry)) none (now (labels .exit)) ⌝ }
+    ensures { λ r. ⌜ (length (now (labels .exit)) ≡ sheetLinks) × Labelled contexts count (now (to .entry)) (now (labels .exit)) ⌝ }
 {
     own_labels(&mut *labels);
     let mut c = 0;
     while c < count {
         let row = contexts[c];
         let ports = row.links;
-        with_context(&mut *labels, to, none, ports, n);
+        with_context(&mut *labels, to, ports, n);
         c += 1;
     }
 }
@@ -123,7 +114,7 @@ pub fn apart(
     ensures { λ r. ⌜ Apart contexts rows count (now (to .entry)) none r ⌝ }
 {
     let mut labels = [0u16; Sheet::LINKS];
-    step_labels(&mut labels, to, none, contexts, rows, count);
+    step_labels(&mut labels, to, contexts, rows, count);
     let mut owner = [0u16; Sheet::LINKS];
     let mut x = 0;
     while x < count {

@@ -13,10 +13,10 @@ use Rattle.stepping.proofs.steps.step_labels.Statement.{statement}
 use Rattle.stepping.proofs.steps.step_labels.Tie as tie
 
 abbrev Inv-loop : tie.InvT-loop
-Inv-loop labels₀ to none count n contexts c₀ labels c = (c ≤ count) × (length labels ≡ sheetLinks) × Sound contexts count to labels × ((i : ℕ) → i < c → AllTied to none (setAt contexts i .links) labels) × Bounded n labels
+Inv-loop labels₀ to count n contexts c₀ labels c = (c ≤ count) × (length labels ≡ sheetLinks) × Sound contexts count to labels × ((i : ℕ) → i < c → AllTied to (setAt contexts i .links) labels) × Bounded n labels
 
 abbrev μ-loop : tie.MeasureT-loop
-μ-loop labels₀ to none count n contexts c₀ labels c = count - c
+μ-loop labels₀ to count n contexts c₀ labels c = count - c
 
 own-labels-requires : tie.Need-own-labels-requires Inv-loop μ-loop
 own-labels-requires c κs = search needs
@@ -27,7 +27,7 @@ loop-holds c = let s = c .before .before in
     let o = c .own-labels in (
       omega arith,
       o .ensures .0,
-      own-sound (a .t4) (a .count) (a .to .now) (o .last .0) (o .ensures .1),
+      own-sound (a .t3) (a .count) (a .to .now) (o .last .0) (o .ensures .1),
       (λ i h. absurd (omega arith)),
       own-bounded (a .n) (s .pre .0 .links-few) (o .last .0) (o .ensures .1),
     )
@@ -57,9 +57,9 @@ loop-again c = let l = c .before .before .before .before .before .loop in
     let g = c .with-context .ensures in (
       omega arith,
       g .0,
-      g .1 .sound (a .t4) (a .count) (l .c) (omega arith) refl (l .inv .2),
-      below-next (λ i. AllTied (a .to .now) (a .none) (setAt (a .t4) i .links) m) (l .c)
-          (λ i h. all-kept (a .to .now) (a .none) (setAt (a .t4) i .links) (λ x k j. omega (arith, s .pre .0 .within i (omega arith) x k j, s .pre .0 .links-few)) (l .labels) m (g .1 .kept) (l .inv .3 i h)) (g .2),
+      g .1 .sound (a .t3) (a .count) (l .c) (omega arith) refl (l .inv .2),
+      below-next (λ i. AllTied (a .to .now) (setAt (a .t3) i .links) m) (l .c)
+          (λ i h. all-kept (a .to .now) (setAt (a .t3) i .links) (λ x k j. omega (arith, s .pre .0 .within i (omega arith) x k j, s .pre .0 .links-few)) (l .labels) m (g .1 .kept) (l .inv .3 i h)) (g .2),
       g .3,
     )
 
