@@ -1,33 +1,25 @@
--- Walks along the chain of a link, and what they say of plain steps.
-use Prim.Native.Nat.{ℕ, suc, _+_, _*_, _-_, _/_, _≤_, _<_}
-use mathlib.Core.Path.{_≡_, refl, sym, _∙_, ap, subst}
-use mathlib.Core.Logic.{_⊎_, ⊎-elim, _≢_}
+-- Walks along the chain of a link, which see all atoms on it.
+use Prim.Native.Nat.{ℕ, suc, _-_, _/_, _≤_, _<_}
+use mathlib.Core.Path.{_≡_, refl, sym, subst}
+use mathlib.Core.Logic.{⊎-elim, _≢_}
 use mathlib.Core.List.{List}
 use mathlib.Core.Option.{some}
 use native.Mathlib.Decide.{ℕ-discrete}
 use native.Mathlib.Omega.{arith}
 use lib.ListN.{length, getD, getElem?}
-use Rattle.hyperlmntal.specs.Link.{_∈_}
 use Rattle.rows.specs.Format.{mostLinks}
 use Rattle.rows.specs.Limits.{sheetAtoms, sheetLinks}
 use Rattle.rows.specs.declared.Sheet as form
 use Rattle.rows.proofs.RowRange.{le-or-lt}
-use Rattle.placing.specs.Net.{NetCell, Net, Range}
-use Rattle.placing.specs.Placing.{Placing, cellAt}
+use Rattle.placing.specs.Net.{Net}
+use Rattle.placing.specs.Placing.{cellAt}
 use Rattle.placing.proofs.Lists.{member-at, getD-of}
 use Rattle.reading.proofs.normal.Merging.{getD-in}
-use Rattle.network.specs.NetIn.{netIn, contextIn, contextAt, Fit}
-use Rattle.network.proofs.NetIn.{atoms-length, context-of}
-use Rattle.candidates.specs.Laid.{laidAtom, LaidOut}
-use Rattle.candidates.specs.PortSets.{ContextsIn}
-use Rattle.candidates.specs.declared.ports.PortSet.{PortSet}
+use Rattle.network.specs.NetIn.{netIn, Fit}
+use Rattle.network.proofs.NetIn.{atoms-length}
 use Rattle.completing.specs.Known.{Touches}
-use Rattle.completing.specs.Fault.{Used}
-use Rattle.completing.specs.Neighbours.{PlainStep, OneEach}
-use Rattle.stepping.specs.Contexts.{numberOf}
-use Rattle.stepping.specs.Chains.{nodeOf, nodeCount, NodeOn, LastOn, Falls, ChainsIn}
-use Rattle.stepping.specs.Plain.{UsedBy, FreeBy, OnlyOn, OtherOn, AllOwn}
-use Rattle.stepping.proofs.Chaining.{row-in, laid-in}
+use Rattle.stepping.specs.Chains.{nodeOf, nodeCount, NodeOn, LastOn, ChainsIn}
+use Rattle.stepping.proofs.Chaining.{row-in}
 
 -- the atom of a node
 abbrev pub atomOf : ℕ → ℕ

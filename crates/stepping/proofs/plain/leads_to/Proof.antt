@@ -1,7 +1,7 @@
 -- `plain::leads_to` meets its contract. Assumes nothing.
 use borrow.Author.Needs.{needs}
-use Prim.Native.Nat.{ℕ, _-_, _≤_, _<_}
-use mathlib.Core.Path.{_≡_, refl}
+use Prim.Native.Nat.{_-_, _≤_}
+use mathlib.Core.Path.{refl}
 use native.Mathlib.Omega.{arith}
 use Rattle.stepping.proofs.plain.leads_to.Statement.{statement}
 use Rattle.stepping.proofs.plain.leads_to.Tie as tie

@@ -2,7 +2,6 @@
 use borrow.Author.Needs.{needs}
 use mathlib.Core.Path.{refl}
 use Rattle.placing.proofs.FirstLaws.{both-ways}
-use borrow.Author.Needs.{needs}
 use Rattle.stepping.proofs.plain.own_link.Statement.{statement}
 use Rattle.stepping.proofs.plain.own_link.Tie as tie
 

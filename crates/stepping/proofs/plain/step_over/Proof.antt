@@ -4,7 +4,6 @@ use mathlib.Core.Path.{refl}
 use native.Mathlib.Omega.{arith}
 use borrow.Author.Tests.{not-false}
 use Rattle.stepping.proofs.PlainSteps.{row-ready, found-range, step-found}
-use borrow.Author.Needs.{needs}
 use Rattle.stepping.proofs.plain.step_over.Statement.{statement}
 use Rattle.stepping.proofs.plain.step_over.Tie as tie
 
@@ -28,8 +27,7 @@ leads-to-requires : tie.Need-leads-to-requires
 leads-to-requires c κs = let s = c .before .before .before .before .before in
     let i = s .args in
     let a = c .before .before .laid-atom in
-    let p = row-ready (i .laid .now) (i .chains .now) (i .atoms) (i .t) (a .result) (a .ensures) (s .pre .2) (s .pre .0) (s .pre .1) in
-    p
+    row-ready (i .laid .now) (i .chains .now) (i .atoms) (i .t) (a .result) (a .ensures) (s .pre .2) (s .pre .0) (s .pre .1)
 
 returns-2 : tie.Need-returns-2
 returns-2 c = (omega arith, λ n. absurd (n refl))
@@ -92,8 +90,7 @@ all-own-requires : tie.Need-all-own-requires
 all-own-requires c κs = let s = c .before .before .before .before .before .before .before .before .before .before .before .before .before .before .before .before in
     let i = s .args in
     let a = c .before .before .before .before .before .before .before .before .before .before .before .before .before .laid-atom in
-    let p = row-ready (i .laid .now) (i .chains .now) (i .atoms) (i .t) (a .result) (a .ensures) (s .pre .2) (s .pre .0) (s .pre .1) in
-    p
+    row-ready (i .laid .now) (i .chains .now) (i .atoms) (i .t) (a .result) (a .ensures) (s .pre .2) (s .pre .0) (s .pre .1)
 
 returns-7 : tie.Need-returns-7
 returns-7 c = (omega arith, λ n. absurd (n refl))
