@@ -27,6 +27,7 @@ use Rattle.settling.proofs.completable.+completable+mendable+tried_at.L
 use Rattle.settling.proofs.completable.tried_at.Reads as tried-at
 use Rattle.settling.proofs.completable.tried_at.Kinds as tried-at-kinds
 use Rattle.settling.proofs.completable.+completable+mendable+tried_at.Lts-tried_at as tried-at-lts
+use Rattle.settling.proofs.neighbours.bar_along.Reads as bar-along-reads
 use Rattle.deciding.proofs.bars.bar.Reads as bar-reads
 use Rattle.deciding.proofs.bars.barred.Reads as barred-reads
 use Rattle.settling.proofs.obstacle.obstacle.Reads as obstacle-reads
@@ -81,7 +82,7 @@ abbrev mendable-claims : ℕ → mendable-lts.Claims
 mendable-claims t = (tried-at-below t, tried-at.Post)
 
 abbrev tried-at-claims : ℕ → tried-at-lts.Claims
-tried-at-claims t = (barred-reads.Asked, barred-reads.Learnt, completable-below t, completable.Post, bar-reads.Asked, bar-reads.Learnt)
+tried-at-claims t = (barred-reads.Asked, barred-reads.Learnt, completable-below t, completable.Post, bar-reads.Asked, bar-reads.Learnt, bar-along-reads.Asked, bar-along-reads.Learnt)
 
 module _ (t : ℕ) where
   completable-obstacle-requires : completable-lts.Need-obstacle-requires (completable-claims t) (completable-at t) completable.Post completable-Inv-loop completable-μ-loop
@@ -268,15 +269,22 @@ module _ (t : ℕ) where
       let a = b .args in
       (ports-of (b .pre .1 .0 .2 .over .nets-in .contexts-in) .links-few, b .pre .1 .2, omega (arith, b .pre .1 .3, links-few (b .pre .1 .0 .2 .over)))
 
+  tried-at-bar-along-requires : tried-at-lts.Need-bar-along-requires (tried-at-claims t) (tried-at-at t) tried-at.Post
+  tried-at-bar-along-requires c κs = let b = c .before .before .before .before .before .before .before .before .before .before .before .before .before in
+      (b .pre .1 .0, b .pre .1 .2, b .pre .1 .3)
+
   tried-at-returns-3 : tried-at-lts.Need-returns-3 (tried-at-claims t) (tried-at-at t) tried-at.Post
-  tried-at-returns-3 c = let b = c .before .before .before .before .before .before .before .before .before .before .before .before in
+  tried-at-returns-3 c = let b = c .before .before .before .before .before .before .before .before .before .before .before .before .before .before in
       let a = b .args in
-      let d = c .before .before .before .completable in
+      let d = c .before .before .before .before .before .completable in
+      let v = c .bar-along in
       λ sheet figure u. let n = u .over .nets-in in
       let h : a .x < figure .«class_count» = omega (arith, b .pre .1 .2, n .contexts-in .link-count) in
       let k : a .y < sheet .«class_count» = omega (arith, b .pre .1 .3, n .sheet-links) in
-      let e = d .ensures sheet figure (tables-put u (a .x) (a .y) (b .pre .1 .2) (b .pre .1 .3)) in
-      (at-cannot sheet figure (n .ready) (a .taken .now) (a .to .now) (a .flags .now) (b .pre .1 .1) (a .bars .now) (a .x) h (a .y) k (d .result) e (c .before .before .if2 .left), at-barring sheet figure (n .ready) (a .taken .now) (a .to .now) (a .flags .now) (b .pre .1 .1) (a .bars .now) (a .x) h (a .y) k (d .result) e (c .before .before .if2 .left) (a .kinds .now) (u .kinds-in) (c .bar .last .0) (c .bar .ensures))
+      let e = d .ensures sheet figure (tables-put u (a .x) (a .y) (b .pre .1 .2) (b .pre .1 .3)) in (
+        at-cannot sheet figure (n .ready) (a .taken .now) (a .to .now) (a .flags .now) (b .pre .1 .1) (a .bars .now) (a .x) h (a .y) k (d .result) e (c .before .before .before .before .if2 .left),
+        tried-then sheet figure (a .taken .now) (a .to .now) (a .flags .now) (a .bars .now) (c .before .before .bar .last .0) (v .last .1 .1 .1 .1 .1 .1 .1 .1 .1 .0) (a .x) (at-barring sheet figure (n .ready) (a .taken .now) (a .to .now) (a .flags .now) (b .pre .1 .1) (a .bars .now) (a .x) h (a .y) k (d .result) e (c .before .before .before .before .if2 .left) (a .kinds .now) (u .kinds-in) (c .before .before .bar .last .0) (c .before .before .bar .ensures)) (v .ensures sheet figure (a .flags .now) u (b .pre .1 .1)),
+      )
 
 pub +completable+mendable+tried-at-spec : {M : Type 1} → statement M
 +completable+mendable+tried-at-spec =
@@ -325,4 +333,5 @@ pub +completable+mendable+tried-at-spec : {M : Type 1} → statement M
     (tried-at-completable-requires t)
     (tried-at-returns-2 t)
     (tried-at-bar-requires t)
+    (tried-at-bar-along-requires t)
     (tried-at-returns-3 t))
