@@ -1,43 +1,24 @@
 -- Words in which the contexts of atoms lie, cut along the atoms on one link.
-use Prim.Native.Nat.{ℕ, suc, _+_, _-_, _/_, _≤_, _<_}
-use mathlib.Core.Path.{_≡_, refl, sym, subst}
+use Prim.Native.Nat.{ℕ, suc, _≤_, _<_}
+use mathlib.Core.Path.{_≡_, sym, subst}
 use mathlib.Core.Logic.{_≢_}
 use mathlib.Core.List.{List}
-use native.Mathlib.Decide.{ℕ-discrete, decLt}
+use native.Mathlib.Decide.{ℕ-discrete}
 use native.Mathlib.Omega.{arith}
 use lib.Bits.{bitAnd}
 use lib.ListN.{length, getD, set, replicate, getD-replicate}
 use lib.Seq.{getD-set-same, getD-set-other}
-use Rattle.rows.specs.Format.{mostLinks}
 use Rattle.rows.specs.Limits.{sheetAtoms, sheetLinks}
 use Rattle.placing.specs.Net.{Net}
-use Rattle.placing.specs.Placing.{cellAt}
-use Rattle.reading.proofs.normal.Merging.{getD-in}
 use Rattle.candidates.specs.Words.{In}
 use Rattle.candidates.proofs.Digits.{in-and}
 use Rattle.completing.specs.Known.{Touches}
-use Rattle.stepping.specs.Chains.{nodeOf, nodeCount, NodeOn, Falls, Chained}
+use Rattle.stepping.specs.Chains.{NodeOn, Chained}
+use Rattle.stepping.proofs.Walking.{atomOf, node-touches}
 use Rattle.stepping.specs.Standing.{contextDigits}
 use Rattle.remaining.specs.Joining.{allContexts, closureIn}
-use Rattle.remaining.specs.Allowing.{StandsAt, Allows, AllIn, Together, SharedAt, KeptBy}
+use Rattle.remaining.specs.Allowing.{Allows, AllIn, Together, SharedAt, KeptBy}
 use Rattle.remaining.proofs.JoinLaws.{all-in}
-
--- the atom of a node
-abbrev pub atomOf : ℕ → ℕ
-atomOf v = (v - sheetLinks) / mostLinks
-
--- A node's number says its atom, which is one of a sheet.
-pub atom-few : (v : ℕ) → sheetLinks ≤ v → v < nodeCount → atomOf v < sheetAtoms
-atom-few v h l = omega (arith, h, l)
-
-module _ (S : Net) (y v : ℕ) (o : NodeOn S y v) where
-  node-atom : atomOf v ≡ o .atom
-  node-atom = let e = o .node in let h = o .place-few in omega (arith, e, h)
-
-  -- and it is on the link
-  pub node-touches : (atomOf v < length (S .atoms)) × Touches S (suc (atomOf v)) (suc y)
-  node-touches = subst (λ (i : ℕ). (i < length (S .atoms)) × Touches S (suc i) (suc y)) (sym node-atom)
-      (o .atom-in, subst (Touches S (suc (o .atom))) (o .link) (getD-in ((cellAt (S .atoms) (suc (o .atom))) .1) (o .place) 0 (o .place-in)))
 
 -- The nodes of a chain, one after the other.
 module _ (S : Net) (n : ℕ) (chains : List ℕ) (c : Chained S n chains) where

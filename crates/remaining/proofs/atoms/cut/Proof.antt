@@ -11,7 +11,8 @@ use Rattle.rows.specs.Limits.{sheetAtoms, sheetLinks}
 use Rattle.placing.specs.Net.{Net}
 use Rattle.stepping.specs.Chains.{nodeCount, NodeOn, Chained}
 use Rattle.remaining.specs.Allowing.{Allows, AllIn}
-use Rattle.remaining.proofs.AllowLaws.{atom-few, node-touches, chain-first, chain-next, allows-cut, atomOf}
+use Rattle.stepping.proofs.Walking.{atom-few, node-touches, atomOf}
+use Rattle.remaining.proofs.AllowLaws.{chain-first, chain-next, allows-cut}
 use Rattle.remaining.proofs.atoms.cut.Statement.{statement}
 use Rattle.remaining.proofs.atoms.cut.Tie as tie
 

@@ -10,7 +10,8 @@ use Rattle.rows.specs.Limits.{sheetAtoms, sheetLinks}
 use Rattle.placing.specs.Net.{Net}
 use Rattle.stepping.specs.Chains.{nodeCount, NodeOn, Chained}
 use Rattle.remaining.specs.Allowing.{SharedAt, KeptBy}
-use Rattle.remaining.proofs.AllowLaws.{atomOf, atom-few, chain-first, chain-next, shared-start, shared-next}
+use Rattle.stepping.proofs.Walking.{atomOf, atom-few}
+use Rattle.remaining.proofs.AllowLaws.{chain-first, chain-next, shared-start, shared-next}
 use Rattle.remaining.proofs.atoms.shared.Statement.{statement}
 use Rattle.remaining.proofs.atoms.shared.Tie as tie
 
