@@ -64,12 +64,12 @@ fn none_open(flags: &[u8; Sheet::LINKS], count: usize) -> bool
 }
 
 // The least completion where the links with a flag are open. Where none is, one look for a fault decides.
-fn least(
+fn least<'a>(
     nets: Nets,
-    laid: &[u16; LAID],
-    taken: &[u8; Sheet::ATOMS],
-    to: &[u16; Sheet::LINKS],
-    flags: &[u8; Sheet::LINKS],
+    laid: &'a [u16; LAID],
+    taken: &'a [u8; Sheet::ATOMS],
+    to: &'a [u16; Sheet::LINKS],
+    flags: &'a [u8; Sheet::LINKS],
 ) -> Completed
     requires { ⌜ ((sheet : NormalForm) × (figure : NormalForm) × NetsIn sheet figure nets (now laid) × LinksIn sheet figure (now to)) × (length (now flags) ≡ sheetLinks) ⌝ }
     ensures { λ r. ⌜ ((sheet figure : NormalForm) → NetsIn sheet figure nets (now (laid .entry)) → LinksIn sheet figure (now (to .entry)) → LeastIn sheet figure (now (taken .entry)) (now (to .entry)) (now (flags .entry)) r) ⌝ }
@@ -137,8 +137,5 @@ pub fn complete<'a>(
         rows: figure.context_count,
         count: figure.class_count,
     };
-    let flags = taken.flags;
-    let to = opened.to;
-    let open = opened.flags;
-    least(nets, laid, &flags, &to, &open)
+    least(nets, laid, &taken.flags, &opened.to, &opened.flags)
 }

@@ -12,4 +12,5 @@ pub mod Least
 -- Labels of figure links.
 pub mod Labels
 pub mod Owners
+pub mod Alone
 pub mod Linking

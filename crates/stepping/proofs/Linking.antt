@@ -1,4 +1,4 @@
--- Labels say whether figure links that go to one sheet link are linked there.
+-- Steps say whether figure links that go to one sheet link are linked there.
 use Prim.Native.Nat.{ℕ, suc, _+_, _-_, _≤_, _<_}
 use mathlib.Core.Path.{_≡_, refl, sym, _∙_, ap, subst}
 use mathlib.Core.Logic.{_≢_}
@@ -19,7 +19,7 @@ use Rattle.candidates.proofs.PortRows.{port-in, port-range, in-port}
 use Rattle.completing.specs.Reach.{Reach, stay, move}
 use Rattle.completing.specs.Fault.{AllLinked, TwoApart}
 use Rattle.stepping.specs.Flags.{Within}
-use Rattle.stepping.specs.Labels.{Tie, Labelled, Meet, Apart}
+use Rattle.stepping.specs.Labels.{Tie, Meet, Apart}
 use Rattle.stepping.proofs.Reading.{row-in, link-at, goes}
 
 module _ (S : Net) {figure : form.Sheet} {sets : List PortSet} {rows links : ℕ} (o : ContextsIn figure sets rows links) (atoms to : List ℕ) where
@@ -32,17 +32,25 @@ module _ (S : Net) {figure : form.Sheet} {sets : List PortSet} {rows links : ℕ
   few : links ≤ sheetLinks
   few = omega (arith, o .fit .class-count, o .link-count)
 
-  -- linked links have one label
-  linked-label : (labels : List ℕ) → Labelled sets rows to labels → (y : ℕ) {a b : ℕ} → Linked S F q y a b → numberAt labels a ≡ numberAt labels b
-  linked-label labels w y here = refl
-  linked-label labels w y (step {x = x} {x′ = z} s l) =
+  -- steps lead between linked links
+  linked-tied : (y : ℕ) {a b : ℕ} → Linked S F q y a b → Reach (Tie sets rows to) (a - 1) (b - 1)
+  linked-tied y here = stay
+  linked-tied y (step {x = x} {x′ = z} s l) =
       let c = context-of figure (o .fit) (s .row) (s .of-figure) in
       let h : c .0 < rows = omega (arith, c .1, o .row-count) in
       let i = in-port o (c .0) x h (subst (λ (r : NetCell). x ∈ r .1) (sym (c .2)) (s .first)) in
       let j = in-port o (c .0) z h (subst (λ (r : NetCell). z ∈ r .1) (sym (c .2)) (s .second)) in
       let a : numberAt to x ≡ y = sym (link-at figure (o .fit) S atoms to x (s .first-at .figure-link)) ∙ s .first-at .there in
       let b : numberAt to z ≡ y = sym (link-at figure (o .fit) S atoms to z (s .second-at .figure-link)) ∙ s .second-at .there in
-      w .complete (c .0) h (x - 1) (z - 1) (omega (arith, i .0, i .1, few)) (omega (arith, j .0, j .1, few)) (i .2) (j .2) (a ∙ sym b) ∙ linked-label labels w y l
+      move {x = x - 1} {y = z - 1} (record {
+        row = c .0;
+        row-in = h;
+        first-in = omega (arith, i .0, i .1, few);
+        second-in = omega (arith, j .0, j .1, few);
+        first = i .2;
+        second = j .2;
+        together = a ∙ sym b;
+      }) (linked-tied y l)
 
   reach-linked : {a b : ℕ} (y : ℕ) → Reach (Tie sets rows to) a b → At S F q (suc a) y → Linked S F q y (suc a) (suc b)
   reach-linked y stay h = here
@@ -76,14 +84,13 @@ module _ (S : Net) {figure : form.Sheet} {sets : List PortSet} {rows links : ℕ
     all-linked w x z y h k =
         let i = by-index x (h .figure-link) in
         let j = by-index z (k .figure-link) in
-        let e = w .all-one refl (x - 1) (z - 1) y (record {
+        let r = w .all-tied refl (x - 1) (z - 1) y (record {
           first-in = i .0;
           second-in = j .0;
           first-at = at-index x y h;
           second-at = at-index z y k;
           not-none = λ n. omega (arith, n, last, h .sheet-link .1);
         }) in
-        let r = w .labelled .sound (x - 1) (z - 1) (omega (arith, i .0, few)) (omega (arith, j .0, few)) e in
         subst (λ (n : ℕ). Linked S F q y n z) (i .1) (subst (Linked S F q y (suc (x - 1))) (j .1)
         (reach-linked y r (subst (λ (n : ℕ). At S F q n y) (sym (i .1)) h)))
 
@@ -93,10 +100,10 @@ module _ (S : Net) {figure : form.Sheet} {sets : List PortSet} {rows links : ℕ
       two = suc (t .1);
       one-at = at (t .0) (t .2 .first-in) (t .2 .first-at);
       two-at = at (t .1) (t .2 .second-in) (t .2 .second-at);
-      not-linked = λ l. t .3 (ap (λ (i : ℕ). getD (w .labels) i 0) (sym (down (t .0))) ∙ linked-label (w .labels) (w .labelled) y l ∙ ap (λ (i : ℕ). getD (w .labels) i 0) (down (t .1)));
+      not-linked = λ l. t .3 (subst (λ (i : ℕ). Reach (Tie sets rows to) i (t .1)) (down (t .0)) (subst (Reach (Tie sets rows to) (suc (t .0) - 1)) (down (t .1)) (linked-tied y l)));
     }
       where
-        t : (x : ℕ) × (z : ℕ) × Meet links to none x z y × (getD (w .labels) x 0 ≢ getD (w .labels) z 0)
+        t : (x : ℕ) × (z : ℕ) × Meet links to none x z y × ¬ Reach (Tie sets rows to) x z
         t = w .two-apart n
 
         down : (i : ℕ) → suc i - 1 ≡ i

@@ -7,9 +7,16 @@ use native.Mathlib.Decide.{ℕ-discrete}
 use native.Mathlib.Omega.{arith}
 use lib.ListN.{length, getD, set, replicate}
 use lib.Seq.{getD-set-same, getD-set-other}
+use Rattle.rows.specs.Limits.{sheetLinks}
 use Rattle.candidates.specs.declared.ports.PortSet.{PortSet}
-use Rattle.stepping.specs.Labels.{Labelled, Apart}
+use Rattle.completing.specs.Reach.{Reach, stay, move}
+use Rattle.stepping.specs.Labels.{Tie, Labelled, Apart}
 use Rattle.stepping.proofs.Tables.{below-next, zeros}
+
+-- links between which steps lead have one label
+tied-label : (sets : List PortSet) (rows : ℕ) (to labels : List ℕ) → Labelled sets rows to labels → {x z : ℕ} → Reach (Tie sets rows to) x z → getD labels x 0 ≡ getD labels z 0
+tied-label sets rows to labels l stay = refl
+tied-label sets rows to labels l (move {x = x} {y = y} t r) = l .complete (t .row) (t .row-in) x y (t .first-in) (t .second-in) (t .first) (t .second) (t .together) ∙ tied-label sets rows to labels l r
 
 module _ (to labels : List ℕ) (none : ℕ) where
   -- an owner o, from 1, of link p, from 0, after x links
@@ -68,9 +75,7 @@ module _ (to labels : List ℕ) (none : ℕ) where
         let w = f .0 (getD to x 0 - 1) n in
         let k : getD owner (getD to x 0 - 1) 0 ≤ x = w .1 in
         record {
-          labels = labels;
-          labelled = l;
-          all-one = λ i. absurd (omega arith);
+          all-tied = λ i. absurd (omega arith);
           two-apart = λ i. (
             getD owner (getD to x 0 - 1) 0 - 1,
             x,
@@ -81,18 +86,17 @@ module _ (to labels : List ℕ) (none : ℕ) where
               second-at = refl;
               not-none = not-none;
             },
-            e,
+            λ r. e (tied-label sets rows to labels l r),
           );
         }
 
   -- all links have the label of the owner of where they go
-  pub owners-one : (sets : List PortSet) (rows links : ℕ) (owner : List ℕ) → Labelled sets rows to labels → Owners links owner → Apart sets rows links to none 0
-  owners-one sets rows links owner l f = record {
-    labels = labels;
-    labelled = l;
-    all-one = λ i x z w m.
+  pub owners-one : (sets : List PortSet) (rows links : ℕ) (owner : List ℕ) → links ≤ sheetLinks → Labelled sets rows to labels → Owners links owner → Apart sets rows links to none 0
+  owners-one sets rows links owner few l f = record {
+    all-tied = λ i x z w m.
         let a = f .1 x (m .first-in) (λ e. m .not-none (sym (m .first-at) ∙ e)) in
         let b = f .1 z (m .second-in) (λ e. m .not-none (sym (m .second-at) ∙ e)) in
-        a .1 ∙ ap (λ (y : ℕ). getD labels (getD owner (y - 1) 0 - 1) 0) (m .first-at ∙ sym (m .second-at)) ∙ sym (b .1);
+        l .sound x z (omega (arith, m .first-in, few)) (omega (arith, m .second-in, few))
+        (a .1 ∙ ap (λ (y : ℕ). getD labels (getD owner (y - 1) 0 - 1) 0) (m .first-at ∙ sym (m .second-at)) ∙ sym (b .1));
     two-apart = λ n. absurd (n refl);
   }

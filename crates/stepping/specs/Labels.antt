@@ -63,9 +63,11 @@ pub record Meet (links : ℕ) (to : List ℕ) (none x z y : ℕ) : Type 0 where
   pub second-at : getD to z 0 ≡ y
   pub not-none : y ≢ none
 
--- By labels: 0 where links that meet have one label, else where two meet that have not.
+-- no two of the first `links` meet
+abbrev pub AllAlone : ℕ → List ℕ → ℕ → Type 0
+AllAlone links to none = (x z y : ℕ) → Meet links to none x z y → x ≡ z
+
+-- 0 where steps lead between all links that meet, else where two meet between which none lead
 pub record Apart (sets : List PortSet) (rows links : ℕ) (to : List ℕ) (none y : ℕ) : Type 0 where
-  pub labels : List ℕ
-  pub labelled : Labelled sets rows to labels
-  pub all-one : y ≡ 0 → (x z w : ℕ) → Meet links to none x z w → getD labels x 0 ≡ getD labels z 0
-  pub two-apart : y ≢ 0 → (x : ℕ) × (z : ℕ) × Meet links to none x z y × (getD labels x 0 ≢ getD labels z 0)
+  pub all-tied : y ≡ 0 → (x z w : ℕ) → Meet links to none x z w → Reach (Tie sets rows to) x z
+  pub two-apart : y ≢ 0 → (x : ℕ) × (z : ℕ) × Meet links to none x z y × ¬ Reach (Tie sets rows to) x z

@@ -5,6 +5,7 @@ use candidates::pairs::without_link;
 use candidates::ports::PortSet;
 use rows::Sheet;
 ghost use mathlib.Core.Path.{_≡_};
+ghost use mathlib.Core.Bool.{true};
 ghost use mathlib.Core.Logic.{_≢_};
 ghost use Prim.Native.Nat.{ℕ, _+_, _<_, _≤_};
 ghost use lib.ListN.{length, getD};
@@ -12,7 +13,7 @@ ghost use Rattle.rows.specs.Limits.{sheetLinks};
 ghost use Rattle.candidates.specs.Words.{pairDigits, InPair};
 ghost use Rattle.candidates.specs.PortSets.{Below, Ports};
 ghost use Rattle.stepping.specs.Flags.{Within};
-ghost use Rattle.stepping.specs.Labels.{Relabelled, Bounded, Grew, GrewWith, Tied, AllTied, Labelled, Apart};
+ghost use Rattle.stepping.specs.Labels.{Relabelled, Bounded, Grew, GrewWith, Tied, AllTied, Labelled, AllAlone, Apart};
 
 // Each link its own label.
 fn own_labels(labels: &mut [u16; Sheet::LINKS])
@@ -102,8 +103,29 @@ fn step_labels(
     }
 }
 
+// Whether no two of the first links go to one sheet link.
+fn all_alone(count: usize, to: &[u16; Sheet::LINKS], none: u16) -> bool
+    requires { ⌜ (count ≤ sheetLinks) × (none ≤ sheetLinks + 1) × Within none count (now to) ⌝ }
+    ensures { λ r. ⌜ (r ≡ true → AllAlone count (now (to .entry)) none) ⌝ }
+{
+    let mut met = [0u8; Sheet::LINKS];
+    let mut x = 0;
+    while x < count {
+        let y = to[x];
+        if y != none {
+            let at = (y - 1) as usize;
+            if met[at] == 1 {
+                return false;
+            }
+            met[at] = 1;
+        }
+        x += 1;
+    }
+    true
+}
+
 // A sheet link at which two figure links have different labels, 0 where there is none.
-pub fn apart(
+fn untied(
     contexts: [PortSet; Sheet::CONTEXT_ROOM],
     rows: usize,
     count: usize,
@@ -131,4 +153,22 @@ pub fn apart(
         x += 1;
     }
     0
+}
+
+// A sheet link at which two figure links meet that no steps link, 0 where there is none. Where no two meet, no link needs
+// a label.
+pub fn apart(
+    contexts: [PortSet; Sheet::CONTEXT_ROOM],
+    rows: usize,
+    count: usize,
+    to: &[u16; Sheet::LINKS],
+    none: u16,
+) -> u16
+    requires { ⌜ Ports contexts rows count × (none ≤ sheetLinks + 1) × Within none count (now to) ⌝ }
+    ensures { λ r. ⌜ Apart contexts rows count (now (to .entry)) none r ⌝ }
+{
+    if all_alone(count, to, none) {
+        return 0;
+    }
+    untied(contexts, rows, count, to, none)
 }

@@ -25,9 +25,9 @@ nothing-requires : tie.Need-nothing-requires
 nothing-requires c κs = search needs
 
 returns : tie.Need-returns
-returns c = let b = c .before .before .before .before in
+returns c = let b = c .before .before .before in
     complete-none (sheet-of b) (figure-of b) (b .pre .0) (b .args .atoms-to) (b .pre .1)
-    (twice-none (sheet-of b) (figure-of b) (b .pre .0) (b .args .atoms-to) (b .pre .1) (c .before .before .before .taken-by .ensures .twice (not-true _ (c .before .if1 .taken)))) (c .nothing .result) (c .nothing .ensures)
+    (twice-none (sheet-of b) (figure-of b) (b .pre .0) (b .args .atoms-to) (b .pre .1) (c .before .before .taken-by .ensures .twice (not-true _ (c .before .if1 .taken)))) (c .nothing .result) (c .nothing .ensures)
 
 links-of-requires : tie.Need-links-of-requires
 links-of-requires c κs = search needs
@@ -36,7 +36,7 @@ nothing-requires-2 : tie.Need-nothing-requires-2
 nothing-requires-2 c κs = search needs
 
 returns-2 : tie.Need-returns-2
-returns-2 c = let b = c .before .before .before .before .before .before .before in
+returns-2 c = let b = c .before .before .before .before .before .before in
     complete-none (sheet-of b) (figure-of b) (b .pre .0) (b .args .atoms-to) (b .pre .1) (c .before .before .before .links-of .ensures .refused (not-true _ (c .before .if2 .taken))) (c .nothing2 .result) (c .nothing2 .ensures)
 
 add-none : tie.Need-add-none
@@ -49,26 +49,26 @@ open-links-requires : tie.Need-open-links-requires
 open-links-requires c κs = search needs
 
 least-requires : tie.Need-least-requires
-least-requires c κs = let b = c .before .before .before .before .before .before .before .before .before .before .before .before .before .before .before .before in
+least-requires c κs = let b = c .before .before .before .before .before .before .before .before .before .before .before .before .before .before in
     let a = b .args in
     let p = b .pre in
-    let t = c .before .before .before .before .before .before .before .before .before .before .before .before .before .before .before .taken-by in
-    let l = c .before .before .before .before .before .before .before .before .before .before .before .before .links-of in
-    let o = c .before .before .before .before .before .before .before .open-links in
-    let d = t .ensures .different (not-false _ (c .before .before .before .before .before .before .before .before .before .before .before .before .before .if1 .left)) in
-    let g = l .ensures .passed (not-false _ (c .before .before .before .before .before .before .before .before .before .before .if2 .left)) in
+    let t = c .before .before .before .before .before .before .before .before .before .before .before .before .before .taken-by in
+    let l = c .before .before .before .before .before .before .before .before .before .before .before .links-of in
+    let o = c .before .before .before .before .before .before .open-links in
+    let d = t .ensures .different (not-false _ (c .before .before .before .before .before .before .before .before .before .before .before .before .if1 .left)) in
+    let g = l .ensures .passed (not-false _ (c .before .before .before .before .before .before .before .before .before .if2 .left)) in
     let m = links-in (sheet-of b) (figure-of b) (p .0) (a .atoms-to) (p .1) (l .result .to) g (o .result .to) (o .result .flags) (o .ensures) (t .result .flags) d in
     ((sheet-of b, figure-of b, nets-of (sheet-of b) (figure-of b) (p .0) (a .laid .now) (p .2) (a .figure .contexts) (whole-contexts (a .figure) (a .parts .now) (p .0 .figure-fit)), m), o .ensures .flags-room)
 
 returns-3 : tie.Need-returns-3
-returns-3 c = let b = c .before .before .before .before .before .before .before .before .before .before .before .before .before .before .before .before .before in
+returns-3 c = let b = c .before .before .before .before .before .before .before .before .before .before .before .before .before .before .before in
     let a = b .args in
     let p = b .pre in
-    let t = c .before .before .before .before .before .before .before .before .before .before .before .before .before .before .before .before .taken-by in
-    let l = c .before .before .before .before .before .before .before .before .before .before .before .before .before .links-of in
-    let o = c .before .before .before .before .before .before .before .before .open-links in
-    let d = t .ensures .different (not-false _ (c .before .before .before .before .before .before .before .before .before .before .before .before .before .before .if1 .left)) in
-    let g = l .ensures .passed (not-false _ (c .before .before .before .before .before .before .before .before .before .before .before .if2 .left)) in
+    let t = c .before .before .before .before .before .before .before .before .before .before .before .before .before .before .taken-by in
+    let l = c .before .before .before .before .before .before .before .before .before .before .before .before .links-of in
+    let o = c .before .before .before .before .before .before .before .open-links in
+    let d = t .ensures .different (not-false _ (c .before .before .before .before .before .before .before .before .before .before .before .before .before .if1 .left)) in
+    let g = l .ensures .passed (not-false _ (c .before .before .before .before .before .before .before .before .before .before .if2 .left)) in
     let m = links-in (sheet-of b) (figure-of b) (p .0) (a .atoms-to) (p .1) (l .result .to) g (o .result .to) (o .result .flags) (o .ensures) (t .result .flags) d in
     complete-least (sheet-of b) (figure-of b) (p .0) (a .atoms-to) (p .1) (l .result .to) g (o .result .to) (o .result .flags) (o .ensures) (t .result .flags) d (c .least .result)
     (c .least .ensures (sheet-of b) (figure-of b) (nets-of (sheet-of b) (figure-of b) (p .0) (a .laid .now) (p .2) (a .figure .contexts) (whole-contexts (a .figure) (a .parts .now) (p .0 .figure-fit))) m)
