@@ -1,5 +1,5 @@
 -- Links of which no two go to one sheet link.
-use Prim.Native.Nat.{ℕ, _+_, _-_, _≤_, _<_}
+use Prim.Native.Nat.{ℕ, _+_, _-_, _<_}
 use mathlib.Core.Path.{_≡_, refl, sym, _∙_, ap, subst}
 use mathlib.Core.Logic.{_≢_}
 use mathlib.Core.List.{List}
@@ -9,7 +9,7 @@ use lib.ListN.{length, getD, set}
 use lib.Seq.{getD-set-same, getD-set-other}
 use Rattle.candidates.specs.declared.ports.PortSet.{PortSet}
 use Rattle.completing.specs.Reach.{Reach, stay}
-use Rattle.stepping.specs.Labels.{Tie, Meet, AllAlone, Apart}
+use Rattle.stepping.specs.Labels.{Tie, AllAlone, Apart}
 use Rattle.stepping.proofs.Tables.{below-next}
 
 module _ (to : List ℕ) (none : ℕ) where

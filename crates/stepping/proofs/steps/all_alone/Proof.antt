@@ -5,7 +5,7 @@ use mathlib.Core.Path.{_≡_, refl, sym, subst}
 use mathlib.Core.Bool.{false≢true}
 use mathlib.Core.Logic.{⊎-elim}
 use native.Mathlib.Omega.{arith}
-use lib.ListN.{length, getD, replicate, length-set}
+use lib.ListN.{length, replicate, length-set}
 use Rattle.rows.specs.Limits.{sheetLinks}
 use Rattle.stepping.specs.Labels.{AllAlone}
 use Rattle.stepping.proofs.Alone.{AloneTo, alone-start, alone-none, alone-new}
