@@ -2,7 +2,7 @@
 use Prim.Native.Nat.{ℕ, suc, _<_, _≤_}
 use mathlib.Core.Path.{_≡_}
 use mathlib.Core.Logic.{_↔_}
-use mathlib.Core.List.{List, []}
+use mathlib.Core.List.{List, [], _∷_}
 use lib.ListN.{length, take, getD}
 use Rattle.hyperlmntal.specs.Link.{_∈_}
 use Rattle.rows.specs.Limits.{sheetLinks, figureContexts, contextRoom}
@@ -15,6 +15,10 @@ use Rattle.candidates.specs.declared.ports.PortSet.{PortSet}
 -- what code reads at an index; past the end the logic reads zeros
 abbrev pub setAt : List PortSet → ℕ → PortSet
 setAt sets c = getD sets c (record { number = 0; links = [] })
+
+-- a place that no context has
+abbrev pub noPorts : PortSet
+noPorts = record { number = 0; links = 0 ∷ 0 ∷ [] }
 
 -- context c has link x
 abbrev pub PortIn : List PortSet → ℕ → ℕ → Type 0

@@ -1,9 +1,8 @@
 // A normal form without its atoms, which are laid out and lent beside it.
 use crate::ports::PortSet;
-use crate::ports::port_sets;
 use rows::Sheet;
-ghost use Rattle.network.specs.NetIn.{Fit};
-ghost use Rattle.candidates.specs.Frames.{FrameOf};
+ghost use mathlib.Core.Path.{_≡_};
+ghost use Rattle.candidates.specs.Frames.{frameWith};
 
 pub struct Frame {
     pub atom_count: usize,
@@ -15,12 +14,10 @@ pub struct Frame {
     pub class_count: usize,
 }
 
-pub fn frame_of(net: Sheet) -> Frame
-    requires { ⌜ Fit net ⌝ }
-    ensures { λ r. ⌜ FrameOf net r ⌝ }
+// The contexts are handed over as sets.
+pub fn frame_of(net: Sheet, contexts: [PortSet; Sheet::CONTEXT_ROOM]) -> Frame
+    ensures { λ r. ⌜ r ≡ frameWith net contexts ⌝ }
 {
-    let rows = net.contexts;
-    let contexts = port_sets(rows, net.context_count);
     let marks = net.marks;
     let marked = net.marked;
     Frame {

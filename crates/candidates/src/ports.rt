@@ -7,7 +7,7 @@ ghost use mathlib.Core.Path.{_≡_};
 ghost use lib.ListN.{length};
 ghost use Rattle.rows.specs.Limits.{sheetLinks, figureContexts, contextRoom};
 ghost use Rattle.network.specs.NetIn.{rowAt, Numbered};
-ghost use Rattle.candidates.specs.PortSets.{setAt, LinksOf, SetOf};
+ghost use Rattle.candidates.specs.PortSets.{setAt, noPorts, LinksOf, SetOf};
 
 // The number of a context and the set of its links, counted from 0: neither their order matters to a placing, nor how
 // often each stands in the row.
@@ -30,13 +30,13 @@ fn set_of(links: [u16; Sheet::MOST_LINKS], count: usize) -> [u64; 2]
     set
 }
 
-// The sets of the first `count` contexts.
-pub(crate) fn port_sets(
+// The sets of the first `count` contexts, and behind them none.
+pub fn port_sets(
     contexts: [Context; Sheet::CONTEXT_ROOM],
     count: usize,
 ) -> [PortSet; Sheet::CONTEXT_ROOM]
     requires { ⌜ (count ≤ figureContexts) × ((c : ℕ) → c < count → Numbered sheetLinks (rowAt contexts c .count) (rowAt contexts c .links)) ⌝ }
-    ensures { λ r. ⌜ (length r ≡ contextRoom) × ((c : ℕ) → c < count → SetOf (rowAt contexts c) (setAt r c)) ⌝ }
+    ensures { λ r. ⌜ (length r ≡ contextRoom) × ((c : ℕ) → c < count → SetOf (rowAt contexts c) (setAt r c)) × ((c : ℕ) → count ≤ c → c < contextRoom → setAt r c ≡ noPorts) ⌝ }
 {
     let none = PortSet {
         number: 0,

@@ -1,24 +1,25 @@
--- Invariant: the sets of the contexts so far.
+-- Invariant: the sets of the contexts so far, and none behind them.
 use borrow.Author.Needs.{needs}
 use Prim.Native.Nat.{ℕ, _-_, _≤_, _<_}
 use native.Mathlib.Omega.{arith}
-use mathlib.Core.Path.{_≡_, refl}
-use lib.ListN.{length, length-set}
+use mathlib.Core.Path.{_≡_, refl, _∙_}
+use lib.ListN.{length, length-set, getD-replicate}
+use lib.Seq.{getD-set-other}
 use Rattle.rows.specs.Limits.{contextRoom}
 use Rattle.network.specs.NetIn.{rowAt}
-use Rattle.candidates.specs.PortSets.{setAt, SetOf}
+use Rattle.candidates.specs.PortSets.{setAt, noPorts, SetOf}
 use Rattle.candidates.proofs.PortRows.{sets-next}
 use Rattle.candidates.proofs.ports.port_sets.Statement.{statement}
 use Rattle.candidates.proofs.ports.port_sets.Tie as tie
 
 abbrev Inv-loop : tie.InvT-loop
-Inv-loop count contexts sets₀ c₀ sets c = (c ≤ count) × (length sets ≡ contextRoom) × ((i : ℕ) → i < c → SetOf (rowAt contexts i) (setAt sets i))
+Inv-loop count contexts sets₀ c₀ sets c = (c ≤ count) × (length sets ≡ contextRoom) × ((i : ℕ) → i < c → SetOf (rowAt contexts i) (setAt sets i)) × ((i : ℕ) → c ≤ i → i < contextRoom → setAt sets i ≡ noPorts)
 
 abbrev μ-loop : tie.MeasureT-loop
 μ-loop count contexts sets₀ c₀ sets c = count - c
 
 loop-holds : tie.Need-loop-holds Inv-loop μ-loop
-loop-holds c = (search needs, refl, λ i h. absurd (omega arith))
+loop-holds c = (search needs, refl, (λ i h. absurd (omega arith)), λ i h l. getD-replicate contextRoom i noPorts _ l)
 
 mul-row : tie.Need-mul-row Inv-loop μ-loop
 mul-row c = search needs
@@ -47,10 +48,10 @@ loop-less c = search needs
 
 loop-again : tie.Need-loop-again Inv-loop μ-loop
 loop-again c = let l = c .before .before .before .before .before in
-    (omega arith, simp length-set (l .loop .inv .1), sets-next (l .before .args .t1) (l .loop .c) (l .loop .sets) (omega (arith, l .loop .inv .1, l .before .pre .0)) (l .loop .inv .2) _ (record { number = refl; ports = c .set-of .ensures }))
+    (omega arith, simp length-set (l .loop .inv .1), sets-next (l .before .args .t1) (l .loop .c) (l .loop .sets) (omega (arith, l .loop .inv .1, l .before .pre .0)) (l .loop .inv .2) _ (record { number = refl; ports = c .set-of .ensures }), λ i h m. getD-set-other (l .loop .sets) (l .loop .c) i _ _ (λ e. omega (arith, e, h)) ∙ l .loop .inv .3 i (omega arith) m)
 
 returns : tie.Need-returns Inv-loop μ-loop
-returns c = let l = c .before .loop in (l .inv .1, λ i h. l .inv .2 i (omega arith))
+returns c = let l = c .before .loop in (l .inv .1, (λ i h. l .inv .2 i (omega arith)), λ i h m. l .inv .3 i (omega arith) m)
 
 pub port-sets-spec : {M : Type 1} → statement M
 port-sets-spec =

@@ -10,8 +10,10 @@ use Rattle.rows.specs.declared.Sheet.{Sheet as NormalForm}
 use Rattle.network.specs.NetIn.{netIn}
 use Rattle.network.specs.Ready.{Ready, AtomsIn}
 use Rattle.matching.specs.Search.{searchFrom}
-use Rattle.candidates.specs.Frames.{whole}
+use Rattle.candidates.specs.Frames.{FrameOf, whole}
 use Rattle.candidates.specs.Laid.{LaidOut}
+use Rattle.candidates.specs.declared.frame.Frame.{Frame}
+use Rattle.candidates.proofs.PortRows.{wider}
 use Rattle.candidates.proofs.Framing.{whole-laid}
 use Rattle.candidates.proofs.Laying.{laid-rowed}
 use Rattle.candidates.proofs.Marks.{own-marks, mark-links}
@@ -22,24 +24,47 @@ use borrow.Author.Needs.{needs}
 use Rattle.matching.proofs.search.smallest_placing.Statement.{statement}
 use Rattle.matching.proofs.search.smallest_placing.Tie as tie
 
--- the sheet and the figure where their frames are made
+-- where the frames are made, the beginning and what was made
+abbrev start-of : tie.After-frame-of2 → tie.Start
+start-of a = a .before .before .before .before .before .before .before .before .before .before .before .before
+
+abbrev laid-of : tie.After-frame-of2 → List ℕ
+laid-of a = a .before .before .before .before .before .before .before .before .lay .last .1 .0
+
+abbrev parts-of : tie.After-frame-of2 → List ℕ
+parts-of a = a .before .before .before .before .before .before .lay2 .last .1 .0
+
+abbrev sheet-frame : tie.After-frame-of2 → Frame
+sheet-frame a = a .before .before .before .frame-of .result
+
+abbrev figure-frame : tie.After-frame-of2 → Frame
+figure-frame a = a .frame-of2 .result
+
 abbrev sheet-of : tie.After-frame-of2 → NormalForm
-sheet-of a = whole (a .before .frame-of .result) (a .before .before .before .before .lay .last .1 .0)
+sheet-of a = whole (sheet-frame a) (laid-of a)
 
 abbrev figure-of : tie.After-frame-of2 → NormalForm
-figure-of a = whole (a .frame-of2 .result) (a .before .before .lay2 .last .1 .0)
+figure-of a = whole (figure-frame a) (parts-of a)
 
-given-sheet : (a : tie.After-frame-of2) → let b = a .before .before .before .before .before .before .before .before in LaidOut (b .args .sheet) (a .before .before .before .before .lay .last .1 .0) (b .args .sheet .«atom_count»)
-given-sheet a = let b = a .before .before .before .before .before .before .before .before in record { count = refl; fit = b .pre .sheet-fit; normal = b .pre .sheet-normal; atoms = a .before .before .before .before .lay .ensures .1 }
+given-sheet : (a : tie.After-frame-of2) → LaidOut (start-of a .args .sheet) (laid-of a) (start-of a .args .sheet .«atom_count»)
+given-sheet a = record { count = refl; fit = start-of a .pre .sheet-fit; normal = start-of a .pre .sheet-normal; atoms = a .before .before .before .before .before .before .before .before .lay .ensures .1 }
 
-given-figure : (a : tie.After-frame-of2) → let b = a .before .before .before .before .before .before .before .before in LaidOut (b .args .figure) (a .before .before .lay2 .last .1 .0) (b .args .figure .«atom_count»)
-given-figure a = let b = a .before .before .before .before .before .before .before .before in record { count = refl; fit = b .pre .figure-fit; normal = b .pre .figure-normal; atoms = a .before .before .lay2 .ensures .1 }
+given-figure : (a : tie.After-frame-of2) → LaidOut (start-of a .args .figure) (parts-of a) (start-of a .args .figure .«atom_count»)
+given-figure a = record { count = refl; fit = start-of a .pre .figure-fit; normal = start-of a .pre .figure-normal; atoms = a .before .before .before .before .before .before .lay2 .ensures .1 }
 
-sheet-laid : (a : tie.After-frame-of2) → LaidOut (sheet-of a) (a .before .before .before .before .lay .last .1 .0) (a .before .frame-of .result .«atom_count»)
-sheet-laid a = whole-laid (a .before .before .before .before .before .before .before .before .args .sheet) _ (given-sheet a) (a .before .frame-of .result) (a .before .frame-of .ensures)
+sheet-framed : (a : tie.After-frame-of2) → FrameOf (start-of a .args .sheet) (sheet-frame a)
+sheet-framed a = let p = a .before .before .before .before .port-sets in
+    record { sets = p .result; is = a .before .before .before .frame-of .ensures; contexts-in = record { fit = start-of a .pre .sheet-fit; room = p .ensures .0; row-count = refl; link-count = refl; each = p .ensures .1 } }
 
-figure-laid : (a : tie.After-frame-of2) → LaidOut (figure-of a) (a .before .before .lay2 .last .1 .0) (a .frame-of2 .result .«atom_count»)
-figure-laid a = whole-laid (a .before .before .before .before .before .before .before .before .args .figure) _ (given-figure a) (a .frame-of2 .result) (a .frame-of2 .ensures)
+figure-framed : (a : tie.After-frame-of2) → FrameOf (start-of a .args .figure) (figure-frame a)
+figure-framed a = let p = a .before .port-sets2 in
+    record { sets = p .result; is = a .frame-of2 .ensures; contexts-in = record { fit = start-of a .pre .figure-fit; room = p .ensures .0; row-count = refl; link-count = refl; each = p .ensures .1 } }
+
+sheet-laid : (a : tie.After-frame-of2) → LaidOut (sheet-of a) (laid-of a) (sheet-frame a .«atom_count»)
+sheet-laid a = whole-laid (start-of a .args .sheet) _ (given-sheet a) (sheet-frame a) (sheet-framed a)
+
+figure-laid : (a : tie.After-frame-of2) → LaidOut (figure-of a) (parts-of a) (figure-frame a .«atom_count»)
+figure-laid a = whole-laid (start-of a .args .figure) _ (given-figure a) (figure-frame a) (figure-framed a)
 
 ready : (a : tie.After-frame-of2) → Ready (sheet-of a) (figure-of a)
 ready a = laid-ready _ _ _ _ _ _ (sheet-laid a) (figure-laid a)
@@ -64,8 +89,14 @@ lay-requires c κs = search needs
 lay-requires-2 : tie.Need-lay-requires-2
 lay-requires-2 c κs = search needs
 
+port-sets-requires : tie.Need-port-sets-requires
+port-sets-requires c κs = let f = c .before .before .before .before .before .before .before .pre .sheet-fit in (f .context-count, λ i h. wider (f .contexts i h) (f .class-count))
+
 frame-of-requires : tie.Need-frame-of-requires
 frame-of-requires c κs = search needs
+
+port-sets-requires-2 : tie.Need-port-sets-requires-2
+port-sets-requires-2 c κs = let f = c .before .before .before .before .before .before .before .before .before .before .pre .figure-fit in (f .context-count, λ i h. wider (f .contexts i h) (f .class-count))
 
 frame-of-requires-2 : tie.Need-frame-of-requires-2
 frame-of-requires-2 c κs = search needs
@@ -81,8 +112,8 @@ leaf-room c = (search (needs, c .leaf .ok), search (needs, c .leaf .ok))
 returns-2 : tie.Need-returns-2
 returns-2 c =
     let a = c .before .before .before .before in
-    let b = a .before .before .before .before .before .before .before .before in
-    placed-whole (b .args .sheet) (b .args .figure) _ _ (given-sheet a) (given-figure a) _ _ (a .before .frame-of .ensures) (a .frame-of2 .ensures) (c .leaf .result)
+    let b = start-of a in
+    placed-whole (b .args .sheet) (b .args .figure) _ _ (given-sheet a) (given-figure a) _ _ (sheet-framed a) (figure-framed a) (c .leaf .result)
     (placed-smallest (sheet-of a) (figure-of a) (ready a) (c .leaf .result) (leaf-room c .0) (leaf-room c .1)
     (c .leaf .ensures ∙ ap (λ (k : ℕ). searchFrom (netIn (sheet-of a)) (netIn (figure-of a)) (take k (replicate sheetAtoms 0))) (c .before .before .before .if2 .taken)))
 
@@ -105,10 +136,10 @@ nothing-requires-2 c κs = search needs
 returns-3 : tie.Need-returns-3
 returns-3 c =
     let a = c .before .before .before .before .before .before .before .before .before .before .before .before in
-    let b = a .before .before .before .before .before .before .before .before in
+    let b = start-of a in
     let s = c .before .before .before .before .before .before .start in
     let chosen : List ℕ = replicate sheetAtoms 0 in
-    placed-whole (b .args .sheet) (b .args .figure) _ _ (given-sheet a) (given-figure a) _ _ (a .before .frame-of .ensures) (a .frame-of2 .ensures) (c .nothing2 .result)
+    placed-whole (b .args .sheet) (b .args .figure) _ _ (given-sheet a) (given-figure a) _ _ (sheet-framed a) (figure-framed a) (c .nothing2 .result)
     (placed-smallest (sheet-of a) (figure-of a) (ready a) (c .nothing2 .result) (nothing-room c .0) (nothing-room c .1)
     (nothing-begun (sheet-of a) (figure-of a) (ready a) chosen 0 (omega arith) (no-atoms (sheet-of a) chosen refl)
     (c .before .before .mark-lost .ensures (c .before .if3 .taken) (sheet-of a) (figure-of a) _ (ready a .sheet-fit) (ready a .sheet-normal) (own-marks (figure-of a) (ready a .figure-fit) (ready a .figure-normal)) [] (s .last .1 .1 .1 .1 .0) (s .ensures)) (c .nothing2 .result) (c .nothing2 .ensures)))
@@ -140,8 +171,8 @@ search-requires c κs = let a = c .before .before .before .before .before .befor
 returns-4 : tie.Need-returns-4
 returns-4 c =
     let a = c .before .before .before .before .before .before .before .before .before .before .before .before .before .before .before .before .before .before .before .before .before .before .before .before .before .before .before .before .before .before .before .before .before in
-    let b = a .before .before .before .before .before .before .before .before in
-    placed-whole (b .args .sheet) (b .args .figure) _ _ (given-sheet a) (given-figure a) _ _ (a .before .frame-of .ensures) (a .frame-of2 .ensures) (c .search .result)
+    let b = start-of a in
+    placed-whole (b .args .sheet) (b .args .figure) _ _ (given-sheet a) (given-figure a) _ _ (sheet-framed a) (figure-framed a) (c .search .result)
     (placed-smallest (sheet-of a) (figure-of a) (ready a) (c .search .result) (search-room c .0) (search-room c .1) (c .search .ensures))
 
 pub smallest-placing-spec : {M : Type 1} → statement M
@@ -153,7 +184,9 @@ smallest-placing-spec =
     returns
     lay-requires
     lay-requires-2
+    port-sets-requires
     frame-of-requires
+    port-sets-requires-2
     frame-of-requires-2
     leaf-requires
     returns-2
