@@ -4,4 +4,3 @@ pub mod SearchWhole
 mod Forcing
 mod NextDigit
 pub mod Leftover
-mod SameNets
