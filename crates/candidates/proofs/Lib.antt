@@ -3,6 +3,8 @@ pub mod Digits
 pub mod Halves
 pub mod Members
 pub mod Staying
+mod NextDigit
+mod Forcing
 -- What a good placing does at links and atoms.
 pub mod GoodPlaces
 pub mod NetRows

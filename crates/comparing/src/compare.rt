@@ -1,9 +1,9 @@
 // The task compare: whether two sheets are the same.
 use answers::outcome::Compared;
-use matching::identical::identical;
 use matching::search::smallest_placing;
 use reading::read::read_sheet;
 use rows::Sheet;
+use rowwise::identical::identical;
 use sheet::answer::Answer;
 ghost use mathlib.Core.Path.{_≡_};
 ghost use Rattle.rows.specs.Pick.{pick};

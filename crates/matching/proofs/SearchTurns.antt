@@ -14,16 +14,16 @@ use Rattle.rows.specs.Limits.{sheetAtoms}
 use Rattle.rows.specs.declared.Sheet as form
 use Rattle.placing.specs.Net.{Net, Range}
 use Rattle.placing.specs.Placing.{atomTo, numberAt}
-use Rattle.placing.proofs.Tests.{says-eq}
-use Rattle.placing.proofs.FirstLaws.{both-ways, Tried}
+use Rattle.placing.proofs.FirstLaws.{Tried}
 use Rattle.network.specs.NetIn.{netIn, Fit}
 use Rattle.network.specs.Begun.{Begun, testAfter, leastAfter}
 use Rattle.network.proofs.NetIn.{atoms-length}
 use Rattle.network.specs.Ready.{Ready, AtomsIn}
-use Rattle.matching.specs.Search.{mayIn, KeepsIn, Kept, behind, searchFrom, foundList, foundIn, Only, Onward}
+use Rattle.matching.specs.Search.{KeepsIn, Kept, behind, searchFrom, foundList, foundIn, Onward}
 use Rattle.candidates.specs.Sets.{Keeps}
 use Rattle.candidates.specs.Words.{digit}
-use Rattle.candidates.specs.Tables.{mayAtom, mayLink, NoAtom}
+use Rattle.candidates.specs.Tables.{AtomIn, mayAtom, mayLink, NoAtom}
+use Rattle.candidates.specs.Forced.{Only}
 use Rattle.candidates.specs.Laid.{LaidOut}
 use Rattle.narrowing.specs.Steps.{NarrowedBy}
 use Rattle.narrowing.proofs.Passes.{atom-hopeless}
@@ -34,10 +34,10 @@ use Rattle.rows.proofs.Padding.{getD-filled}
 
 -- a candidate that is known to fail, or is not in the sets
 abbrev pub Skipped : List ℕ → List ℕ → ℕ → ℕ → Type 0
-Skipped atoms failed k t = (getD failed t 0 ≡ 1) ⊎ (mayIn atoms k t ≡ false)
+Skipped atoms failed k t = (getD failed t 0 ≡ 1) ⊎ (¬ AtomIn atoms k t)
 
 -- one that is known to fail, and those behind it up to r, which are not in the sets
-pub skip-failed : (atoms failed : List ℕ) (k t r : ℕ) → getD failed t 0 ≡ 1 → ((u : ℕ) → t + 1 ≤ u → u < r → mayIn atoms k u ≡ false) → (u : ℕ) → t ≤ u → u < r → Skipped atoms failed k u
+pub skip-failed : (atoms failed : List ℕ) (k t r : ℕ) → getD failed t 0 ≡ 1 → ((u : ℕ) → t + 1 ≤ u → u < r → ¬ AtomIn atoms k u) → (u : ℕ) → t ≤ u → u < r → Skipped atoms failed k u
 skip-failed atoms failed k t r e f u h l = go (ℕ-discrete u t)
   where
     go : Dec (u ≡ t) → Skipped atoms failed k u
@@ -101,9 +101,8 @@ module _ (sheet figure : form.Sheet) (ready : Ready sheet figure) (chosen : List
         go (no q) f = λ x m l. w x m (omega (arith, q, h, l))
 
     -- the sets keep a sheet atom with which something begins
-    kept : (a l : List ℕ) → KeepsIn sheet figure pre a l → (t : ℕ) → Begun S F (pre ++ (suc t ∷ [])) → mayIn a k t ≡ true
-    unfolding mayIn
-    kept a l keeps t b = says-eq (digit (getD a k 0) t) 1 .complete (sym place ∙ marked)
+    kept : (a l : List ℕ) → KeepsIn sheet figure pre a l → (t : ℕ) → Begun S F (pre ++ (suc t ∷ [])) → AtomIn a k t
+    kept a l keeps t b = sym place ∙ marked
       where
         split : b .0 .atomsTo ≡ pre ++ (suc t ∷ b .2 .0)
         split = b .2 .1 ∙ append-assoc pre (suc t ∷ []) (b .2 .0)
@@ -128,23 +127,23 @@ module _ (sheet figure : form.Sheet) (ready : Ready sheet figure) (chosen : List
         go i l (yes e) = subst (Range (sheet .«atom_count»)) (sym (ap (λ (j : ℕ). getD (set chosen k t) j 0) e ∙ getD-set-same chosen k t 0 (omega (arith, atoms .room, ready .figure-fit .atom-count)))) q
         go i l (no e) = subst (Range (sheet .«atom_count»)) (sym (getD-set-other chosen k i t 0 e)) (atoms .within i (omega (arith, e)))
 
-    -- A figure atom that has one candidate goes there.
-    module _ (a l : List ℕ) (keeps : KeepsIn sheet figure pre a l) (t : ℕ) (only : Only a k (sheet .«atom_count») t) (placed : t ≢ 0) where
-      elsewhere : (u : ℕ) → u < sheet .«atom_count» → suc u ≢ t → ¬ Begun S F (pre ++ (suc u ∷ []))
-      elsewhere u h other b = other (only .1 placed u h (kept a l keeps u b))
+    -- A figure atom that has one candidate goes there: t is counted from 1.
+    module _ (a l : List ℕ) (keeps : KeepsIn sheet figure pre a l) (t : ℕ) (only : Only a k (sheet .«atom_count») (t - 1)) (placed : t ≢ 0) where
+      elsewhere : (u : ℕ) → suc u ≢ t → ¬ Begun S F (pre ++ (suc u ∷ []))
+      elsewhere u other b = other (omega (arith, placed, only .2 u (kept a l keeps u b)))
 
       same-after : (o : Option (List ℕ)) → leastAfter S F (pre ++ (t ∷ [])) ≡ o → searchFrom S F (pre ++ (t ∷ [])) ≡ searchFrom S F pre
       same-after (some l) e =
-          tried-found S F pre small t (omega (arith, only .0, sheet-atoms)) (subst (λ (i : ℕ). Tried (testAfter S F pre) i (restBounds S F pre)) (let q : suc (t - 1) ≡ t = omega (arith, placed) in q) (up-to 0 (t - 1) (omega arith) (tried-start S F pre small) (λ u z h. elsewhere u (omega (arith, only .0)) (λ q. absurd (omega (arith, q)))))) l e
-      same-after none e = ap (behind (pre ++ (t ∷ []))) e ∙ sym (tried-end S F pre small (subst (λ (i : ℕ). Tried (testAfter S F pre) (suc i) (restBounds S F pre)) (sym sheet-atoms) (up-to 0 (sheet .«atom_count») (omega arith) (tried-start S F pre small) (λ u z h. nowhere u h (ℕ-discrete (suc u) t)))))
+          tried-found S F pre small t (omega (arith, placed, only .0, sheet-atoms)) (subst (λ (i : ℕ). Tried (testAfter S F pre) i (restBounds S F pre)) (let q : suc (t - 1) ≡ t = omega (arith, placed) in q) (up-to 0 (t - 1) (omega arith) (tried-start S F pre small) (λ u z h. elsewhere u (λ q. absurd (omega (arith, q)))))) l e
+      same-after none e = ap (behind (pre ++ (t ∷ []))) e ∙ sym (tried-end S F pre small (subst (λ (i : ℕ). Tried (testAfter S F pre) (suc i) (restBounds S F pre)) (sym sheet-atoms) (up-to 0 (sheet .«atom_count») (omega arith) (tried-start S F pre small) (λ u z h. nowhere u (ℕ-discrete (suc u) t)))))
         where
-          nowhere : (u : ℕ) → u < sheet .«atom_count» → Dec (suc u ≡ t) → ¬ Begun S F (pre ++ (suc u ∷ []))
-          nowhere u h (yes q) = subst (λ (i : ℕ). ¬ Begun S F (pre ++ (i ∷ []))) (sym q) (none-begun S F (pre ++ (t ∷ [])) e)
-          nowhere u h (no q) = elsewhere u h q
+          nowhere : (u : ℕ) → Dec (suc u ≡ t) → ¬ Begun S F (pre ++ (suc u ∷ []))
+          nowhere u (yes q) = subst (λ (i : ℕ). ¬ Begun S F (pre ++ (i ∷ []))) (sym q) (none-begun S F (pre ++ (t ∷ [])) e)
+          nowhere u (no q) = elsewhere u q
 
       pub forced-onward : Onward sheet figure a l k chosen (k + 1) (set chosen k t)
       forced-onward = record {
-        atoms-in = next-within t (omega (arith, placed), only .0);
+        atoms-in = next-within t (omega (arith, placed), omega (arith, placed, only .0));
         keeps = λ p g s. keeps p g ((t ∷ s .0), s .1 ∙ ap (λ (m : List ℕ). m ++ s .0) (next-taken t) ∙ append-assoc pre (t ∷ []) (s .0));
         same = ap (searchFrom S F) (next-taken t) ∙ same-after (leastAfter S F (pre ++ (t ∷ []))) refl;
       }
@@ -156,7 +155,7 @@ module _ (sheet figure : form.Sheet) (ready : Ready sheet figure) (chosen : List
       where
         go : (v : ℕ) → Skipped a failed k v → ¬ Begun S F (pre ++ (suc v ∷ []))
         go v (inl e) = u .failures v e
-        go v (inr e) = λ b. both-ways (kept a l keeps v b) e
+        go v (inr e) = λ b. e (kept a l keeps v b)
 
     module _ (failed : List ℕ) (work t : ℕ) (u : Tries sheet figure pre failed work t) (h : t < sheet .«atom_count») where
       more : ¬ Begun S F (pre ++ (suc t ∷ [])) → Tried (testAfter S F pre) (suc (t + 1)) (restBounds S F pre)

@@ -1,12 +1,10 @@
 -- The recursive search: what it gives.
-use Prim.Native.Nat.{ℕ, suc, _+_, _<_, _≤_}
+use Prim.Native.Nat.{ℕ, _+_, _≤_}
 use mathlib.Core.Path.{_≡_}
-use mathlib.Core.Logic.{_≢_}
 use mathlib.Core.List.{List, _++_}
 use mathlib.Core.Bool.{Bool, true}
 use mathlib.Core.Option.{Option, none, some}
-use lib.Dec.{eqb}
-use lib.ListN.{take, getD, set}
+use lib.ListN.{take, set}
 use Rattle.rows.specs.Pick.{pick}
 use Rattle.rows.specs.declared.Sheet as form
 use Rattle.placing.specs.Net.{Net}
@@ -16,7 +14,6 @@ use Rattle.network.specs.Begun.{Begun, leastAfter}
 use Rattle.network.specs.Ready.{Ready, AtomsIn}
 use Rattle.candidates.specs.Sets.{Keeps}
 use Rattle.candidates.specs.Tables.{mayAtom, mayLink}
-use Rattle.candidates.specs.Words.{digit}
 use Rattle.candidates.specs.Laid.{LaidOut}
 use Rattle.candidates.specs.Frames.{whole}
 use Rattle.candidates.specs.declared.frame.Frame.{Frame}
@@ -44,14 +41,6 @@ foundIn sheet figure r = pick (r .ok) (some (foundList sheet figure r)) none
 abbrev pub placedIn : form.Sheet → form.Sheet → Found → Option Placing
 placedIn sheet figure r =
     pick (r .ok) (some (record { atomsTo = take (figure .«atom_count») (r .«atoms_to»); linksTo = take (figure .«class_count») (r .«links_to»); given = take (sheet .«atom_count») (r .given) })) none
-
--- figure atom k may go to sheet atom t, both counted from 0, by the table of the sets
-unfoldable pub mayIn : List ℕ → ℕ → ℕ → Bool
-mayIn atoms k t = eqb (digit (getD atoms k 0) t) 1
-
--- Sheet atom r, counted from 1, is the only one of the first n that figure atom k may go to, or r is 0.
-abbrev pub Only : List ℕ → ℕ → ℕ → ℕ → Type 0
-Only atoms k n r = (r ≤ n) × (r ≢ 0 → (t : ℕ) → t < n → mayIn atoms k t ≡ true → suc t ≡ r)
 
 -- every good placing that begins so stays in the sets
 abbrev pub KeepsIn : form.Sheet → form.Sheet → (pre atoms links : List ℕ) → Type 0

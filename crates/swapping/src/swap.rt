@@ -1,13 +1,13 @@
 // The task swap: the replacement with the fillings of the placed pattern, as normal text, into an output buffer.
 use crate::given::swapped;
 use answers::outcome::Done;
-use matching::identical::same_marks;
 use matching::search::smallest_placing;
 use normalising::normal_text::write_normal;
 use reading::read::read_pattern;
 use reading::read::read_replacement;
 use reading::read::read_sheet;
 use rows::Sheet;
+use rowwise::identical::same_marks;
 use sheet::answer::Answer;
 ghost use mathlib.Core.Path.{_≡_};
 ghost use mathlib.Core.List.{List};

@@ -24,7 +24,7 @@ returns : tie.Need-returns Inv-loop μ-loop
 returns c = c .before .before .before .loop .inv
 
 cast-chosen : tie.Need-cast-chosen Inv-loop μ-loop
-cast-chosen c = omega (arith, c .before .forced .ensures .0, c .before .before .before .before .pre .2)
+cast-chosen c = omega (arith, c .before .forced .ensures (c .before .forced .result - 1) .0 (omega (arith, c .if1 .left)) .0, c .before .before .before .before .pre .2)
 
 mul-chosen : tie.Need-mul-chosen Inv-loop μ-loop
 mul-chosen c = search needs
@@ -41,7 +41,7 @@ loop-less c = search needs
 loop-again : tie.Need-loop-again Inv-loop μ-loop
 loop-again c = let l = c .before .before .before in
     let a = l .before .args in
-    forward-next (a .atoms .now) (a .n) (a .m) (a .k) (a .chosen .now) (l .loop .i) (l .loop .chosen) (l .loop .inv) (c .before .before .loop-test .taken) (c .before .forced .result) (c .before .forced .ensures) (c .if1 .left)
+    forward-next (a .atoms .now) (a .n) (a .m) (a .k) (a .chosen .now) (l .loop .i) (l .loop .chosen) (l .loop .inv) (c .before .before .loop-test .taken) (c .before .forced .result) (c .before .forced .ensures (c .before .forced .result - 1) .0 (omega (arith, c .if1 .left))) (c .if1 .left)
 
 returns-2 : tie.Need-returns-2 Inv-loop μ-loop
 returns-2 c = c .before .loop .inv

@@ -26,7 +26,7 @@ use Rattle.matching.proofs.search.search.Kinds as search-kinds
 use Rattle.matching.proofs.search.+search.Lts-search as search-lts
 use Rattle.matching.proofs.tries.excuse_failed.Reads as excuse-failed-reads
 use Rattle.matching.proofs.forced.advance.Reads as advance-reads
-use Rattle.matching.proofs.forced.next_from.Reads as next-from-reads
+use Rattle.candidates.proofs.forced.next_from.Reads as next-from-reads
 use Rattle.matching.proofs.search.Found.nothing.Reads as nothing-reads
 use Rattle.matching.proofs.search.leaf.Reads as leaf-reads
 use Rattle.matching.proofs.tries.tally.Reads as tally-reads
@@ -134,7 +134,7 @@ module _ (n : ℕ) where
       let f = c .next-from in
       tries-skip (sheet-of b) (figure-of b) (b .pre .1 .ready) (d .advance .last .1 .0) (d .advance .result) (d .advance .ensures .within) (onward d .atoms-in) (unfinished (c .before)) _ _ 0
       (tries-start (sheet-of b) (figure-of b) (b .pre .1 .ready) (d .advance .last .1 .0) (d .advance .result) (d .advance .ensures .within) (onward d .atoms-in) (unfinished (c .before)) _ refl)
-      (b .args .atoms .now) (b .args .links .now) (onward d .keeps) (f .result) (f .ensures .0) (λ v h q. inr (f .ensures .2 v h q))
+      (b .args .atoms .now) (b .args .links .now) (onward d .keeps) (f .result) (f .ensures .after) (λ v h q. inr (f .ensures .passed v h q))
 
   array-read-if3 : search-lts.Need-array-read-if3 (claims n) (search-at n) search′.Post Inv-loop μ-loop
   array-read-if3 c =
@@ -217,7 +217,7 @@ module _ (n : ℕ) where
       (omega (arith, unfinished (l .before .before), b .pre .1 .ready .figure-fit .atom-count), omega (arith, c .before .loop-test .taken, b .pre .1 .ready .sheet-fit .atom-count))
 
   loop-less : search-lts.Need-loop-less (claims n) (search-at n) search′.Post Inv-loop μ-loop
-  loop-less c = omega (arith, c .before .before .loop-test .taken, c .next-from2 .ensures .0)
+  loop-less c = omega (arith, c .before .before .loop-test .taken, c .next-from2 .ensures .after)
 
   loop-again : search-lts.Need-loop-again (claims n) (search-at n) search′.Post Inv-loop μ-loop
   loop-again c =
@@ -230,9 +230,9 @@ module _ (n : ℕ) where
       ⊎-elim
       (λ w. tries-skip (sheet-of b) (figure-of b) (b .pre .1 .ready) (d .advance .last .1 .0) (d .advance .result) (d .advance .ensures .within) (onward d .atoms-in) u (c .before .if3 .failed) (c .before .if3 .work) (l .loop .t + 1)
       (tries-same (w .22) (w .23) (tries-miss (sheet-of b) (figure-of b) (b .pre .1 .ready) (d .advance .last .1 .0) (d .advance .result) (d .advance .ensures .within) (onward d .atoms-in) u (l .loop .failed) (l .loop .work) (l .loop .t) (l .loop .inv) h (w .13 .result) (moved _ _ (b .args .laid .now) (b .args .parts .now) (w .13 .result) (w .8 .ensures) (w .13 .ensures)) (w .14 .left) (w .18 .last .1 .1 .1 .1 .1 .1 .0) (w .18 .ensures (sheet-of b) (lent (sheet-of b) (b .args .laid .now) (b .pre .1 .sheet-laid))) (w .19 .result) (w .19 .ensures)))
-      (b .args .atoms .now) (b .args .links .now) (onward d .keeps) (f .result) (f .ensures .0) (λ v p q. inr (f .ensures .2 v p q)))
+      (b .args .atoms .now) (b .args .links .now) (onward d .keeps) (f .result) (f .ensures .after) (λ v p q. inr (f .ensures .passed v p q)))
       (λ w. tries-same (w .3) (w .4) (tries-skip (sheet-of b) (figure-of b) (b .pre .1 .ready) (d .advance .last .1 .0) (d .advance .result) (d .advance .ensures .within) (onward d .atoms-in) u (l .loop .failed) (l .loop .work) (l .loop .t) (l .loop .inv)
-      (b .args .atoms .now) (b .args .links .now) (onward d .keeps) (f .result) (omega (arith, f .ensures .0)) (skip-failed (b .args .atoms .now) (l .loop .failed) (d .advance .result) (l .loop .t) (f .result) (w .0 .left) (f .ensures .2))))
+      (b .args .atoms .now) (b .args .links .now) (onward d .keeps) (f .result) (omega (arith, f .ensures .after)) (skip-failed (b .args .atoms .now) (l .loop .failed) (d .advance .result) (l .loop .t) (f .result) (w .0 .left) (f .ensures .passed))))
       (c .before .if3 .came)
 
   nothing-requires-2 : search-lts.Need-nothing-requires-2 (claims n) (search-at n) search′.Post Inv-loop μ-loop

@@ -78,7 +78,7 @@ nothing-requires c κs = search needs
 returns : tie.Need-returns
 returns c =
     let b = c .before .before .before in
-    let h = c .before .before .leaves-some .ensures (c .before .if1 .taken) in
+    let h = c .before .before .leaves-some .ensures .0 (c .before .if1 .taken) in
     let chosen : List ℕ = replicate sheetAtoms 0 in
     placed-smallest (b .args .sheet) (b .args .figure) (b .pre) (c .nothing .result) (search (needs, c .nothing .ok)) (search (needs, c .nothing .ok))
     (nothing-begun (b .args .sheet) (b .args .figure) (b .pre) chosen 0 (omega arith) (no-atoms (b .args .sheet) chosen refl) (leftover (b .args .sheet) (b .args .figure) (b .pre) (h .0) (h .1)) (c .nothing .result) (c .nothing .ensures))

@@ -6,9 +6,9 @@ use Prim.Native.Nat.{ℕ, _≤_, _-_, _<_}
 use mathlib.Core.Path.{_≡_, sym, _∙_}
 use native.Mathlib.Omega.{arith}
 use Rattle.network.specs.NetIn.{atomIn, atomAt}
-use Rattle.matching.proofs.SameNets.{identical-placed}
-use Rattle.matching.proofs.identical.identical.Statement.{statement}
-use Rattle.matching.proofs.identical.identical.Tie as tie
+use Rattle.rowwise.proofs.SameNets.{identical-placed}
+use Rattle.rowwise.proofs.identical.identical.Statement.{statement}
+use Rattle.rowwise.proofs.identical.identical.Tie as tie
 
 abbrev Inv-loop : tie.InvT-loop
 Inv-loop a b i₀ i = (i ≤ a .«atom_count») × ((h : ℕ) → h < i → atomIn (atomAt a h) ≡ atomIn (atomAt b h))

@@ -2,8 +2,8 @@ use borrow.Author.Needs.{needs}
 use Prim.Native.Nat.{ℕ}
 use mathlib.Core.Path.{_≡_}
 use native.Mathlib.Omega.{arith}
-use Rattle.matching.proofs.identical.same_counts.Statement.{statement}
-use Rattle.matching.proofs.identical.same_counts.Tie as tie
+use Rattle.rowwise.proofs.identical.same_counts.Statement.{statement}
+use Rattle.rowwise.proofs.identical.same_counts.Tie as tie
 
 returns : tie.Need-returns
 returns c e = absurd (let z : _≡_ {A = ℕ} 0 1 = cc in omega arith)

@@ -1,13 +1,15 @@
 -- Nets that are equal row by row.
 use Prim.Native.Nat.{ℕ, _+_, _-_, _<_, _≤_}
 use mathlib.Core.Path.{_≡_, refl, ap, ap₂, sym, _∙_, subst}
-use mathlib.Core.List.{List, [], map}
+use mathlib.Core.List.{List, [], _∷_, _++_, map}
 use mathlib.Core.Bool.{true, false}
 use mathlib.Core.Option.{Option, none, some}
+use native.Mathlib.Numerals.{add-one}
 use native.Mathlib.Omega.{arith}
 use lib.ListN.{length, take, getD}
-use lib.Seq.{length-take-le, getD-take, ext-getD}
+use lib.Seq.{take-suc, length-take-le, getD-take, ext-getD}
 use Rattle.hyperlmntal.specs.Congruence.{_≅_, ≅-refl}
+use Rattle.rows.specs.declared.Atom.{Atom}
 use Rattle.rows.specs.declared.Sheet as form
 use Rattle.placing.specs.Net.{Net, NormalSheet, netTerm}
 use Rattle.placing.specs.Placing.{Placing, cellAt}
@@ -30,6 +32,13 @@ module _ (a b : List ℕ) (m n : ℕ) (h : m ≤ length a) (l : n ≤ length b) 
 
   pub number-differs : m ≡ n → (k : ℕ) → k < m → (getD a k 0 ≡ getD b k 0 → ⊥) → false ≡ sameList (take m a) (take n b)
   number-differs e k q d = sym (turned-down (says-list (take m a) (take n b)) (λ s. d (sym (getD-take m a k 0 q) ∙ ap (λ (t : List ℕ). getD t k 0) s ∙ getD-take n b k 0 (omega (arith, e, q)))))
+
+-- One turn of the loop that compares the links of two atoms, and its end.
+pub same-next : (l m : List ℕ) (k : ℕ) → k < length l → k < length m → take k l ≡ take k m → getD l k 0 ≡ getD m k 0 → take (k + 1) l ≡ take (k + 1) m
+same-next l m k h h′ e q = rw (add-one k) (take-suc l k 0 h ∙ ap₂ (λ (n : List ℕ) (x : ℕ). n ++ (x ∷ [])) e q ∙ sym (take-suc m k 0 h′))
+
+pub same-end : (a b : Atom) (k : ℕ) → a .name ≡ b .name → a .count ≡ b .count → k ≡ a .count → take k (a .links) ≡ take k (b .links) → atomIn a ≡ atomIn b
+same-end a b k name count end e = ap₂ (λ (n : ℕ) (l : List ℕ). (n, l)) name (ap (λ j. take j (a .links)) (sym end) ∙ e ∙ ap (λ j. take j (b .links)) (end ∙ count))
 
 no-contexts : (n : form.Sheet) → n .«context_count» ≡ 0 → netIn n .contexts ≡ []
 no-contexts n e = ap (λ (c : ℕ). map contextIn (take c (n .contexts))) e

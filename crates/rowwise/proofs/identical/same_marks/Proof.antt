@@ -5,9 +5,9 @@ use Prim.Native.Nat.{ℕ, _≤_, _-_, _<_}
 use mathlib.Core.Path.{_≡_, sym}
 use native.Mathlib.Omega.{arith}
 use lib.ListN.{getD}
-use Rattle.matching.proofs.SameNets.{all-same, counts-differ, number-differs}
-use Rattle.matching.proofs.identical.same_marks.Statement.{statement}
-use Rattle.matching.proofs.identical.same_marks.Tie as tie
+use Rattle.rowwise.proofs.SameNets.{all-same, counts-differ, number-differs}
+use Rattle.rowwise.proofs.identical.same_marks.Statement.{statement}
+use Rattle.rowwise.proofs.identical.same_marks.Tie as tie
 
 abbrev Inv-loop : tie.InvT-loop
 Inv-loop a m b n k₀ k = (k ≤ m) × (m ≡ n) × ((h : ℕ) → h < k → getD a h 0 ≡ getD b h 0)

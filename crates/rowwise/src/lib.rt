@@ -1,0 +1,2 @@
+// Two nets compared row by row, without a search.
+pub mod identical;
