@@ -5,7 +5,7 @@ use candidates::ports::PortSet;
 use candidates::words::ALL;
 use candidates::words::DIGITS;
 use rows::Sheet;
-ghost use Prim.Native.Nat.{ℕ, _<_};
+ghost use Prim.Native.Nat.{ℕ, _<_, _≤_};
 ghost use mathlib.Core.Path.{_≡_};
 ghost use mathlib.Core.Logic.{_⊎_};
 ghost use lib.ListN.{length};
@@ -47,28 +47,30 @@ fn unless_in(flag: u8, word: u64, t: usize) -> u8
     flag
 }
 
-// The flags without those of the set.
-fn flags_beside(flags: &[u8; Sheet::LINKS], set: [u64; 2]) -> [u8; Sheet::LINKS]
-    ensures { λ r. ⌜ (length r ≡ sheetLinks) × FlagsBeside (now (flags .entry)) set sheetLinks r ⌝ }
+// The flags of the first `count` links without those of the set.
+fn flags_beside(flags: &[u8; Sheet::LINKS], set: [u64; 2], count: usize) -> [u8; Sheet::LINKS]
+    requires { ⌜ count ≤ sheetLinks ⌝ }
+    ensures { λ r. ⌜ (length r ≡ sheetLinks) × FlagsBeside (now (flags .entry)) set count r ⌝ }
 {
     let mut r = [0u8; Sheet::LINKS];
     let mut x = 0;
-    while x < Sheet::LINKS {
+    while x < count {
         r[x] = unless_in(flags[x], set[x / DIGITS], x % DIGITS);
         x += 1;
     }
     r
 }
 
-// The flags of the links that stand on two context rows or more.
+// The flags of the links, which are `count`, that stand on two context rows or more.
 pub fn several(
     contexts: [PortSet; Sheet::CONTEXT_ROOM],
     rows: usize,
+    count: usize,
     flags: &[u8; Sheet::LINKS],
 ) -> [u8; Sheet::LINKS]
-    requires { ⌜ ((links : ℕ) × Ports contexts rows links) ⌝ }
-    ensures { λ r. ⌜ (length r ≡ sheetLinks) × ((figure : NormalForm) (links : ℕ) → ContextsIn figure contexts rows links → SeveralIn figure links (now (flags .entry)) r) ⌝ }
+    requires { ⌜ Ports contexts rows count ⌝ }
+    ensures { λ r. ⌜ (length r ≡ sheetLinks) × ((figure : NormalForm) → ContextsIn figure contexts rows count → SeveralIn figure count (now (flags .entry)) r) ⌝ }
 {
     let set = on_one(contexts, rows);
-    flags_beside(flags, set)
+    flags_beside(flags, set, count)
 }

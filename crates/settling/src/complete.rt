@@ -91,12 +91,23 @@ fn least<'a>(
     let contexts = nets.contexts;
     let kind = kinds(contexts, nets.rows);
     let words = standing(contexts, nets.rows);
-    let tried = several(contexts, nets.rows, flags);
-    let bars = [0u64; LINK_SETS];
+    let tried = several(contexts, nets.rows, nets.count, flags);
+    let mut bars = [0u64; LINK_SETS];
     if !completable(nets, laid, &table, taken, &kind, &words, to, &tried, &bars) {
         return nothing();
     }
-    let links_to = settled(nets, laid, &table, taken, &kind, &words, to, flags, &tried);
+    let links_to = settled(
+        nets,
+        laid,
+        &table,
+        taken,
+        &kind,
+        &words,
+        to,
+        flags,
+        &tried,
+        &mut bars,
+    );
     let last = find(nets, laid, &table, taken, &links_to);
     let given = last.given;
     Completed {

@@ -5,9 +5,9 @@ use candidates::LINK_SETS;
 use faults::nets::Nets;
 use rows::Sheet;
 use stepping::CHAINS;
-ghost use Prim.Native.Nat.{_<_};
+ghost use Prim.Native.Nat.{ℕ, _<_};
 ghost use mathlib.Core.Path.{_≡_};
-ghost use lib.ListN.{length};
+ghost use lib.ListN.{length, replicate};
 ghost use Rattle.rows.specs.Limits.{sheetLinks};
 ghost use Rattle.rows.specs.declared.Sheet.{Sheet as NormalForm};
 ghost use Rattle.settling.specs.Completes.{Tables, FirstFor, KeepsBars, Settles};
@@ -50,7 +50,7 @@ fn first_link(
     (y + 1) as u16
 }
 
-// The links with a flag in `opened` settled; those on several rows have one in `flags` too.
+// The links with a flag in `opened` settled; those on several rows have one in `flags` too. Nothing is barred at first.
 pub(crate) fn settled(
     nets: Nets,
     laid: &[u16; LAID],
@@ -61,14 +61,14 @@ pub(crate) fn settled(
     to: &[u16; Sheet::LINKS],
     opened: &[u8; Sheet::LINKS],
     flags: &[u8; Sheet::LINKS],
+    bars: &mut [u64; LINK_SETS],
 ) -> [u16; Sheet::LINKS]
-    requires { ⌜ ((sheet : NormalForm) × (figure : NormalForm) × Tables sheet figure nets (now laid) (now chains) (now kinds) (now standing) (now to)) × (length (now opened) ≡ sheetLinks) × (length (now flags) ≡ sheetLinks) ⌝ }
+    requires { ⌜ ((sheet : NormalForm) × (figure : NormalForm) × Tables sheet figure nets (now laid) (now chains) (now kinds) (now standing) (now to)) × (length (now opened) ≡ sheetLinks) × (length (now flags) ≡ sheetLinks) × ((n : ℕ) × (now bars ≡ replicate n 0)) ⌝ }
     ensures { λ r. ⌜ ((sheet figure : NormalForm) → Tables sheet figure nets (now (laid .entry)) (now (chains .entry)) (now (kinds .entry)) (now (standing .entry)) (now (to .entry)) → Settles sheet figure (now (taken .entry)) (now (to .entry)) (now (opened .entry)) (now (flags .entry)) r) ⌝ }
 {
     let mut next = *to;
     let mut rest = *opened;
     let mut several = *flags;
-    let mut bars = [0u64; LINK_SETS];
     let mut x = 0;
     while x < nets.count {
         if rest[x] == 1 {
@@ -82,7 +82,7 @@ pub(crate) fn settled(
                 &next,
                 &several,
                 x,
-                &mut bars,
+                bars,
             );
             next[x] = y;
             rest[x] = 0;

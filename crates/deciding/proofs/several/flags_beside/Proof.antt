@@ -11,10 +11,10 @@ use Rattle.deciding.proofs.several.flags_beside.Statement.{statement}
 use Rattle.deciding.proofs.several.flags_beside.Tie as tie
 
 abbrev Inv-loop : tie.InvT-loop
-Inv-loop flags set r₀ x₀ r x = (x ≤ sheetLinks) × (length r ≡ sheetLinks) × FlagsBeside flags set x r
+Inv-loop flags count set r₀ x₀ r x = (x ≤ count) × (length r ≡ sheetLinks) × FlagsBeside flags set x r
 
 abbrev μ-loop : tie.MeasureT-loop
-μ-loop flags set r₀ x₀ r x = sheetLinks - x
+μ-loop flags count set r₀ x₀ r x = count - x
 
 loop-holds : tie.Need-loop-holds Inv-loop μ-loop
 loop-holds c = (omega arith, search needs, λ z h. absurd (omega arith))

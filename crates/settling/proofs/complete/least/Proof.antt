@@ -42,7 +42,7 @@ standing-requires : tie.Need-standing-requires
 standing-requires c κs = let b = c .before .before .before .before .before .before in (b .args .nets .count, ports-of (b .pre .0 .2 .contexts-in))
 
 several-requires : tie.Need-several-requires
-several-requires c κs = let b = c .before .before .before .before .before .before .before in (b .args .nets .count, ports-of (b .pre .0 .2 .contexts-in))
+several-requires c κs = let b = c .before .before .before .before .before .before .before in ports-of (b .pre .0 .2 .contexts-in)
 
 completable-requires : tie.Need-completable-requires
 completable-requires c κs = let p = c .before .before .before .before .before .before .before .before .before .before .before .before .before .pre in
@@ -55,23 +55,23 @@ returns-3 : tie.Need-returns-3
 returns-3 c = let a = c .before .before .before .before .before .before .before .before .before .before .before .before .before .before .before .before .args in
     let d = c .before .before .completable in
     λ sheet figure n l. let t = tables-of (c .before .before .before .before .before .before .before .before .before .before .kinds .result) (c .before .before .before .before .before .before .before .before .before .standing .result) (c .before .before .before .before .before .before .before .before .before .before .kinds .ensures) (c .before .before .before .before .before .before .before .before .before .standing .ensures) (over-of (c .before .before .before .before .before .before .before .before .before .before .before .before .before .before .chains .last .0) (c .before .before .before .before .before .before .before .before .before .before .before .before .before .before .chains .ensures) n l) in
-    least-none sheet figure (n .ready) (a .taken .now) (a .to .now) (a .flags .now) (c .before .before .before .before .before .before .before .before .several .result) (several-of figure (a .nets .count) (a .flags .now) (c .before .before .before .before .before .before .before .before .several .result) (n .contexts-in .link-count) (c .before .before .before .before .before .before .before .before .several .ensures .1 figure (a .nets .count) (n .contexts-in))) _ 192 refl (d .result) (d .ensures sheet figure t) (not-true _ (c .before .if3 .taken)) (c .nothing2 .result) (c .nothing2 .ensures)
+    least-none sheet figure (n .ready) (a .taken .now) (a .to .now) (a .flags .now) (c .before .before .before .before .before .before .before .before .several .result) (several-of figure (a .nets .count) (a .flags .now) (c .before .before .before .before .before .before .before .before .several .result) (n .contexts-in .link-count) (c .before .before .before .before .before .before .before .before .several .ensures .1 figure (n .contexts-in))) _ 192 refl (d .result) (d .ensures sheet figure t) (not-true _ (c .before .if3 .taken)) (c .nothing2 .result) (c .nothing2 .ensures)
 
 settled-requires : tie.Need-settled-requires
-settled-requires c κs = let p = c .before .before .before .before .before .before .before .before .before .before .before .before .before .before .before .before .before .before .before .pre in
-    ((p .0 .0, p .0 .1, (tables-of (c .before .before .before .before .before .before .before .before .before .before .before .before .before .kinds .result) (c .before .before .before .before .before .before .before .before .before .before .before .before .standing .result) (c .before .before .before .before .before .before .before .before .before .before .before .before .before .kinds .ensures) (c .before .before .before .before .before .before .before .before .before .before .before .before .standing .ensures) (over-of (c .before .before .before .before .before .before .before .before .before .before .before .before .before .before .before .before .before .chains .last .0) (c .before .before .before .before .before .before .before .before .before .before .before .before .before .before .before .before .before .chains .ensures) (p .0 .2) (p .0 .3)))), p .1, c .before .before .before .before .before .before .before .before .before .before .before .several .ensures .0)
+settled-requires c κs = let p = c .before .before .before .before .before .before .before .before .before .before .before .before .before .before .before .before .before .before .before .before .pre in
+    ((p .0 .0, p .0 .1, (tables-of (c .before .before .before .before .before .before .before .before .before .before .before .before .before .before .kinds .result) (c .before .before .before .before .before .before .before .before .before .before .before .before .before .standing .result) (c .before .before .before .before .before .before .before .before .before .before .before .before .before .before .kinds .ensures) (c .before .before .before .before .before .before .before .before .before .before .before .before .before .standing .ensures) (over-of (c .before .before .before .before .before .before .before .before .before .before .before .before .before .before .before .before .before .before .chains .last .0) (c .before .before .before .before .before .before .before .before .before .before .before .before .before .before .before .before .before .before .chains .ensures) (p .0 .2) (p .0 .3)))), p .1, c .before .before .before .before .before .before .before .before .before .before .before .before .several .ensures .0, (192, refl))
 
 find-requires-2 : tie.Need-find-requires-2
-find-requires-2 c κs = let p = c .before .before .before .before .before .before .before .before .before .before .before .before .before .before .before .before .before .before .before .before .before .before .pre .0 in
-    (p .0, p .1, over-of (c .before .before .before .before .before .before .before .before .before .before .before .before .before .before .before .before .before .before .before .before .chains .last .0) (c .before .before .before .before .before .before .before .before .before .before .before .before .before .before .before .before .before .before .before .before .chains .ensures) (p .2) (c .before .before .settled .ensures (p .0) (p .1) (tables-of (c .before .before .before .before .before .before .before .before .before .before .before .before .before .before .before .before .kinds .result) (c .before .before .before .before .before .before .before .before .before .before .before .before .before .before .before .standing .result) (c .before .before .before .before .before .before .before .before .before .before .before .before .before .before .before .before .kinds .ensures) (c .before .before .before .before .before .before .before .before .before .before .before .before .before .before .before .standing .ensures) (over-of (c .before .before .before .before .before .before .before .before .before .before .before .before .before .before .before .before .before .before .before .before .chains .last .0) (c .before .before .before .before .before .before .before .before .before .before .before .before .before .before .before .before .before .before .before .before .chains .ensures) (p .2) (p .3))) .links-in))
+find-requires-2 c κs = let p = c .before .before .before .before .before .before .before .before .before .before .before .before .before .before .before .before .before .before .before .before .before .before .before .pre .0 in
+    (p .0, p .1, over-of (c .before .before .before .before .before .before .before .before .before .before .before .before .before .before .before .before .before .before .before .before .before .chains .last .0) (c .before .before .before .before .before .before .before .before .before .before .before .before .before .before .before .before .before .before .before .before .before .chains .ensures) (p .2) (c .before .before .settled .ensures (p .0) (p .1) (tables-of (c .before .before .before .before .before .before .before .before .before .before .before .before .before .before .before .before .before .kinds .result) (c .before .before .before .before .before .before .before .before .before .before .before .before .before .before .before .before .standing .result) (c .before .before .before .before .before .before .before .before .before .before .before .before .before .before .before .before .before .kinds .ensures) (c .before .before .before .before .before .before .before .before .before .before .before .before .before .before .before .before .standing .ensures) (over-of (c .before .before .before .before .before .before .before .before .before .before .before .before .before .before .before .before .before .before .before .before .before .chains .last .0) (c .before .before .before .before .before .before .before .before .before .before .before .before .before .before .before .before .before .before .before .before .before .chains .ensures) (p .2) (p .3))) .links-in))
 
 returns-4 : tie.Need-returns-4
-returns-4 c = let a = c .before .before .before .before .before .before .before .before .before .before .before .before .before .before .before .before .before .before .before .before .before .before .before .before .args in
-    let d = c .before .before .before .before .before .before .before .before .before .before .completable in
+returns-4 c = let a = c .before .before .before .before .before .before .before .before .before .before .before .before .before .before .before .before .before .before .before .before .before .before .before .before .before .args in
+    let d = c .before .before .before .before .before .before .before .before .before .before .before .completable in
     let s = c .before .before .before .before .settled in
     let f = c .before .find2 in
-    λ sheet figure n l. let t = tables-of (c .before .before .before .before .before .before .before .before .before .before .before .before .before .before .before .before .before .before .kinds .result) (c .before .before .before .before .before .before .before .before .before .before .before .before .before .before .before .before .before .standing .result) (c .before .before .before .before .before .before .before .before .before .before .before .before .before .before .before .before .before .before .kinds .ensures) (c .before .before .before .before .before .before .before .before .before .before .before .before .before .before .before .before .before .standing .ensures) (over-of (c .before .before .before .before .before .before .before .before .before .before .before .before .before .before .before .before .before .before .before .before .before .before .chains .last .0) (c .before .before .before .before .before .before .before .before .before .before .before .before .before .before .before .before .before .before .before .before .before .before .chains .ensures) n l) in
-    least-some sheet figure (n .ready) (a .taken .now) (a .to .now) (a .flags .now) (c .before .before .before .before .before .before .before .before .before .before .before .before .before .before .before .before .several .result) (several-of figure (a .nets .count) (a .flags .now) (c .before .before .before .before .before .before .before .before .before .before .before .before .before .before .before .before .several .result) (n .contexts-in .link-count) (c .before .before .before .before .before .before .before .before .before .before .before .before .before .before .before .before .several .ensures .1 figure (a .nets .count) (n .contexts-in))) _ 192 refl (d .result) (d .ensures sheet figure t) (not-false _ (c .before .before .before .before .before .before .before .before .before .if3 .left)) (s .result) (s .ensures sheet figure t) (f .result) (f .ensures sheet figure (over-of (c .before .before .before .before .before .before .before .before .before .before .before .before .before .before .before .before .before .before .before .before .before .before .chains .last .0) (c .before .before .before .before .before .before .before .before .before .before .before .before .before .before .before .before .before .before .before .before .before .before .chains .ensures) n (s .ensures sheet figure t .links-in)))
+    λ sheet figure n l. let t = tables-of (c .before .before .before .before .before .before .before .before .before .before .before .before .before .before .before .before .before .before .before .kinds .result) (c .before .before .before .before .before .before .before .before .before .before .before .before .before .before .before .before .before .before .standing .result) (c .before .before .before .before .before .before .before .before .before .before .before .before .before .before .before .before .before .before .before .kinds .ensures) (c .before .before .before .before .before .before .before .before .before .before .before .before .before .before .before .before .before .before .standing .ensures) (over-of (c .before .before .before .before .before .before .before .before .before .before .before .before .before .before .before .before .before .before .before .before .before .before .before .chains .last .0) (c .before .before .before .before .before .before .before .before .before .before .before .before .before .before .before .before .before .before .before .before .before .before .before .chains .ensures) n l) in
+    least-some sheet figure (n .ready) (a .taken .now) (a .to .now) (a .flags .now) (c .before .before .before .before .before .before .before .before .before .before .before .before .before .before .before .before .before .several .result) (several-of figure (a .nets .count) (a .flags .now) (c .before .before .before .before .before .before .before .before .before .before .before .before .before .before .before .before .before .several .result) (n .contexts-in .link-count) (c .before .before .before .before .before .before .before .before .before .before .before .before .before .before .before .before .before .several .ensures .1 figure (n .contexts-in))) _ 192 refl (d .result) (d .ensures sheet figure t) (not-false _ (c .before .before .before .before .before .before .before .before .before .before .if3 .left)) (s .result) (s .ensures sheet figure t) (f .result) (f .ensures sheet figure (over-of (c .before .before .before .before .before .before .before .before .before .before .before .before .before .before .before .before .before .before .before .before .before .before .before .chains .last .0) (c .before .before .before .before .before .before .before .before .before .before .before .before .before .before .before .before .before .before .before .before .before .before .before .chains .ensures) n (s .ensures sheet figure t .links-in)))
 
 pub least-spec : {M : Type 1} → statement M
 least-spec =

@@ -1,6 +1,5 @@
 -- `settle::settled` meets its contract. The loop's invariant: the links before x are settled. Assumes nothing.
 use Prim.Native.Nat.{_-_, _≤_, _<_}
-use mathlib.Core.Path.{refl}
 use mathlib.Core.Logic.{⊎-elim}
 use native.Mathlib.Omega.{arith}
 use Rattle.rows.specs.declared.Sheet as form
@@ -12,15 +11,15 @@ use Rattle.settling.proofs.settle.settled.Statement.{statement}
 use Rattle.settling.proofs.settle.settled.Tie as tie
 
 abbrev Inv-loop : tie.InvT-loop
-Inv-loop nets laid chains taken kinds standing to opened flags next₀ rest₀ several₀ bars₀ x₀ next rest several bars x = (x ≤ nets .count) × ((sheet figure : form.Sheet) → Tables sheet figure nets laid chains kinds standing to → SettledTo sheet figure taken to opened flags next rest several bars x)
+Inv-loop nets laid chains taken kinds standing to opened flags bars₀ next₀ rest₀ several₀ x₀ bars next rest several x = (x ≤ nets .count) × ((sheet figure : form.Sheet) → Tables sheet figure nets laid chains kinds standing to → SettledTo sheet figure taken to opened flags next rest several bars x)
 
 abbrev μ-loop : tie.MeasureT-loop
-μ-loop nets laid chains taken kinds standing to opened flags next₀ rest₀ several₀ bars₀ x₀ next rest several bars x = nets .count - x
+μ-loop nets laid chains taken kinds standing to opened flags bars₀ next₀ rest₀ several₀ x₀ bars next rest several x = nets .count - x
 
 loop-holds : tie.Need-loop-holds Inv-loop μ-loop
 loop-holds c = let b = c .before .before .before in
     let a = b .args in
-    (omega arith, λ sheet figure u. settled-start sheet figure (u .over .nets-in .ready) (a .taken .now) (a .to .now) (a .opened .now) (a .flags .now) (u .over .links-in) (b .pre .1) (b .pre .2) _ 192 refl)
+    (omega arith, λ sheet figure u. settled-start sheet figure (u .over .nets-in .ready) (a .taken .now) (a .to .now) (a .opened .now) (a .flags .now) (u .over .links-in) (b .pre .1) (b .pre .2) (a .bars .now) (b .pre .3 .0) (b .pre .3 .1))
 
 array-read-if2 : tie.Need-array-read-if2 Inv-loop μ-loop
 array-read-if2 c = let b = c .before .before .before .before .before .before in
@@ -70,8 +69,8 @@ loop-again c = let b = c .before .before .before .before .before .before .before
           let h : l .x < figure .«class_count» = omega (arith, c .before .if1 .taken, n .contexts-in .link-count) in
           ⊎-elim
           (λ w. let f = w .4 .ensures sheet figure (tables-links u (v .links-in)) in
-          settled-same (w .5) (w .6) (w .7) (w .8) (settled-next sheet figure (n .ready) (a .taken .now) (a .to .now) (a .opened .now) (a .flags .now) (l .next) (l .rest) (l .several) (l .bars) (l .x) v h (w .0 .taken) (w .4 .result) (f .0) (w .4 .last .1 .1 .1 .1 .1 .1 .1 .1 .1 .0) (f .1)))
-          (λ w. settled-same (w .1) (w .2) (w .3) (w .4) (settled-skip sheet figure (n .ready) (a .taken .now) (a .to .now) (a .opened .now) (a .flags .now) (l .next) (l .rest) (l .several) (l .bars) (l .x) v (w .0 .left)))
+          settled-same (w .6) (w .7) (w .8) (w .5) (settled-next sheet figure (n .ready) (a .taken .now) (a .to .now) (a .opened .now) (a .flags .now) (l .next) (l .rest) (l .several) (l .bars) (l .x) v h (w .0 .taken) (w .4 .result) (f .0) (w .4 .last .1 .1 .1 .1 .1 .1 .1 .1 .1 .0) (f .1)))
+          (λ w. settled-same (w .2) (w .3) (w .4) (w .1) (settled-skip sheet figure (n .ready) (a .taken .now) (a .to .now) (a .opened .now) (a .flags .now) (l .next) (l .rest) (l .several) (l .bars) (l .x) v (w .0 .left)))
           (c .if2 .came),
     )
 
