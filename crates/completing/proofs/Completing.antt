@@ -5,11 +5,10 @@ use mathlib.Core.List.{List, [], List·Memᴰ·not-nil}
 use Rattle.hyperlmntal.specs.Link.{_∈_}
 use Rattle.placing.specs.Net.{Net, Normal}
 use Rattle.placing.specs.Placing.{Placing, linkTo}
-use Rattle.completing.specs.Completion.{Partial, Completable, put, remove, SameContexts}
+use Rattle.completing.specs.Completion.{Partial, Completable, put, remove}
 use Rattle.completing.specs.Fault.{Fault, NoFault, completed}
 use Rattle.completing.proofs.Needs.{fault-needs}
 use Rattle.completing.proofs.Put.{completion-put}
-use Rattle.completing.proofs.Interchange.{interchange}
 use Rattle.completing.proofs.Completed.{completed-completion}
 use Rattle.completing.proofs.NoFault.{least-contexts}
 
@@ -18,18 +17,11 @@ module _ (S F : Net) (NS : Normal S) (NF : Normal F) (q : Placing) (un : List �
   pub no-fault-completable : NoFault S F q → Completable S F q un
   no-fault-completable f = let g = least-contexts S F q f in (completed q (g .0), completed-completion S F q NS NF un a (f .linked) (g .0) (g .1))
 
-  -- With a fault, and if it can be completed, it can with some unsettled link put at a link of the fault's list;
+  -- With a fault, and if it can be completed, it can with some unsettled link put at a link of the fault's list.
   pub fault-completable : {v : List ℕ} → Fault S F q v → Completable S F q un → (x : ℕ) × (x ∈ un) × ((y : ℕ) × (y ∈ v) × Completable S F (put q x y) (remove x un))
   fault-completable f c =
       let t = fault-needs S F NS NF q un a (c .0) (c .1) f in
       (t .0, t .1, (linkTo (c .0) (t .0), t .2, (c .0, completion-put S F NF q un a (t .0) (t .1) (linkTo (c .0) (t .0)) (c .0) (c .1) refl)))
-
-  -- and one unsettled link of each kind is enough to try.
-  pub kinds-suffice : {v : List ℕ} → Fault S F q v → (kinds : List ℕ) → ((x : ℕ) → x ∈ kinds → x ∈ un) → ((x : ℕ) → x ∈ un → (k : ℕ) × (k ∈ kinds) × SameContexts F x k)
-      → Completable S F q un → (x : ℕ) × (x ∈ kinds) × ((y : ℕ) × (y ∈ v) × Completable S F (put q x y) (remove x un))
-  kinds-suffice f kinds in-un each c =
-      let s = fault-completable f c in let t = s .2 in let r = each (s .0) (s .1) in
-      (r .0, r .1, (t .0, t .1, interchange S F NF q un a (s .0) (r .0) (t .0) (s .1) (in-un (r .0) (r .1)) (r .2) (t .2)))
 
 -- Where all links are settled a fault is the end of it.
 pub fault-settled : (S F : Net) → Normal S → Normal F → (q : Placing) → Partial S F q [] → {v : List ℕ} → Fault S F q v → ¬ Completable S F q []

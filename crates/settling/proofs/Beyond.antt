@@ -1,7 +1,7 @@
 -- A failure carried one plain step further.
 use Prim.Native.Nat.{ℕ, suc, _+_, _-_, _≤_, _<_}
 use mathlib.Core.Path.{_≡_, ap, sym, _∙_, subst}
-use mathlib.Core.Logic.{_↔_, _≢_}
+use mathlib.Core.Logic.{_↔_, _≢_, ⊎-elim}
 use mathlib.Core.List.{List}
 use native.Mathlib.Omega.{arith}
 use lib.ListN.{length, getD}
@@ -18,9 +18,9 @@ use Rattle.candidates.proofs.Laying.{laid-rowed}
 use Rattle.candidates.proofs.PortRows.{ports-of}
 use Rattle.completing.specs.Neighbours.{PlainStep, OneEach}
 use Rattle.completing.proofs.Neighbours.{neighbour-completable}
-use Rattle.stepping.specs.Chains.{nodeOf, Falls}
+use Rattle.stepping.specs.Chains.{nodeOf, nodeCount, Falls}
 use Rattle.stepping.specs.Flags.{goesTo}
-use Rattle.stepping.specs.Plain.{FreeBy}
+use Rattle.stepping.specs.Plain.{FreeBy, OtherBy}
 use Rattle.stepping.proofs.Reading.{used-read}
 use Rattle.faults.specs.declared.nets.Nets.{Nets}
 use Rattle.deciding.specs.Bars.{BarredTo}
@@ -63,8 +63,18 @@ module _ (sheet figure : form.Sheet) (nets : Nets) (laid chains kinds used to : 
   pub along-count : nets .count ≤ sheetLinks
   along-count = ports-of (a .nets-in .contexts-in) .links-few
 
-  pub along-atoms : nets .atoms ≤ sheetAtoms
+  along-atoms : nets .atoms ≤ sheetAtoms
   along-atoms = omega (arith, a .nets-in .ready .sheet-fit .atom-count, a .nets-in .laid-out .count)
+
+  -- what is asked where another atom is looked for on a link
+  pub along-other : (y t : ℕ) → y < nets .links → t < nets .atoms → (y < sheetLinks) × (t < sheetAtoms) × Falls nodeCount chains
+  along-other y t h k = (omega (arith, h, along-links), omega (arith, k, along-atoms), record { within = λ v. omega (arith, along-falls .within v, along-atoms); above = along-falls .above; falls = along-falls .falls })
+
+  -- and the one that is found is one of the sheet's
+  pub other-within : (y t u : ℕ) → t < nets .atoms → OtherBy chains y t u → u < nets .atoms
+  other-within y t u h other =
+      let f = a .nets-in .ready .sheet-fit in
+      ⊎-elim (λ e. omega (arith, e, h)) (λ w. omega (arith, w .0, atoms-length sheet f, a .nets-in .laid-out .count)) (other sheet f (a .chains-in))
 
 -- A link once counted back and forth.
 pub step-at : (S F : Net) (q : Placing) (t y z : ℕ) → z ≢ 0 → (u : ℕ) × PlainStep S F q t u y z → (u : ℕ) × PlainStep S F q t u y (suc (z - 1))

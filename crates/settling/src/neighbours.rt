@@ -9,32 +9,16 @@ use rows::Sheet;
 use stepping::CHAINS;
 use stepping::lookup::used_links;
 use stepping::plain::one_each;
+use stepping::plain::other_on;
 use stepping::plain::step_over;
 ghost use Prim.Native.Nat.{ℕ, _<_, _≤_};
 ghost use mathlib.Core.Path.{_≡_};
 ghost use mathlib.Core.List.{List};
 ghost use lib.ListN.{length};
-ghost use Rattle.rows.specs.Limits.{sheetAtoms, sheetLinks};
+ghost use Rattle.rows.specs.Limits.{sheetLinks};
 ghost use Rattle.rows.specs.declared.Sheet.{Sheet as NormalForm};
-ghost use Rattle.stepping.specs.Chains.{nodeOf, Falls};
 ghost use Rattle.settling.specs.Beyond.{Along};
 ghost use Rattle.settling.specs.Completes.{Tables, KeepsBars};
-
-// An atom on link y that is not t, if there is one.
-fn next_atom(chains: &[u16; CHAINS], atoms: usize, t: usize, y: usize) -> usize
-    requires { ⌜ Falls (nodeOf atoms 0) (now chains) × (atoms ≤ sheetAtoms) × (t < atoms) × (y < sheetLinks) ⌝ }
-    ensures { λ r. ⌜ r < atoms ⌝ }
-{
-    let mut v = chains[y] as usize;
-    while v != 0 {
-        let i = (v - Sheet::LINKS) / Sheet::MOST_LINKS;
-        if i != t {
-            return i;
-        }
-        v = chains[v] as usize;
-    }
-    t
-}
 
 // The link to which atom t leads from y is barred to x as y is; it is handed back from 1, 0 where there is none or
 // it was barred before.
@@ -98,7 +82,7 @@ fn follow(
             return;
         }
         at = z - 1;
-        atom = next_atom(chains, nets.atoms, atom, at);
+        atom = other_on(chains, at, atom);
         n += 1;
     }
 }

@@ -43,7 +43,7 @@ fn only_on(chains: &[u16; CHAINS], y: usize, t: usize, u: usize) -> bool
 }
 
 // An atom on link y that is not t; t where there is none.
-fn other_on(chains: &[u16; CHAINS], y: usize, t: usize) -> usize
+pub fn other_on(chains: &[u16; CHAINS], y: usize, t: usize) -> usize
     requires { ⌜ (y < sheetLinks) × (t < sheetAtoms) × Falls nodeCount (now chains) ⌝ }
     ensures { λ r. ⌜ (r < sheetAtoms) × OtherBy (now (chains .entry)) y t r ⌝ }
 {

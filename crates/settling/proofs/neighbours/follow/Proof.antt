@@ -9,7 +9,7 @@ use Rattle.rows.specs.declared.Sheet as form
 use Rattle.settling.specs.Beyond.{Along}
 use Rattle.settling.specs.Completes.{KeepsBars}
 use Rattle.settling.proofs.Trying.{tried-same, tried-then}
-use Rattle.settling.proofs.Beyond.{along-falls, along-links, along-atoms}
+use Rattle.settling.proofs.Beyond.{along-links, along-other, other-within}
 use Rattle.settling.proofs.neighbours.follow.Statement.{statement}
 use Rattle.settling.proofs.neighbours.follow.Tie as tie
 
@@ -43,12 +43,12 @@ returns c = let s = c .before .before .before .before .before .before in
 sub-at : tie.Need-sub-at Inv-loop μ-loop
 sub-at c = omega (arith, c .if2 .left)
 
-next-atom-requires : tie.Need-next-atom-requires Inv-loop μ-loop
-next-atom-requires c κs = let s = c .before .before .before .before .before .before in
+other-on-requires : tie.Need-other-on-requires Inv-loop μ-loop
+other-on-requires c κs = let s = c .before .before .before .before .before .before in
     let a = s .args in
     let p = s .pre in
     let l = c .before .before .before .before .before .loop in
-    (along-falls (p .0 .0) (p .0 .1) (a .nets) (a .laid .now) (a .chains .now) (a .kinds .now) (a .used .now) (p .0 .2) (p .0 .3), along-atoms (p .0 .0) (p .0 .1) (a .nets) (a .laid .now) (a .chains .now) (a .kinds .now) (a .used .now) (p .0 .2) (p .0 .3), l .inv .2, omega (arith, c .if2 .left, c .before .bar-beyond .ensures .0, along-links (p .0 .0) (p .0 .1) (a .nets) (a .laid .now) (a .chains .now) (a .kinds .now) (a .used .now) (p .0 .2) (p .0 .3)))
+    along-other (p .0 .0) (p .0 .1) (a .nets) (a .laid .now) (a .chains .now) (a .kinds .now) (a .used .now) (p .0 .2) (p .0 .3) (c .before .bar-beyond .result - 1) (l .atom) (omega (arith, c .if2 .left, c .before .bar-beyond .ensures .0)) (l .inv .2)
 
 add-n : tie.Need-add-n Inv-loop μ-loop
 add-n c = let s = c .before .before .before .before .before .before .before in
@@ -67,7 +67,7 @@ loop-again c = let s = c .before .before .before .before .before .before .before
     let v = c .before .before .bar-beyond in (
       omega (arith, c .before .before .before .before .if1 .taken),
       omega (arith, c .before .if2 .left, v .ensures .0),
-      c .next-atom .ensures,
+      other-within (p .0 .0) (p .0 .1) (a .nets) (a .laid .now) (a .chains .now) (a .kinds .now) (a .used .now) (p .0 .2) (p .0 .3) (v .result - 1) (l .atom) (c .other-on .result) (l .inv .2) (c .other-on .ensures .1),
       λ sheet figure to flags w e. tried-then sheet figure (a .taken .now) to flags (a .bars .now) (l .bars) (v .last .1 .1 .1 .1 .1 .1 .1 .1 .1 .0) (a .x) (l .inv .3 sheet figure to flags w e) (v .ensures .1 sheet figure to flags w e),
     )
 
@@ -84,7 +84,7 @@ follow-spec =
     bar-beyond-requires
     returns
     sub-at
-    next-atom-requires
+    other-on-requires
     add-n
     loop-less
     loop-again
