@@ -9,6 +9,7 @@ mod Forcing
 pub mod GoodPlaces
 pub mod NetRows
 pub mod Sending
+pub mod Hopeless
 -- Atoms laid out in one array, and marks.
 pub mod Laying
 pub mod PortRows

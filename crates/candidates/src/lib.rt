@@ -1,4 +1,5 @@
 // What a search looks at: the atoms of a net laid out, and where figure atoms and figure links may go, as sets.
+pub mod empty;
 pub mod forced;
 pub mod frame;
 pub mod laid;

@@ -26,7 +26,7 @@ use Rattle.candidates.specs.Tables.{AtomIn, mayAtom, mayLink, NoAtom}
 use Rattle.candidates.specs.Forced.{Only}
 use Rattle.candidates.specs.Laid.{LaidOut}
 use Rattle.narrowing.specs.Steps.{NarrowedBy}
-use Rattle.narrowing.proofs.Passes.{atom-hopeless}
+use Rattle.candidates.proofs.Hopeless.{atom-hopeless}
 use Rattle.symmetry.specs.Follows.{Follows, Excuses}
 use Rattle.matching.specs.declared.search.Found.{Found}
 use Rattle.matching.proofs.SearchLaws.{nothing-found, none-found, some-found, none-begun, begun-none, restBounds, tried-start, tried-next, tried-end, tried-found}

@@ -2,7 +2,6 @@
 mod alone;
 mod barred;
 pub mod choose;
-pub mod empty;
 mod given;
 pub mod narrow;
 pub mod users;

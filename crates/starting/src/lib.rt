@@ -1,5 +1,4 @@
 // Where each figure atom and each figure link may go before the search places anything.
 mod alike;
-pub mod leftover;
 mod profile;
 pub mod start;

@@ -17,6 +17,7 @@ use Rattle.candidates.proofs.PortRows.{wider}
 use Rattle.candidates.proofs.Framing.{whole-laid}
 use Rattle.candidates.proofs.Laying.{laid-rowed}
 use Rattle.candidates.proofs.Marks.{own-marks, mark-links}
+use Rattle.candidates.proofs.Hopeless.{lost-hopeless}
 use Rattle.matching.proofs.Leftover.{leftover}
 use mathlib.Core.Path.{_≡_, refl, sym, _∙_, ap, subst}
 use native.Mathlib.Omega.{arith}
@@ -142,7 +143,7 @@ returns-3 c =
     placed-whole (b .args .sheet) (b .args .figure) _ _ (given-sheet a) (given-figure a) _ _ (sheet-framed a) (figure-framed a) (c .nothing2 .result)
     (placed-smallest (sheet-of a) (figure-of a) (ready a) (c .nothing2 .result) (nothing-room c .0) (nothing-room c .1)
     (nothing-begun (sheet-of a) (figure-of a) (ready a) chosen 0 (omega arith) (no-atoms (sheet-of a) chosen refl)
-    (c .before .before .mark-lost .ensures (c .before .if3 .taken) (sheet-of a) (figure-of a) _ (ready a .sheet-fit) (ready a .sheet-normal) (own-marks (figure-of a) (ready a .figure-fit) (ready a .figure-normal)) [] (s .last .1 .1 .1 .1 .0) (s .ensures)) (c .nothing2 .result) (c .nothing2 .ensures)))
+    (lost-hopeless (sheet-of a) (figure-of a) (ready a .sheet-fit) (ready a .figure-fit) (ready a .sheet-normal) (ready a .figure-normal) [] (s .last .1 .1 .1 .1 .0) (s .last .1 .1 .1 .1 .1 .0) (s .ensures) _ _ _ (own-marks (figure-of a) (ready a .figure-fit) (ready a .figure-normal)) (c .before .before .mark-lost .ensures .0 (c .before .if3 .taken))) (c .nothing2 .result) (c .nothing2 .ensures)))
 
 users-of-requires : tie.Need-users-of-requires
 users-of-requires c κs = (laid-rowed _ _ _ (sheet-laid (c .before .before .before .before .before .before .before .before .before .before .before .before .before)), refl)

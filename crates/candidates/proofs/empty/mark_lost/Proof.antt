@@ -1,22 +1,20 @@
--- Invariant: p is at most the number of marks.
+-- Invariant: none of the first p marks is on a link that may go nowhere.
 use native.Mathlib.Omega.{arith}
-use Prim.Native.Nat.{ℕ, _-_, _≤_}
+use Prim.Native.Nat.{_-_, _≤_}
 use borrow.Author.Needs.{needs}
-use mathlib.Core.Path.{refl, sym, _∙_, subst}
-use mathlib.Core.List.{List}
+use mathlib.Core.Path.{refl, sym, _∙_, ap}
+use mathlib.Core.Bool.{false≢true}
 use lib.ListN.{getD}
 use Rattle.rows.specs.Limits.{sheetLinks}
 use Rattle.placing.specs.Net.{Range}
-use Rattle.placing.proofs.FirstLaws.{both-ways}
-use Rattle.candidates.specs.Words.{InPair}
-use Rattle.candidates.specs.Tables.{NoLink}
-use Rattle.candidates.proofs.Halves.{in-pair, pair-in, none-in-pair}
-use Rattle.narrowing.proofs.Passes.{mark-hopeless}
-use Rattle.narrowing.proofs.empty.mark_lost.Statement.{statement}
-use Rattle.narrowing.proofs.empty.mark_lost.Tie as tie
+use Rattle.candidates.specs.Marks.{MarkLost}
+use Rattle.candidates.specs.Words.{emptyPair}
+use Rattle.candidates.proofs.Hopeless.{none-lost}
+use Rattle.candidates.proofs.empty.mark_lost.Statement.{statement}
+use Rattle.candidates.proofs.empty.mark_lost.Tie as tie
 
 abbrev Inv-loop : tie.InvT-loop
-Inv-loop marked m links p₀ p = p ≤ m
+Inv-loop marked m links p₀ p = (p ≤ m) × ¬ MarkLost marked p links
 
 abbrev μ-loop : tie.MeasureT-loop
 μ-loop marked m links p₀ p = m - p
@@ -26,7 +24,7 @@ mark-link : (c : tie.In-loop Inv-loop μ-loop) → Range sheetLinks (getD (c .be
 mark-link c = c .before .before .pre .numbered (c .before .loop .p) (c .loop-test .taken)
 
 loop-holds : tie.Need-loop-holds Inv-loop μ-loop
-loop-holds c = search needs
+loop-holds c = (omega arith, λ f. omega (arith, f .1))
 
 mul-x : tie.Need-mul-x Inv-loop μ-loop
 mul-x c = search needs
@@ -48,11 +46,7 @@ is-empty-requires c κs = search needs
 
 returns : tie.Need-returns Inv-loop μ-loop
 returns c = let l = c .before .before .before .before .before in
-    let p = l .loop .p in
-    let rows = l .before .args .links .now in
-    let x = getD (l .before .args .marked .now) p 0 - 1 in
-    λ e sheet figure marks fs ns o pre a h. mark-hopeless sheet figure fs (o .fit) ns (o .normal) pre a rows h p (omega (arith, c .before .before .before .before .loop-test .taken, o .count))
-    (subst (λ (w : List ℕ). NoLink rows (getD w p 0 - 1)) (sym (o .same-marked)) (λ y b m. none-in-pair _ (sym (c .before .is-empty .ensures) ∙ c .if1 .taken) y (in-pair b) (subst (λ (w : List ℕ). InPair w y) (sym (c .before .before .pair-at .ensures)) (pair-in rows x y b m))))
+    ((λ e. (l .loop .p, c .before .before .before .before .loop-test .taken, ap emptyPair (sym (c .before .before .pair-at .ensures)) ∙ sym (c .before .is-empty .ensures) ∙ c .if1 .taken)), λ f. refl)
 
 add-p : tie.Need-add-p Inv-loop μ-loop
 add-p c = search needs
@@ -61,10 +55,15 @@ loop-less : tie.Need-loop-less Inv-loop μ-loop
 loop-less c = search needs
 
 loop-again : tie.Need-loop-again Inv-loop μ-loop
-loop-again c = search needs
+loop-again c = let l = c .before .before .before .before .before in
+    let a = l .before .args in (
+      omega (arith, c .before .before .before .before .loop-test .taken),
+      none-lost (a .marked .now) (a .links .now) (l .loop .p) (l .loop .inv .1) (ap emptyPair (sym (c .before .before .pair-at .ensures)) ∙ sym (c .before .is-empty .ensures) ∙ c .if1 .left),
+    )
 
 returns-2 : tie.Need-returns-2 Inv-loop μ-loop
-returns-2 c = λ e. both-ways e refl
+returns-2 c = let l = c .before .loop in
+    ((λ e. absurd (false≢true e)), λ f. absurd (l .inv .1 (f .0, omega (arith, f .1, c .loop-test .left), f .2)))
 
 pub mark-lost-spec : {M : Type 1} → statement M
 mark-lost-spec =

@@ -2,8 +2,8 @@ use borrow.Author.Needs.{needs}
 use borrow.Author.Tests.{lt-ltb}
 use mathlib.Core.Bool.{false≢true}
 use native.Mathlib.Omega.{arith}
-use Rattle.starting.proofs.leftover.leaves_some.Statement.{statement}
-use Rattle.starting.proofs.leftover.leaves_some.Tie as tie
+use Rattle.rowwise.proofs.leftover.leaves_some.Statement.{statement}
+use Rattle.rowwise.proofs.leftover.leaves_some.Tie as tie
 
 returns : tie.Need-returns
 returns c = ((λ e. absurd (false≢true e)), λ f. absurd (omega (arith, f .0, c .if1 .taken)))
