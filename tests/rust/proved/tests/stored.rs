@@ -13,15 +13,25 @@ const LARGE: f64 = 1_000.0;
 /// The most times as long as the plain implementation that a task may take on its small and large cases. Tests run
 /// beside each other, so this is no measurement; the benchmark asks for 1.
 const BESIDE: f64 = 1.5;
+/// How often the two are called by turns for that.
+const TURNS: usize = 45;
 
-/// The least time of a call in nine, microseconds.
+/// One call, microseconds.
+fn once(calls: &Calls, stored: &Stored) -> f64 {
+    let start = Instant::now();
+    std::hint::black_box(printed(calls, &stored.case));
+    start.elapsed().as_nanos() as f64 / 1000.0
+}
+
+/// The least time of a call in nine.
 fn time(calls: &Calls, stored: &Stored) -> f64 {
-    let once = |_| {
-        let start = Instant::now();
-        std::hint::black_box(printed(calls, &stored.case));
-        start.elapsed().as_nanos() as f64 / 1000.0
-    };
-    (0..9).map(once).fold(f64::INFINITY, f64::min)
+    (0..9).map(|_| once(calls, stored)).fold(f64::INFINITY, f64::min)
+}
+
+/// The least times of the proved library and of the plain one, called by turns, so that a slow moment is one of both.
+fn times(stored: &Stored) -> (f64, f64) {
+    let turn = |_| (once(&PROVED, stored), once(&PLAIN, stored));
+    (0..TURNS).map(turn).fold((f64::INFINITY, f64::INFINITY), |least, now| (least.0.min(now.0), least.1.min(now.1)))
 }
 
 #[test]
@@ -55,8 +65,8 @@ fn no_task_is_slow_beside_plain() {
     let stored = stored();
     for task in Task::ALL {
         let of_task = stored.iter().filter(|stored| stored.case.task == task && stored.family() != "hard");
-        let total = |calls| of_task.clone().map(|stored| time(calls, stored)).sum::<f64>();
-        let ratio = total(&PROVED) / total(&PLAIN);
+        let (proved, plain) = of_task.map(times).fold((0.0, 0.0), |sum, least| (sum.0 + least.0, sum.1 + least.1));
+        let ratio = proved / plain;
         assert!(ratio < BESIDE, "{}: {ratio} times as long as plain", task.name());
     }
 }
