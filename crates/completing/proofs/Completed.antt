@@ -9,9 +9,9 @@ use Rattle.hyperlmntal.specs.Link.{_∈_}
 use Rattle.placing.specs.Net.{Net, Range, Normal}
 use Rattle.placing.specs.Placing.{Placing, cellAt, givenTo, Taken, At, PortAt, Inside, Good}
 use Rattle.completing.specs.Completion.{Partial, Completion}
-use Rattle.completing.specs.Reach.{stay, move}
+use Rattle.network.specs.Reach.{stay, move}
 use Rattle.completing.specs.Fault.{Used, Other, Beside, Joined, Allowed, AllLinked, LeastContext, LeastGiven, completed}
-use Rattle.completing.proofs.Reaching.{reach-then, reach-back}
+use Rattle.network.proofs.Reaching.{reach-then, reach-back}
 use Rattle.completing.proofs.Decide.{used-dec}
 use Rattle.completing.proofs.Kept.{linked-map, taken-same, unused-other, unused-unmarked}
 

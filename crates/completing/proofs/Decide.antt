@@ -14,7 +14,7 @@ use Rattle.placing.specs.Smallest.{numbersTo}
 use Rattle.placing.proofs.Tests.{Says, refuted, says-range, says-among, to-range, of-range}
 use Rattle.placing.proofs.GoodTest.{says-taken}
 use Rattle.completing.specs.Fault.{Used, Other, Beside, Joined, Number, Allowed}
-use Rattle.completing.proofs.Reaching.{reach-dec}
+use Rattle.network.proofs.Reaching.{reach-dec}
 
 pub dec-map : {A B : Type 0} → (A → B) → (B → A) → Dec A → Dec B
 dec-map f g (yes a) = yes (f a)

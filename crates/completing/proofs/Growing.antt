@@ -7,10 +7,10 @@ use lib.ListN.{length}
 use Rattle.hyperlmntal.specs.Link.{_∈_}
 use Rattle.placing.specs.Net.{NetCell, Net, Range, Normal}
 use Rattle.placing.specs.Placing.{Placing, cellAt, Across, PortAt}
-use Rattle.completing.specs.Reach.{Reach, stay, move}
+use Rattle.network.specs.Reach.{Reach, stay, move}
 use Rattle.completing.specs.Fault.{Used, Other, Through, CutOff, Joined, Number, Allowed, LeastContext}
 use Rattle.completing.specs.Growing.{Part, Serves, Grown}
-use Rattle.completing.proofs.Reaching.{reach-more}
+use Rattle.network.proofs.Reaching.{reach-more}
 use Rattle.completing.proofs.Kept.{unused-other}
 use Rattle.completing.proofs.Completed.{least-joined}
 

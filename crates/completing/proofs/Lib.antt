@@ -1,6 +1,5 @@
 -- Lists, and what is decided.
 pub mod Lists
-pub mod Reaching
 pub mod Decide
 -- Faults, and what they need.
 pub mod Kept

@@ -11,7 +11,7 @@ use Rattle.placing.specs.Net.{NetCell, Net, Range, Normal}
 use Rattle.placing.specs.Placing.{Placing, cellAt, linkTo, givenTo, Taken, At, PortAt, Inside}
 use Rattle.placing.proofs.Standing.{context-link, place-link}
 use Rattle.completing.specs.Completion.{Partial, Completion}
-use Rattle.completing.specs.Reach.{Reach, stay, move}
+use Rattle.network.specs.Reach.{Reach, stay, move}
 use Rattle.completing.specs.Fault.{Used, Other, Beside, TwoApart, Through, CutOff, Fault, apart, cut-off}
 use Rattle.completing.proofs.Decide.{member-dec}
 use Rattle.completing.proofs.Kept.{linked-map, taken-same}

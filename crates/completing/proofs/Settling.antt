@@ -15,7 +15,7 @@ use Rattle.placing.specs.First.{Before}
 use Rattle.placing.specs.Smallest.{listOf}
 use Rattle.placing.proofs.Standing.{context-link}
 use Rattle.completing.specs.Completion.{Partial, Completion, Completable, put, remove}
-use Rattle.completing.specs.Reach.{stay, move}
+use Rattle.network.specs.Reach.{stay, move}
 use Rattle.completing.specs.Fault.{Other, Beside, Joined, Number, Allowed, AllLinked, LeastGiven, completed}
 use Rattle.completing.specs.Leaf.{LeastCompletion, Ascending}
 use Rattle.completing.proofs.Lists.{before-rest, greater-at, nowhere-less, ascending-rest}

@@ -6,7 +6,7 @@ use lib.ListN.{length}
 use Rattle.hyperlmntal.specs.Link.{_∈_}
 use Rattle.placing.specs.Net.{NetCell, Net, Range}
 use Rattle.placing.specs.Placing.{Placing, numberAt, cellAt, linkTo, Taken, At, Linked, PortAt}
-use Rattle.completing.specs.Reach.{Reach}
+use Rattle.network.specs.Reach.{Reach}
 
 module _ (S F : Net) (q : Placing) where
   -- some figure link goes to y

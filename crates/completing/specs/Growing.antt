@@ -5,7 +5,7 @@ use lib.ListN.{length}
 use Rattle.hyperlmntal.specs.Link.{_∈_}
 use Rattle.placing.specs.Net.{Net, Range}
 use Rattle.placing.specs.Placing.{Placing, cellAt, PortAt}
-use Rattle.completing.specs.Reach.{Reach}
+use Rattle.network.specs.Reach.{Reach}
 use Rattle.completing.specs.Fault.{Used, Other, Through}
 
 module _ (S F : Net) (q : Placing) where

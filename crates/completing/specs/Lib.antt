@@ -1,5 +1,4 @@
 pub mod Completion
-pub mod Reach
 pub mod Fault
 pub mod Growing
 pub mod Leaf

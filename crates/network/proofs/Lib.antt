@@ -3,3 +3,5 @@ pub mod SamePorts
 pub mod Nowhere
 pub mod NetRead
 pub mod Swapped
+pub mod Sums
+pub mod Reaching

@@ -1,3 +1,5 @@
 pub mod Begun
 pub mod NetIn
 pub mod Ready
+pub mod Sums
+pub mod Reach

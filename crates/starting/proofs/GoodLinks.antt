@@ -17,11 +17,13 @@ use Rattle.placing.proofs.Orders.{once-by-place}
 use Rattle.placing.proofs.Standing.{in-cells, context-link, mark-link}
 use Rattle.placing.proofs.Tests.{refuted}
 use Rattle.placing.proofs.GoodTest.{says-taken}
+use Rattle.network.specs.Sums.{sumTo}
+use Rattle.network.proofs.Sums.{sum-front, sum-same}
 use Rattle.candidates.specs.Sets.{Decided, by-atom}
 use Rattle.candidates.proofs.GoodPlaces.{decided-real, decided-link}
 use Rattle.starting.specs.Count.{count}
 use Rattle.starting.proofs.Counting.{count-append, count-none, count-sent, count-alone, count-pairs-le, count-pairs-eq}
-use Rattle.starting.proofs.Sums.{sumTo, sum-front, sum-same, sum-once-le, sum-once-eq}
+use Rattle.starting.proofs.Sums.{sum-once-le, sum-once-eq}
 use Rattle.reading.proofs.normal.Merging.{getD-in}
 
 -- The rows after the first.

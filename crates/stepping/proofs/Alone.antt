@@ -8,7 +8,7 @@ use native.Mathlib.Omega.{arith}
 use lib.ListN.{length, getD, set}
 use lib.Seq.{getD-set-same, getD-set-other}
 use Rattle.candidates.specs.declared.ports.PortSet.{PortSet}
-use Rattle.completing.specs.Reach.{Reach, stay}
+use Rattle.network.specs.Reach.{Reach, stay}
 use Rattle.stepping.specs.Labels.{Tie, AllAlone, Apart}
 use Rattle.stepping.proofs.Tables.{below-next}
 

@@ -14,8 +14,8 @@ use Rattle.candidates.specs.PortSets.{Below}
 use Rattle.candidates.specs.declared.ports.PortSet.{PortSet}
 use Rattle.candidates.proofs.Halves.{in-without}
 use Rattle.candidates.proofs.Members.{Seen, seen-more}
-use Rattle.completing.specs.Reach.{Reach, stay, move}
-use Rattle.completing.proofs.Reaching.{reach-then}
+use Rattle.network.specs.Reach.{Reach, stay, move}
+use Rattle.network.proofs.Reaching.{reach-then}
 use Rattle.stepping.specs.Labels.{Tie, Sound, Relabelled, Bounded, Grew, GrewWith, Tied, AllTied}
 use Rattle.stepping.proofs.Tables.{below-set, above-set, below-next}
 

@@ -16,7 +16,7 @@ use Rattle.network.proofs.NetIn.{context-of, context-in}
 use Rattle.candidates.specs.PortSets.{ContextsIn}
 use Rattle.candidates.specs.declared.ports.PortSet.{PortSet}
 use Rattle.candidates.proofs.PortRows.{port-in, port-range, in-port}
-use Rattle.completing.specs.Reach.{Reach, stay, move}
+use Rattle.network.specs.Reach.{Reach, stay, move}
 use Rattle.completing.specs.Fault.{AllLinked, TwoApart}
 use Rattle.stepping.specs.Flags.{Within}
 use Rattle.stepping.specs.Labels.{Tie, Meet, Apart}

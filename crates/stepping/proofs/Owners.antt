@@ -9,7 +9,7 @@ use lib.ListN.{length, getD, set, replicate}
 use lib.Seq.{getD-set-same, getD-set-other}
 use Rattle.rows.specs.Limits.{sheetLinks}
 use Rattle.candidates.specs.declared.ports.PortSet.{PortSet}
-use Rattle.completing.specs.Reach.{Reach, stay, move}
+use Rattle.network.specs.Reach.{Reach, stay, move}
 use Rattle.stepping.specs.Labels.{Tie, Labelled, Apart}
 use Rattle.stepping.proofs.Tables.{below-next, zeros}
 

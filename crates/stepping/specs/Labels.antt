@@ -9,7 +9,7 @@ use Rattle.rows.specs.Limits.{sheetLinks}
 use Rattle.candidates.specs.Words.{pairDigits, InPair, PartOf}
 use Rattle.candidates.specs.PortSets.{setAt, PortIn}
 use Rattle.candidates.specs.declared.ports.PortSet.{PortSet}
-use Rattle.completing.specs.Reach.{Reach}
+use Rattle.network.specs.Reach.{Reach}
 
 -- two links of one context, of which there are `rows`, that go to one sheet link
 pub record Tie (sets : List PortSet) (rows : ℕ) (to : List ℕ) (x z : ℕ) : Type 0 where

@@ -4,7 +4,7 @@ use mathlib.Core.Path.{_≡_, refl, subst}
 use mathlib.Core.Logic.{_⊎_, inl, inr}
 use native.Mathlib.Decide.{ℕ-discrete}
 use native.Mathlib.Omega.{arith}
-use Rattle.completing.specs.Reach.{Reach, stay, move}
+use Rattle.network.specs.Reach.{Reach, stay, move}
 
 module _ (R : ℕ → ℕ → Type 0) where
   pub reach-cast : {x y z : ℕ} → y ≡ z → Reach R x y → Reach R x z
