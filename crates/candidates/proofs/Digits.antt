@@ -75,6 +75,9 @@ module _ (a b t : ℕ) where
   pub in-and : In a t → In b t → In (bitAnd a b) t
   in-and p q = omega (arith, digit-and a b t, p, q)
 
+  pub and-in : In (bitAnd a b) t → In a t × In b t
+  and-in p = (omega (arith, digit-and a b t, p, digit-lt a t, digit-lt b t), omega (arith, digit-and a b t, p, digit-lt a t, digit-lt b t))
+
   pub in-or-left : In a t → In (bitOr a b) t
   in-or-left p = omega (arith, digit-or a b t, p, digit-lt b t)
 

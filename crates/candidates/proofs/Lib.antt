@@ -15,3 +15,4 @@ pub mod Laying
 pub mod PortRows
 pub mod Framing
 pub mod Marks
+pub mod Filling

@@ -7,5 +7,4 @@ pub mod GoodLinks
 pub mod Tallies
 pub mod Ports
 pub mod Marking
-pub mod Filling
 pub mod Starting

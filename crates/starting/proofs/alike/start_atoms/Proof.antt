@@ -10,7 +10,7 @@ use Rattle.network.specs.NetIn.{Used}
 use Rattle.candidates.specs.Laid.{laidAtom}
 use Rattle.candidates.specs.Tables.{AtomIn}
 use Rattle.starting.specs.Steps.{Alike}
-use Rattle.starting.proofs.Filling.{atoms-next}
+use Rattle.candidates.proofs.Filling.{atoms-next}
 use Rattle.starting.proofs.alike.start_atoms.Statement.{statement}
 use Rattle.starting.proofs.alike.start_atoms.Tie as tie
 

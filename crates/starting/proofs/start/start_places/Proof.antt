@@ -7,7 +7,7 @@ use lib.ListN.{length, getD, length-set}
 use Rattle.rows.specs.Limits.{sheetLinks}
 use Rattle.candidates.specs.Tables.{LinkIn}
 use Rattle.starting.specs.Steps.{Enough}
-use Rattle.starting.proofs.Filling.{links-next}
+use Rattle.candidates.proofs.Filling.{links-next}
 use Rattle.starting.proofs.start.start_places.Statement.{statement}
 use Rattle.starting.proofs.start.start_places.Tie as tie
 

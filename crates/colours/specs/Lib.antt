@@ -1,0 +1,4 @@
+pub mod Colours
+pub mod Pieces
+pub mod Mixed
+pub mod Arrays
