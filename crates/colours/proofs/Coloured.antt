@@ -1,13 +1,13 @@
 -- Colours in arrays: the first, those of later rounds, and what they tell of good placings.
 use Prim.Native.Nat.{ℕ, suc, _+_, _-_, _%_, _<_}
-use mathlib.Core.Path.{_≡_, refl, sym, _∙_, ap, ap₂, subst}
+use mathlib.Core.Path.{_≡_, sym, _∙_, ap, ap₂}
 use mathlib.Core.Logic.{_≢_}
 use mathlib.Core.List.{List, [], map}
 use native.Mathlib.Omega.{arith}
 use lib.ListN.{length, getD, take}
 use Rattle.rows.specs.Limits.{sheetLinks}
 use Rattle.rows.specs.declared.Sheet.{Sheet as NormalForm}
-use Rattle.placing.specs.Net.{NetCell, Net, Range, Normal, NormalSheet}
+use Rattle.placing.specs.Net.{NetCell, Range, Normal, NormalSheet}
 use Rattle.placing.specs.Placing.{Placing, cellAt, atomTo, linkTo, Good}
 use Rattle.network.specs.NetIn.{netIn, contextIn, Fit}
 use Rattle.network.specs.Sums.{sumTo}
@@ -17,10 +17,10 @@ use Rattle.candidates.specs.Sets.{Decided, Keeps}
 use Rattle.candidates.specs.Tables.{AtomIn, LinkIn, mayAtom, mayLink}
 use Rattle.candidates.proofs.GoodPlaces.{decided-link}
 use Rattle.candidates.proofs.Sending.{here, there-index, link-place}
-use Rattle.colours.specs.Colours.{pattern, marksAt, first, next, total, KeepsColours, Agree}
+use Rattle.colours.specs.Colours.{pattern, marksAt, first, next, Agree}
 use Rattle.colours.specs.Pieces.{Sizes}
 use Rattle.colours.specs.Mixed.{wordSize, mixing, joinedMarks}
-use Rattle.colours.specs.Arrays.{linkColour, held, Refined, KeptIn}
+use Rattle.colours.specs.Arrays.{held, KeptIn}
 use Rattle.colours.proofs.ColourLaws.{first-kept, next-kept, total-kept, agree-kept}
 use Rattle.colours.proofs.RoundCode.{cell-laid}
 

@@ -11,7 +11,6 @@ use native.Mathlib.Omega.{arith}
 use lib.Count.{onesIn, ones, ones-step}
 use lib.ListN.{length, getD}
 use lib.Pow.{shr-lt}
-use Rattle.rows.specs.Limits.{sheetAtoms}
 use Rattle.rows.specs.declared.Sheet.{Sheet as NormalForm}
 use Rattle.placing.specs.Net.{Net, Range}
 use Rattle.network.specs.NetIn.{netIn}

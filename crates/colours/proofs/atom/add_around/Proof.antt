@@ -1,8 +1,8 @@
 -- Invariant: what the first k places add is added.
 use borrow.Author.Needs.{needs}
 use native.Mathlib.Omega.{arith}
-use Prim.Native.Nat.{ℕ, suc, _≤_, _+_, _-_, _*_, _%_, _<_}
-use mathlib.Core.Path.{_≡_, sym, _∙_, ap, subst}
+use Prim.Native.Nat.{ℕ, suc, _≤_, _+_, _-_, _%_, _<_}
+use mathlib.Core.Path.{_≡_, _∙_, ap}
 use lib.ListN.{length, getD, take, length-set}
 use Rattle.rows.specs.Limits.{sheetLinks}
 use Rattle.placing.specs.Net.{Range}

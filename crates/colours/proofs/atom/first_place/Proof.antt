@@ -1,11 +1,11 @@
 -- Invariant: no place before h has the link of place k.
 use borrow.Author.Needs.{needs}
 use native.Mathlib.Omega.{arith}
-use Prim.Native.Nat.{ℕ, suc, _≤_, _+_, _-_, _*_, _%_, _<_}
-use mathlib.Core.Path.{_≡_, sym, _∙_, ap, subst}
+use Prim.Native.Nat.{ℕ, _≤_, _-_, _<_}
+use mathlib.Core.Path.{_≡_, sym, _∙_, ap}
 use mathlib.Core.Logic.{_≢_}
 use borrow.Author.Count.{below-more}
-use lib.ListN.{getD, take}
+use lib.ListN.{take}
 use Rattle.network.proofs.NetIn.{used-length, used-at}
 use Rattle.candidates.specs.Laid.{linkOf}
 use Rattle.colours.specs.Colours.{firstAt}
@@ -27,7 +27,7 @@ first-there c b e = let s = c .before in
     let u = s .pre .0 in
     let a = s .args .t1 in
     sym (first-at (linkOf a (s .args .k)) (take (a .count) (a .links)) (c .loop .h) (omega (arith, b, s .pre .1, used-length sheetLinks (a .count) (a .links) u)) (used-at sheetLinks (a .count) (a .links) u (c .loop .h) (omega (arith, b, s .pre .1)) ∙ e)
-        (λ g h q. c .loop .inv .1 g h (sym (used-at sheetLinks (a .count) (a .links) u g (omega (arith, b, h, s .pre .1))) ∙ q)))
+    (λ g h q. c .loop .inv .1 g h (sym (used-at sheetLinks (a .count) (a .links) u g (omega (arith, b, h, s .pre .1))) ∙ q)))
 
 loop-holds : tie.Need-loop-holds Inv-loop μ-loop
 loop-holds c = (search needs, λ g b. absurd (omega arith))

@@ -1,10 +1,8 @@
-use native.Mathlib.Omega.{arith}
-use Prim.Native.Nat.{ℕ, suc, _≤_, _+_, _-_, _*_, _%_, _<_}
-use mathlib.Core.Path.{_≡_, refl, sym, _∙_, ap, subst}
+use Prim.Native.Nat.{ℕ}
+use mathlib.Core.Path.{_∙_, ap}
 use mathlib.Core.List.{List}
 use lib.ListN.{length, getD, length-replicate}
-use Rattle.rows.specs.Limits.{sheetAtoms, sheetLinks}
-use Rattle.rows.specs.declared.Sheet.{Sheet as NormalForm}
+use Rattle.rows.specs.Limits.{sheetAtoms}
 use Rattle.rows.proofs.Padding.{getD-filled}
 use Rattle.candidates.specs.Frames.{whole}
 use Rattle.candidates.specs.Marks.{MarksIn}

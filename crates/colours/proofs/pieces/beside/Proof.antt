@@ -1,8 +1,8 @@
 -- Invariant: the atoms on the first k links.
 use borrow.Author.Needs.{needs}
 use native.Mathlib.Omega.{arith}
-use Prim.Native.Nat.{ℕ, suc, _≤_, _+_, _-_, _*_, _%_, _<_}
-use mathlib.Core.Path.{_≡_, refl, sym, _∙_, ap, subst}
+use Prim.Native.Nat.{ℕ, _≤_, _+_, _-_, _*_}
+use mathlib.Core.Path.{_≡_, sym, subst}
 use mathlib.Core.Logic.{_↔_}
 use lib.ListN.{getD}
 use Rattle.rows.specs.Format.{mostLinks}
@@ -70,10 +70,10 @@ returns c = let l = c .before in
     let P : Atom → ℕ → ℕ → Type 0 = λ z h v. Some (λ i x. In (getD (s .args .users .now) (i * sheetLinks + (linkOf z h - 1)) 0) x) mostLinks v in
     let e : l .loop .k ≡ d .laid-atom .result .count = omega arith in
     λ net o w u.
-      let f : In (l .loop .all) u ↔ Some (P (laidAtom (s .args .laid .now) (s .args .t))) (laidAtom (s .args .laid .now) (s .args .t) .count) u =
-            subst (λ (z : Atom). In (l .loop .all) u ↔ Some (P z) (z .count) u) (d .laid-atom .ensures) (subst (λ (z : ℕ). In (l .loop .all) u ↔ Some (P (d .laid-atom .result)) z u) e (l .loop .inv .1 u)) in
-      let g = share-users net (s .args .laid .now) (s .args .n) o (s .args .users .now) w (s .args .t) (s .pre .1) u in
-      (λ m. g .0 (f .0 m), λ q. f .1 (g .1 q))
+    let f : In (l .loop .all) u ↔ Some (P (laidAtom (s .args .laid .now) (s .args .t))) (laidAtom (s .args .laid .now) (s .args .t) .count) u =
+    subst (λ (z : Atom). In (l .loop .all) u ↔ Some (P z) (z .count) u) (d .laid-atom .ensures) (subst (λ (z : ℕ). In (l .loop .all) u ↔ Some (P (d .laid-atom .result)) z u) e (l .loop .inv .1 u)) in
+    let g = share-users net (s .args .laid .now) (s .args .n) o (s .args .users .now) w (s .args .t) (s .pre .1) u in
+    (λ m. g .0 (f .0 m), λ q. f .1 (g .1 q))
 
 pub beside-spec : {M : Type 1} → statement M
 beside-spec =

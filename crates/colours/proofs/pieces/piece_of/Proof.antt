@@ -1,8 +1,8 @@
 -- Invariant: what was found so far is in the piece.
 use borrow.Author.Needs.{needs}
 use native.Mathlib.Omega.{arith}
-use Prim.Native.Nat.{ℕ, suc, _≤_, _+_, _-_, _*_, _%_, _<_}
-use mathlib.Core.Path.{_≡_, refl, sym, _∙_, ap, subst}
+use Prim.Native.Nat.{ℕ, _<_}
+use mathlib.Core.Path.{subst}
 use mathlib.Core.Logic.{_≢_}
 use Rattle.rows.specs.declared.Sheet.{Sheet as NormalForm}
 use Rattle.network.proofs.NetIn.{atoms-length}

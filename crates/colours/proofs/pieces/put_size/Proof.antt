@@ -1,10 +1,9 @@
 -- Invariant: the atoms of the piece that are not in the rest have the size.
 use borrow.Author.Needs.{needs}
 use native.Mathlib.Omega.{arith}
-use Prim.Native.Nat.{ℕ, suc, _≤_, _+_, _-_, _*_, _%_, _<_}
-use mathlib.Core.Path.{_≡_, sym, _∙_, ap, subst}
-use mathlib.Core.Logic.{_≢_}
-use lib.ListN.{length, getD, set, length-set}
+use Prim.Native.Nat.{ℕ, _<_}
+use mathlib.Core.Path.{_≡_, subst}
+use lib.ListN.{length, length-set}
 use Rattle.rows.specs.Limits.{sheetAtoms}
 use Rattle.candidates.specs.Words.{In}
 use Rattle.candidates.proofs.Digits.{none-in, alone-in, alone-only, fewer-in, in-fewer, fewer-smaller}

@@ -1,21 +1,19 @@
 -- Invariant: what the first t atoms add is added.
 use borrow.Author.Needs.{needs}
 use native.Mathlib.Omega.{arith}
-use Prim.Native.Nat.{ℕ, suc, _≤_, _+_, _-_, _*_, _%_, _<_}
-use mathlib.Core.Path.{_≡_, refl, sym, _∙_, ap, subst}
+use Prim.Native.Nat.{ℕ, _≤_, _-_, _%_, _<_}
+use mathlib.Core.Path.{_≡_, sym, _∙_, ap, subst}
 use mathlib.Core.List.{List}
-use lib.ListN.{length, getD, take, length-replicate}
+use lib.ListN.{length, getD, length-replicate}
 use Rattle.rows.specs.Limits.{sheetLinks}
 use Rattle.rows.specs.declared.Atom.{Atom}
 use Rattle.rows.specs.declared.Sheet.{Sheet as NormalForm}
 use Rattle.rows.proofs.Padding.{getD-filled}
-use Rattle.placing.specs.Placing.{cellAt}
 use Rattle.network.specs.NetIn.{netIn, Used}
 use Rattle.network.specs.Sums.{sumTo}
 use Rattle.network.proofs.NetIn.{atoms-length}
 use Rattle.candidates.specs.Laid.{LaidOut}
-use Rattle.colours.specs.Colours.{placesAt}
-use Rattle.colours.specs.Mixed.{wordSize, mixing}
+use Rattle.colours.specs.Mixed.{wordSize}
 use Rattle.colours.proofs.RoundCode.{added, added-next}
 use Rattle.colours.proofs.round.add_all.Statement.{statement}
 use Rattle.colours.proofs.round.add_all.Tie as tie

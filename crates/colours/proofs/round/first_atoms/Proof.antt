@@ -1,8 +1,8 @@
 -- Invariant: the first t atoms have their first colours, the others their sizes.
 use borrow.Author.Needs.{needs}
 use native.Mathlib.Omega.{arith}
-use Prim.Native.Nat.{ℕ, suc, _≤_, _+_, _-_, _*_, _%_, _<_}
-use mathlib.Core.Path.{_≡_, refl, sym, _∙_, ap, subst}
+use Prim.Native.Nat.{ℕ, _≤_, _-_}
+use mathlib.Core.Path.{_≡_, sym, _∙_, ap, subst}
 use lib.ListN.{length, getD, take, length-set}
 use Rattle.rows.specs.Limits.{sheetAtoms, sheetLinks}
 use Rattle.rows.specs.declared.Atom.{Atom}
