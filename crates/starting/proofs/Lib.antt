@@ -9,3 +9,5 @@ pub mod Ports
 pub mod Marking
 pub mod Filling
 pub mod Starting
+-- Labels of links that may go to one place.
+pub mod KinLabels
