@@ -3,6 +3,8 @@ use crate::PLACES;
 use crate::alone::alone;
 use crate::barred::follow_link;
 use crate::given::follow_atom;
+use crate::kin::kin_turn;
+use candidates::KIN;
 use candidates::LAID;
 use candidates::LINK_SETS;
 use candidates::laid::laid_atom;
@@ -60,7 +62,7 @@ fn atom_turn<'a>(
     pending: &mut [u64; 2],
 ) -> u64
     requires { ⌜ Rowed (now laid) n × UsersIn (now laid) n (now users) × Rowed (now parts) m × (i < m) ⌝ }
-    ensures { λ _. ⌜ NarrowedBy (now (laid .entry)) n (now (parts .entry)) m (now (atoms .entry)) (now (links .entry)) (now (atoms .exit)) (now (links .exit)) ⌝ }
+    ensures { λ _. ⌜ ((kin : List ℕ) → NarrowedBy kin (now (laid .entry)) n (now (parts .entry)) m (now (atoms .entry)) (now (links .entry)) (now (atoms .exit)) (now (links .exit))) ⌝ }
 {
     let here = laid_atom(parts, i);
     let went = lost[i];
@@ -104,6 +106,7 @@ fn done_link(pending: &mut [u64; 2], x: usize)
 fn follow<'a>(
     users: &'a [u64; PLACES],
     owners: &'a [u64; PLACES],
+    kin: &'a [u16; KIN],
     laid: &'a [u16; LAID],
     n: usize,
     parts: &'a [u16; LAID],
@@ -116,7 +119,7 @@ fn follow<'a>(
     pending: &mut [u64; 2],
 ) -> bool
     requires { ⌜ Rowed (now laid) n × UsersIn (now laid) n (now users) × Rowed (now parts) m × UsersIn (now parts) m (now owners) ⌝ }
-    ensures narrowed { λ _. ⌜ NarrowedBy (now (laid .entry)) n (now (parts .entry)) m (now (atoms .entry)) (now (links .entry)) (now (atoms .exit)) (now (links .exit)) ⌝ }
+    ensures narrowed { λ _. ⌜ NarrowedBy (now (kin .entry)) (now (laid .entry)) n (now (parts .entry)) m (now (atoms .entry)) (now (links .entry)) (now (atoms .exit)) (now (links .exit)) ⌝ }
     ensures empty { λ r. ⌜ (r ≡ true → (i : ℕ) × (i < m) × NoAtom (now (atoms .exit)) i) ⌝ }
 {
     let mut due = first_due;
@@ -126,6 +129,7 @@ fn follow<'a>(
         let x = next_link(pending);
         if x < Sheet::LINKS {
             done_link(pending, x);
+            kin_turn(owners, kin, x, links, gone, pending);
             due = due | link_turn(users, owners, x, links, atoms, lost, gone);
         } else {
             if due == 0 {
@@ -171,7 +175,7 @@ fn spread<'a>(
     pending: &mut [u64; 2],
 )
     requires { ⌜ Rowed (now laid) n × UsersIn (now laid) n (now users) × Rowed (now parts) m ⌝ }
-    ensures { λ _. ⌜ NarrowedBy (now (laid .entry)) n (now (parts .entry)) m (now (atoms .entry)) (now (links .entry)) (now (atoms .entry)) (now (links .exit)) ⌝ }
+    ensures { λ _. ⌜ ((kin : List ℕ) → NarrowedBy kin (now (laid .entry)) n (now (parts .entry)) m (now (atoms .entry)) (now (links .entry)) (now (atoms .entry)) (now (links .exit))) ⌝ }
 {
     let mut i = 0;
     while i < m {
@@ -197,6 +201,7 @@ fn spread<'a>(
 pub fn narrow_all<'a>(
     users: &'a [u64; PLACES],
     owners: &'a [u64; PLACES],
+    kin: &'a [u16; KIN],
     laid: &'a [u16; LAID],
     n: usize,
     parts: &'a [u16; LAID],
@@ -205,7 +210,7 @@ pub fn narrow_all<'a>(
     links: &mut [u64; LINK_SETS],
 ) -> bool
     requires { ⌜ Rowed (now laid) n × UsersIn (now laid) n (now users) × Rowed (now parts) m × UsersIn (now parts) m (now owners) ⌝ }
-    ensures narrowed { λ _. ⌜ NarrowedBy (now (laid .entry)) n (now (parts .entry)) m (now (atoms .entry)) (now (links .entry)) (now (atoms .exit)) (now (links .exit)) ⌝ }
+    ensures narrowed { λ _. ⌜ NarrowedBy (now (kin .entry)) (now (laid .entry)) n (now (parts .entry)) m (now (atoms .entry)) (now (links .entry)) (now (atoms .exit)) (now (links .exit)) ⌝ }
     ensures empty { λ r. ⌜ (r ≡ true → (i : ℕ) × (i < m) × NoAtom (now (atoms .exit)) i) ⌝ }
 {
     let mut lost = [0u64; Sheet::ATOMS];
@@ -225,6 +230,7 @@ pub fn narrow_all<'a>(
     follow(
         users,
         owners,
+        kin,
         laid,
         n,
         parts,
@@ -242,6 +248,7 @@ pub fn narrow_all<'a>(
 pub fn narrow_after<'a>(
     users: &'a [u64; PLACES],
     owners: &'a [u64; PLACES],
+    kin: &'a [u16; KIN],
     laid: &'a [u16; LAID],
     n: usize,
     parts: &'a [u16; LAID],
@@ -254,7 +261,7 @@ pub fn narrow_after<'a>(
     gone: &mut [u64; LINK_SETS],
 ) -> bool
     requires { ⌜ Rowed (now laid) n × UsersIn (now laid) n (now users) × Rowed (now parts) m × UsersIn (now parts) m (now owners) × (k < m) ⌝ }
-    ensures narrowed { λ _. ⌜ NarrowedBy (now (laid .entry)) n (now (parts .entry)) m (now (atoms .entry)) (now (links .entry)) (now (atoms .exit)) (now (links .exit)) ⌝ }
+    ensures narrowed { λ _. ⌜ NarrowedBy (now (kin .entry)) (now (laid .entry)) n (now (parts .entry)) m (now (atoms .entry)) (now (links .entry)) (now (atoms .exit)) (now (links .exit)) ⌝ }
     ensures empty { λ r. ⌜ (r ≡ true → (i : ℕ) × (i < m) × NoAtom (now (atoms .exit)) i) ⌝ }
 {
     let mut pending = [0u64; 2];
@@ -262,6 +269,7 @@ pub fn narrow_after<'a>(
     follow(
         users,
         owners,
+        kin,
         laid,
         n,
         parts,

@@ -4,7 +4,7 @@ use candidates::LAID;
 use candidates::ports::PortSet;
 use rows::Sheet;
 use stepping::steps::step_labels;
-ghost use Prim.Native.Nat.{ℕ, _-_, _≤_};
+ghost use Prim.Native.Nat.{_-_, _≤_};
 ghost use lib.ListN.{getD};
 ghost use Rattle.rows.specs.Limits.{sheetAtoms};
 ghost use Rattle.rows.specs.declared.Sheet.{Sheet as NormalForm};
