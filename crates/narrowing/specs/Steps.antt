@@ -54,3 +54,7 @@ Narrowed sheet figure a l b k = (p : Placing) → Good (netIn sheet) (netIn figu
 -- So it is for the nets whose atoms are laid out, where the links of each context of the figure have one label in `kin`.
 abbrev pub NarrowedBy : (kin sheet : List ℕ) (n : ℕ) (figure : List ℕ) (m : ℕ) (a l b k : List ℕ) → Type 0
 NarrowedBy kin sheet n figure m a l b k = (S F : NormalForm) → LaidOut S sheet n → LaidOut F figure m → RowLabels (netIn F) (λ x. getD kin (x - 1) 0) → Narrowed S F a l b k
+
+-- So it is for the links alone, where `owners` has the figure's atoms by their links.
+abbrev pub KinNarrowed : (owners kin l k : List ℕ) → Type 0
+KinNarrowed owners kin l k = (sheet : List ℕ) (n : ℕ) (figure : List ℕ) (m : ℕ) (a : List ℕ) → UsersIn figure m owners → NarrowedBy kin sheet n figure m a l a k

@@ -14,15 +14,13 @@ use candidates::words::DIGITS;
 use candidates::words::first;
 use rows::Sheet;
 ghost use mathlib.Core.Path.{_≡_};
-ghost use mathlib.Core.List.{List};
 ghost use Prim.Native.Nat.{ℕ, _+_, _*_, _<_, _≤_};
 ghost use lib.ListN.{getD};
 ghost use Rattle.rows.specs.Format.{mostLinks};
 ghost use Rattle.rows.specs.Limits.{sheetLinks};
 ghost use Rattle.candidates.specs.Words.{wordDigits, In, InPair};
 ghost use Rattle.candidates.specs.Tables.{LinksStay};
-ghost use Rattle.narrowing.specs.Users.{UsersIn};
-ghost use Rattle.narrowing.specs.Steps.{AloneLink, NarrowedBy};
+ghost use Rattle.narrowing.specs.Steps.{AloneLink, KinNarrowed};
 
 // So many links, at most those of a sheet.
 fn within(n: u16) -> usize
@@ -35,29 +33,25 @@ fn within(n: u16) -> usize
     Sheet::LINKS
 }
 
-// Where the figure links from a to b, without b, may go.
-fn places(a: usize, b: usize, links: &[u64; LINK_SETS]) -> [u64; 2]
-    requires { ⌜ b ≤ sheetLinks ⌝ }
+// The places that two or more of the first n figure links may go to.
+fn shared(n: usize, links: &[u64; LINK_SETS]) -> [u64; 2]
+    requires { ⌜ n ≤ sheetLinks ⌝ }
 {
     let mut low = 0u64;
     let mut high = 0u64;
-    let mut z = a;
-    while z < b {
-        low = low | links[z * 2];
-        high = high | links[z * 2 + 1];
+    let mut low_twice = 0u64;
+    let mut high_twice = 0u64;
+    let mut z = 0;
+    while z < n {
+        let below = links[z * 2];
+        let above = links[z * 2 + 1];
+        low_twice = low_twice | (low & below);
+        high_twice = high_twice | (high & above);
+        low = low | below;
+        high = high | above;
         z += 1;
     }
-    [low, high]
-}
-
-// Whether a figure link other than x, of the first n, may go to a place of the set.
-fn others_there(x: usize, n: usize, set: [u64; 2], links: &[u64; LINK_SETS]) -> bool
-    requires { ⌜ (x < sheetLinks) × (n ≤ sheetLinks) ⌝ }
-{
-    if !is_empty(common(set, places(0, x, links))) {
-        return true;
-    }
-    !is_empty(common(set, places(x + 1, n, links)))
+    [low_twice, high_twice]
 }
 
 // The places of the set are taken from each of the first n figure links that has another label than x.
@@ -90,11 +84,12 @@ fn strip_others(
 fn alone_link(
     kin: &[u16; KIN],
     x: usize,
+    n: usize,
     links: &mut [u64; LINK_SETS],
     lost: &mut [u64; LINK_SETS],
     pending: &mut [u64; 2],
 )
-    requires { ⌜ x < sheetLinks ⌝ }
+    requires { ⌜ (x < sheetLinks) × (n ≤ sheetLinks) ⌝ }
     ensures { λ _. ⌜ LinksStay (now (links .entry)) (now (links .exit)) (AloneLink (now (kin .entry)) (now (links .entry)) x) ⌝ }
 {
     let set = pair_at(links, x);
@@ -102,11 +97,7 @@ fn alone_link(
         return;
     }
     let more = without_link(set, first_link(set));
-    if !is_empty(more) {
-        return;
-    }
-    let n = within(kin[Sheet::LINKS]);
-    if others_there(x, n, set, links) {
+    if is_empty(more) {
         strip_others(kin, x, n, set, links, lost, pending);
     }
 }
@@ -127,19 +118,44 @@ fn owner_of(owners: &[u64; PLACES], x: usize) -> usize
     DIGITS
 }
 
-// The turn of figure link x: where a figure atom has it, only its kin keep its one place.
-pub(crate) fn kin_turn<'a>(
+// The turn of figure link x: where others may go to its places too and a figure atom has it, only its kin keep its one
+// place.
+fn kin_turn<'a>(
     owners: &'a [u64; PLACES],
     kin: &'a [u16; KIN],
     x: usize,
+    n: usize,
+    others: [u64; 2],
     links: &mut [u64; LINK_SETS],
     lost: &mut [u64; LINK_SETS],
     pending: &mut [u64; 2],
 )
-    requires { ⌜ x < sheetLinks ⌝ }
-    ensures { λ _. ⌜ ((sheet : List ℕ) (n : ℕ) (figure : List ℕ) (m : ℕ) (atoms : List ℕ) → UsersIn figure m (now (owners .entry)) → NarrowedBy (now (kin .entry)) sheet n figure m atoms (now (links .entry)) atoms (now (links .exit))) ⌝ }
+    requires { ⌜ (x < sheetLinks) × (n ≤ sheetLinks) ⌝ }
+    ensures { λ _. ⌜ KinNarrowed (now (owners .entry)) (now (kin .entry)) (now (links .entry)) (now (links .exit)) ⌝ }
 {
+    if is_empty(common(pair_at(links, x), others)) {
+        return;
+    }
     if owner_of(owners, x) < DIGITS {
-        alone_link(kin, x, links, lost, pending);
+        alone_link(kin, x, n, links, lost, pending);
+    }
+}
+
+// The turns of all links that the figure's atoms have.
+pub(crate) fn kin_turns<'a>(
+    owners: &'a [u64; PLACES],
+    kin: &'a [u16; KIN],
+    links: &mut [u64; LINK_SETS],
+    lost: &mut [u64; LINK_SETS],
+    pending: &mut [u64; 2],
+)
+    ensures { λ _. ⌜ KinNarrowed (now (owners .entry)) (now (kin .entry)) (now (links .entry)) (now (links .exit)) ⌝ }
+{
+    let n = within(kin[Sheet::LINKS]);
+    let others = shared(n, links);
+    let mut x = 0;
+    while x < n {
+        kin_turn(owners, kin, x, n, others, links, lost, pending);
+        x += 1;
     }
 }

@@ -3,11 +3,12 @@ use crate::PLACES;
 use crate::alone::alone;
 use crate::barred::follow_link;
 use crate::given::follow_atom;
-use crate::kin::kin_turn;
+use crate::kin::kin_turns;
 use candidates::KIN;
 use candidates::LAID;
 use candidates::LINK_SETS;
 use candidates::laid::laid_atom;
+use candidates::pairs::is_empty;
 use candidates::pairs::pair_at;
 use candidates::pairs::set_pair;
 use candidates::words::ALL;
@@ -106,7 +107,6 @@ fn done_link(pending: &mut [u64; 2], x: usize)
 fn follow<'a>(
     users: &'a [u64; PLACES],
     owners: &'a [u64; PLACES],
-    kin: &'a [u16; KIN],
     laid: &'a [u16; LAID],
     n: usize,
     parts: &'a [u16; LAID],
@@ -119,7 +119,7 @@ fn follow<'a>(
     pending: &mut [u64; 2],
 ) -> bool
     requires { ⌜ Rowed (now laid) n × UsersIn (now laid) n (now users) × Rowed (now parts) m × UsersIn (now parts) m (now owners) ⌝ }
-    ensures narrowed { λ _. ⌜ NarrowedBy (now (kin .entry)) (now (laid .entry)) n (now (parts .entry)) m (now (atoms .entry)) (now (links .entry)) (now (atoms .exit)) (now (links .exit)) ⌝ }
+    ensures narrowed { λ _. ⌜ ((kin : List ℕ) → NarrowedBy kin (now (laid .entry)) n (now (parts .entry)) m (now (atoms .entry)) (now (links .entry)) (now (atoms .exit)) (now (links .exit))) ⌝ }
     ensures empty { λ r. ⌜ (r ≡ true → (i : ℕ) × (i < m) × NoAtom (now (atoms .exit)) i) ⌝ }
 {
     let mut due = first_due;
@@ -129,7 +129,6 @@ fn follow<'a>(
         let x = next_link(pending);
         if x < Sheet::LINKS {
             done_link(pending, x);
-            kin_turn(owners, kin, x, links, gone, pending);
             due = due | link_turn(users, owners, x, links, atoms, lost, gone);
         } else {
             if due == 0 {
@@ -196,6 +195,56 @@ fn spread<'a>(
     }
 }
 
+// Losses are followed, from the atoms `first_due` on, then links that have one place are looked at, by turns until
+// nothing is lost or some figure atom may go nowhere. Whether one may go nowhere.
+fn narrow<'a>(
+    users: &'a [u64; PLACES],
+    owners: &'a [u64; PLACES],
+    kin: &'a [u16; KIN],
+    laid: &'a [u16; LAID],
+    n: usize,
+    parts: &'a [u16; LAID],
+    m: usize,
+    first_due: u64,
+    atoms: &mut [u64; Sheet::ATOMS],
+    links: &mut [u64; LINK_SETS],
+    lost: &mut [u64; Sheet::ATOMS],
+    gone: &mut [u64; LINK_SETS],
+    pending: &mut [u64; 2],
+) -> bool
+    requires { ⌜ Rowed (now laid) n × UsersIn (now laid) n (now users) × Rowed (now parts) m × UsersIn (now parts) m (now owners) ⌝ }
+    ensures narrowed { λ _. ⌜ NarrowedBy (now (kin .entry)) (now (laid .entry)) n (now (parts .entry)) m (now (atoms .entry)) (now (links .entry)) (now (atoms .exit)) (now (links .exit)) ⌝ }
+    ensures empty { λ r. ⌜ (r ≡ true → (i : ℕ) × (i < m) × NoAtom (now (atoms .exit)) i) ⌝ }
+{
+    let mut due = first_due;
+    let mut left = TURNS;
+    while left > 0 {
+        left -= 1;
+        if follow(
+            users,
+            owners,
+            laid,
+            n,
+            parts,
+            m,
+            due,
+            atoms,
+            links,
+            lost,
+            gone,
+            pending,
+        ) {
+            return true;
+        }
+        kin_turns(owners, kin, links, gone, pending);
+        if is_empty(*pending) {
+            return false;
+        }
+        due = 0;
+    }
+    false
+}
+
 // Atoms by links and links by atoms, from the first sets on, until nothing changes or some figure atom may go nowhere.
 // Whether one may.
 pub fn narrow_all<'a>(
@@ -227,7 +276,7 @@ pub fn narrow_all<'a>(
         &mut gone,
         &mut pending,
     );
-    follow(
+    narrow(
         users,
         owners,
         kin,
@@ -266,7 +315,7 @@ pub fn narrow_after<'a>(
 {
     let mut pending = [0u64; 2];
     lost[k] = went;
-    follow(
+    narrow(
         users,
         owners,
         kin,

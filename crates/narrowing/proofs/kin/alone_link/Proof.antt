@@ -5,7 +5,6 @@ use mathlib.Core.Bool.{true}
 use mathlib.Core.List.{List}
 use native.Mathlib.Decide.{ℕ-discrete}
 use lib.ListN.{getD}
-use borrow.Author.Tests.{not-false}
 use Rattle.rows.specs.Limits.{sheetLinks}
 use Rattle.candidates.specs.Words.{pairDigits, InPair, emptyPair, withoutLink}
 use Rattle.candidates.proofs.Halves.{in-pair, pair-in, in-without, none-in-pair}
@@ -41,33 +40,21 @@ without-link-requires c κs = search needs
 is-empty-requires-2 : tie.Need-is-empty-requires-2
 is-empty-requires-2 c κs = search needs
 
-returns-2 : tie.Need-returns-2
-returns-2 c = search needs
-
-element-copy-out-within : tie.Need-element-copy-out-within
-element-copy-out-within c = search needs
-
-within-requires : tie.Need-within-requires
-within-requires c κs = search needs
-
-others-there-requires : tie.Need-others-there-requires
-others-there-requires c κs = search needs
-
 strip-others-requires : tie.Need-strip-others-requires
 strip-others-requires c κs = search needs
 
-returns-3 : tie.Need-returns-3
-returns-3 c = let e = c .before .before .before .before .before .before .before .before .before in
+returns-2 : tie.Need-returns-2
+returns-2 c = let e = c .before .before .before .before in
     let f = e .before .before .before .first-link in
     let s = e .before .before .before .before .before .before .before .before in
     let a = s .args in
     let set = e .before .before .before .before .before .before .pair-at in
-    let only : (v : ℕ) → v < sheetLinks → InPair (set .result) v → v ≡ f .result = λ v h i. only-there (set .result) (e .before .before .without-link .result) (f .result) (f .ensures .0) (e .before .before .without-link .ensures) (sym (e .before .is-empty2 .ensures) ∙ not-false _ (e .if2 .left)) v (in-pair h) i in
+    let only : (v : ℕ) → v < sheetLinks → InPair (set .result) v → v ≡ f .result = λ v h i. only-there (set .result) (e .before .before .without-link .result) (f .result) (f .ensures .0) (e .before .before .without-link .ensures) (sym (e .before .is-empty2 .ensures) ∙ e .if2 .taken) v (in-pair h) i in
     links-more (a .links .now) (c .strip-others .last .1 .1 .1 .1 .0) (λ z y. InPair (set .result) y → getD (a .kin .now) z 0 ≡ getD (a .kin .now) (a .x) 0) (AloneLink (a .kin .now) (a .links .now) (a .x)) (c .strip-others .ensures)
     (λ z y h q i. q (λ v r m. only v r (subst (λ (w : List ℕ). InPair w v) (sym (set .ensures)) (pair-in (a .links .now) (a .x) v r m)) ∙ sym (only y h i)))
 
-returns-4 : tie.Need-returns-4
-returns-4 c = search needs
+returns-3 : tie.Need-returns-3
+returns-3 c = search needs
 
 pub alone-link-spec : {M : Type 1} → statement M
 alone-link-spec =
@@ -79,10 +66,6 @@ alone-link-spec =
     first-link-requires
     without-link-requires
     is-empty-requires-2
-    returns-2
-    element-copy-out-within
-    within-requires
-    others-there-requires
     strip-others-requires
-    returns-3
-    returns-4)
+    returns-2
+    returns-3)
