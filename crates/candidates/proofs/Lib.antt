@@ -7,6 +7,7 @@ mod NextDigit
 mod Forcing
 -- What a good placing does at links and atoms.
 pub mod GoodPlaces
+pub mod Kinship
 pub mod NetRows
 pub mod Sending
 pub mod Hopeless

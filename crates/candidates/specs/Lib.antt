@@ -1,4 +1,5 @@
 pub mod Sets
+pub mod Kin
 pub mod Words
 pub mod Tables
 pub mod Forced

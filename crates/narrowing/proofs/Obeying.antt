@@ -4,17 +4,19 @@ use mathlib.Core.Path.{_≡_, sym, ap, subst}
 use mathlib.Core.List.{List}
 use native.Mathlib.Omega.{arith}
 use lib.ListN.{length, getD}
-use Rattle.rows.specs.Limits.{sheetAtoms}
+use Rattle.rows.specs.Limits.{sheetAtoms, sheetLinks}
 use Rattle.rows.specs.declared.Sheet.{Sheet as NormalForm}
 use Rattle.placing.specs.Net.{Net, Range, Normal}
 use Rattle.placing.specs.Placing.{Placing, atomTo, linkTo, Good}
 use Rattle.network.specs.NetIn.{netIn, atomAt, Fit}
 use Rattle.candidates.specs.Sets.{Decided, Obeys}
+use Rattle.candidates.specs.Kin.{RowLabels}
 use Rattle.candidates.specs.Laid.{linkOf}
 use Rattle.candidates.specs.Tables.{AtomIn, AtomsStay, LinksStay, mayAtom, mayLink}
 use Rattle.candidates.proofs.GoodPlaces.{decided-real, decided-link}
+use Rattle.candidates.proofs.Kinship.{labels-obeyed}
 use Rattle.candidates.proofs.Sending.{here, there-index, row-range, row-place, same-count, link-sent, link-decided, link-place}
-use Rattle.narrowing.specs.Steps.{Fitting, GivenRow, Alone}
+use Rattle.narrowing.specs.Steps.{Fitting, GivenRow, Alone, AloneLink}
 
 module _ (sheet figure : NormalForm) (fs : Fit sheet) (ff : Fit figure) (NS : Normal (netIn sheet)) (NF : Normal (netIn figure)) (p : Placing) (g : Good (netIn sheet) (netIn figure) p) where
   abbrev S : Net
@@ -65,3 +67,14 @@ module _ (sheet figure : NormalForm) (fs : Fit sheet) (ff : Fit figure) (NS : No
             let x = g .sending .to-atoms j r in
             let y = g .sending .to-atoms (suc i) mine in
             omega (arith, g .sending .different j (suc i) r mine (omega (arith, e, x .0, y .0)))
+
+    -- links by one that has one place to go, since only its kin go there
+    pub kin-obeyed : (kin : List ℕ) → RowLabels F (λ x. getD kin (x - 1) 0) → (k : List ℕ) (x : ℕ) → Decided F x → LinksStay l k (AloneLink kin l (x - 1)) → Obeys S F (mayAtom a) (mayLink k) p
+    kin-obeyed kin rows k x d s = record { atoms = o .atoms; links = λ z e. s (z - 1) (linkTo p z - 1) (there-link z e) (o .links z e) (only z e) }
+      where
+        there-link : (z : ℕ) → Decided F z → linkTo p z - 1 < sheetLinks
+        there-link z e = omega (arith, link-place sheet figure fs ff NS NF p g z e, fs .class-count)
+
+        only : (z : ℕ) → Decided F z → AloneLink kin l (x - 1) (z - 1) (linkTo p z - 1)
+        only z e f = labels-obeyed S F NS NF p g (mayAtom a) (mayLink l) x d (λ y. getD kin (y - 1) 0) rows o .links z e .1
+            (λ v r m. let q = f (v - 1) (omega (arith, r .0, r .1, fs .class-count)) m in let u = decided-real S F NS NF p g z e in omega (arith, q, r .0, u .0))

@@ -1,17 +1,19 @@
 -- What the steps of narrowing look at, on the arrays of normal forms: atoms are counted from 0, links by their numbers.
-use Prim.Native.Nat.{ℕ, _+_, _<_}
+use Prim.Native.Nat.{ℕ, _+_, _-_, _<_}
 use mathlib.Core.Path.{_≡_}
 use mathlib.Core.List.{List}
+use lib.ListN.{getD}
 use Rattle.rows.specs.Limits.{sheetLinks}
 use Rattle.rows.specs.declared.Atom.{Atom}
 use Rattle.rows.specs.declared.Sheet.{Sheet as NormalForm}
 use Rattle.placing.specs.Placing.{Placing, Good}
 use Rattle.network.specs.NetIn.{netIn}
 use Rattle.candidates.specs.Sets.{Obeys}
+use Rattle.candidates.specs.Kin.{RowLabels}
 use Rattle.candidates.specs.Laid.{laidAtom, LaidOut, linkOf}
 use Rattle.candidates.specs.Words.{In, InPair}
 use Rattle.narrowing.specs.Users.{UsersIn}
-use Rattle.candidates.specs.Tables.{AtomIn, mayAtom, mayLink}
+use Rattle.candidates.specs.Tables.{AtomIn, LinkIn, mayAtom, mayLink}
 
 -- the links of a sheet atom may be where those of a figure atom go
 pub record Fitting (here there : Atom) (l : List ℕ) : Type 0 where
@@ -41,10 +43,18 @@ Barred users k left out = (laid : List ℕ) (n : ℕ) → UsersIn laid n users �
 abbrev pub Alone : List ℕ → ℕ → ℕ → ℕ → Type 0
 Alone a i j u = ((v : ℕ) → AtomIn a i v → v ≡ u) → j ≡ i
 
+-- where y is all that figure link x may go to, only links with its label may
+abbrev pub AloneLink : (labels l : List ℕ) (x z y : ℕ) → Type 0
+AloneLink labels l x z y = ((v : ℕ) → v < sheetLinks → LinkIn l x v → v ≡ y) → getD labels z 0 ≡ getD labels x 0
+
 -- A good placing in the sets of the first two arrays is in those of the others.
 abbrev pub Narrowed : NormalForm → NormalForm → (a l b k : List ℕ) → Type 0
 Narrowed sheet figure a l b k = (p : Placing) → Good (netIn sheet) (netIn figure) p → Obeys (netIn sheet) (netIn figure) (mayAtom a) (mayLink l) p → Obeys (netIn sheet) (netIn figure) (mayAtom b) (mayLink k) p
 
--- So it is for the nets whose atoms are laid out.
-abbrev pub NarrowedBy : (sheet : List ℕ) (n : ℕ) (figure : List ℕ) (m : ℕ) (a l b k : List ℕ) → Type 0
-NarrowedBy sheet n figure m a l b k = (S F : NormalForm) → LaidOut S sheet n → LaidOut F figure m → Narrowed S F a l b k
+-- So it is for the nets whose atoms are laid out, where the links of each context of the figure have one label in `kin`.
+abbrev pub NarrowedBy : (kin sheet : List ℕ) (n : ℕ) (figure : List ℕ) (m : ℕ) (a l b k : List ℕ) → Type 0
+NarrowedBy kin sheet n figure m a l b k = (S F : NormalForm) → LaidOut S sheet n → LaidOut F figure m → RowLabels (netIn F) (λ x. getD kin (x - 1) 0) → Narrowed S F a l b k
+
+-- So it is for the links alone, where `owners` has the figure's atoms by their links.
+abbrev pub KinNarrowed : (owners kin l k : List ℕ) → Type 0
+KinNarrowed owners kin l k = (sheet : List ℕ) (n : ℕ) (figure : List ℕ) (m : ℕ) (a : List ℕ) → UsersIn figure m owners → NarrowedBy kin sheet n figure m a l a k

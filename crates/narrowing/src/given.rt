@@ -109,7 +109,7 @@ fn links_left<'a>(
 }
 
 // What is added to the losses of link x: what went, and all of `seen`. It is pending where that is not nothing.
-fn note_loss(
+pub(crate) fn note_loss(
     x: usize,
     went: [u64; 2],
     seen: u64,

@@ -3,6 +3,7 @@ mod alone;
 mod barred;
 pub mod choose;
 mod given;
+mod kin;
 pub mod narrow;
 pub mod users;
 

@@ -3,9 +3,12 @@ use crate::PLACES;
 use crate::alone::alone;
 use crate::barred::follow_link;
 use crate::given::follow_atom;
+use crate::kin::kin_turns;
+use candidates::KIN;
 use candidates::LAID;
 use candidates::LINK_SETS;
 use candidates::laid::laid_atom;
+use candidates::pairs::is_empty;
 use candidates::pairs::pair_at;
 use candidates::pairs::set_pair;
 use candidates::words::ALL;
@@ -60,7 +63,7 @@ fn atom_turn<'a>(
     pending: &mut [u64; 2],
 ) -> u64
     requires { ⌜ Rowed (now laid) n × UsersIn (now laid) n (now users) × Rowed (now parts) m × (i < m) ⌝ }
-    ensures { λ _. ⌜ NarrowedBy (now (laid .entry)) n (now (parts .entry)) m (now (atoms .entry)) (now (links .entry)) (now (atoms .exit)) (now (links .exit)) ⌝ }
+    ensures { λ _. ⌜ ((kin : List ℕ) → NarrowedBy kin (now (laid .entry)) n (now (parts .entry)) m (now (atoms .entry)) (now (links .entry)) (now (atoms .exit)) (now (links .exit))) ⌝ }
 {
     let here = laid_atom(parts, i);
     let went = lost[i];
@@ -116,7 +119,7 @@ fn follow<'a>(
     pending: &mut [u64; 2],
 ) -> bool
     requires { ⌜ Rowed (now laid) n × UsersIn (now laid) n (now users) × Rowed (now parts) m × UsersIn (now parts) m (now owners) ⌝ }
-    ensures narrowed { λ _. ⌜ NarrowedBy (now (laid .entry)) n (now (parts .entry)) m (now (atoms .entry)) (now (links .entry)) (now (atoms .exit)) (now (links .exit)) ⌝ }
+    ensures narrowed { λ _. ⌜ ((kin : List ℕ) → NarrowedBy kin (now (laid .entry)) n (now (parts .entry)) m (now (atoms .entry)) (now (links .entry)) (now (atoms .exit)) (now (links .exit))) ⌝ }
     ensures empty { λ r. ⌜ (r ≡ true → (i : ℕ) × (i < m) × NoAtom (now (atoms .exit)) i) ⌝ }
 {
     let mut due = first_due;
@@ -171,7 +174,7 @@ fn spread<'a>(
     pending: &mut [u64; 2],
 )
     requires { ⌜ Rowed (now laid) n × UsersIn (now laid) n (now users) × Rowed (now parts) m ⌝ }
-    ensures { λ _. ⌜ NarrowedBy (now (laid .entry)) n (now (parts .entry)) m (now (atoms .entry)) (now (links .entry)) (now (atoms .entry)) (now (links .exit)) ⌝ }
+    ensures { λ _. ⌜ ((kin : List ℕ) → NarrowedBy kin (now (laid .entry)) n (now (parts .entry)) m (now (atoms .entry)) (now (links .entry)) (now (atoms .entry)) (now (links .exit))) ⌝ }
 {
     let mut i = 0;
     while i < m {
@@ -192,11 +195,62 @@ fn spread<'a>(
     }
 }
 
+// Losses are followed, from the atoms `first_due` on, then links that have one place are looked at, by turns until
+// nothing is lost or some figure atom may go nowhere. Whether one may go nowhere.
+fn narrow<'a>(
+    users: &'a [u64; PLACES],
+    owners: &'a [u64; PLACES],
+    kin: &'a [u16; KIN],
+    laid: &'a [u16; LAID],
+    n: usize,
+    parts: &'a [u16; LAID],
+    m: usize,
+    first_due: u64,
+    atoms: &mut [u64; Sheet::ATOMS],
+    links: &mut [u64; LINK_SETS],
+    lost: &mut [u64; Sheet::ATOMS],
+    gone: &mut [u64; LINK_SETS],
+    pending: &mut [u64; 2],
+) -> bool
+    requires { ⌜ Rowed (now laid) n × UsersIn (now laid) n (now users) × Rowed (now parts) m × UsersIn (now parts) m (now owners) ⌝ }
+    ensures narrowed { λ _. ⌜ NarrowedBy (now (kin .entry)) (now (laid .entry)) n (now (parts .entry)) m (now (atoms .entry)) (now (links .entry)) (now (atoms .exit)) (now (links .exit)) ⌝ }
+    ensures empty { λ r. ⌜ (r ≡ true → (i : ℕ) × (i < m) × NoAtom (now (atoms .exit)) i) ⌝ }
+{
+    let mut due = first_due;
+    let mut left = TURNS;
+    while left > 0 {
+        left -= 1;
+        if follow(
+            users,
+            owners,
+            laid,
+            n,
+            parts,
+            m,
+            due,
+            atoms,
+            links,
+            lost,
+            gone,
+            pending,
+        ) {
+            return true;
+        }
+        kin_turns(owners, kin, links, gone, pending);
+        if is_empty(*pending) {
+            return false;
+        }
+        due = 0;
+    }
+    false
+}
+
 // Atoms by links and links by atoms, from the first sets on, until nothing changes or some figure atom may go nowhere.
 // Whether one may.
 pub fn narrow_all<'a>(
     users: &'a [u64; PLACES],
     owners: &'a [u64; PLACES],
+    kin: &'a [u16; KIN],
     laid: &'a [u16; LAID],
     n: usize,
     parts: &'a [u16; LAID],
@@ -205,7 +259,7 @@ pub fn narrow_all<'a>(
     links: &mut [u64; LINK_SETS],
 ) -> bool
     requires { ⌜ Rowed (now laid) n × UsersIn (now laid) n (now users) × Rowed (now parts) m × UsersIn (now parts) m (now owners) ⌝ }
-    ensures narrowed { λ _. ⌜ NarrowedBy (now (laid .entry)) n (now (parts .entry)) m (now (atoms .entry)) (now (links .entry)) (now (atoms .exit)) (now (links .exit)) ⌝ }
+    ensures narrowed { λ _. ⌜ NarrowedBy (now (kin .entry)) (now (laid .entry)) n (now (parts .entry)) m (now (atoms .entry)) (now (links .entry)) (now (atoms .exit)) (now (links .exit)) ⌝ }
     ensures empty { λ r. ⌜ (r ≡ true → (i : ℕ) × (i < m) × NoAtom (now (atoms .exit)) i) ⌝ }
 {
     let mut lost = [0u64; Sheet::ATOMS];
@@ -222,9 +276,10 @@ pub fn narrow_all<'a>(
         &mut gone,
         &mut pending,
     );
-    follow(
+    narrow(
         users,
         owners,
+        kin,
         laid,
         n,
         parts,
@@ -242,6 +297,7 @@ pub fn narrow_all<'a>(
 pub fn narrow_after<'a>(
     users: &'a [u64; PLACES],
     owners: &'a [u64; PLACES],
+    kin: &'a [u16; KIN],
     laid: &'a [u16; LAID],
     n: usize,
     parts: &'a [u16; LAID],
@@ -254,14 +310,15 @@ pub fn narrow_after<'a>(
     gone: &mut [u64; LINK_SETS],
 ) -> bool
     requires { ⌜ Rowed (now laid) n × UsersIn (now laid) n (now users) × Rowed (now parts) m × UsersIn (now parts) m (now owners) × (k < m) ⌝ }
-    ensures narrowed { λ _. ⌜ NarrowedBy (now (laid .entry)) n (now (parts .entry)) m (now (atoms .entry)) (now (links .entry)) (now (atoms .exit)) (now (links .exit)) ⌝ }
+    ensures narrowed { λ _. ⌜ NarrowedBy (now (kin .entry)) (now (laid .entry)) n (now (parts .entry)) m (now (atoms .entry)) (now (links .entry)) (now (atoms .exit)) (now (links .exit)) ⌝ }
     ensures empty { λ r. ⌜ (r ≡ true → (i : ℕ) × (i < m) × NoAtom (now (atoms .exit)) i) ⌝ }
 {
     let mut pending = [0u64; 2];
     lost[k] = went;
-    follow(
+    narrow(
         users,
         owners,
+        kin,
         laid,
         n,
         parts,

@@ -8,3 +8,5 @@ pub mod Tallies
 pub mod Ports
 pub mod Marking
 pub mod Starting
+-- Labels of links that may go to one place.
+pub mod KinLabels

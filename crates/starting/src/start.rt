@@ -164,7 +164,7 @@ fn start_closed<'a>(
 }
 
 // Sets that every good placing stays in.
-pub fn start<'a>(
+pub(crate) fn start<'a>(
     sheet: Frame,
     figure: Frame,
     laid: &'a [u16; LAID],

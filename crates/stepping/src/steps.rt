@@ -83,7 +83,7 @@ fn with_context(labels: &mut [u16; Sheet::LINKS], to: &[u16; Sheet::LINKS], set:
 }
 
 // Labels of all links, by the ports of the contexts, which are among the first n links.
-fn step_labels(
+pub fn step_labels(
     labels: &mut [u16; Sheet::LINKS],
     to: &[u16; Sheet::LINKS],
     contexts: [PortSet; Sheet::CONTEXT_ROOM],

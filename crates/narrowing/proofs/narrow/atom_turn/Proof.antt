@@ -42,9 +42,9 @@ returns c = let s = c .before .before .before .before .before .before .before .b
     let f = c .before .before .before .follow-atom in
     let k = f .last .1 .1 .1 .1 .1 .1 .1 .0 in
     let b = c .alone .last .1 .1 .0 in
-    narrows-then (w .laid .now) (w .n) (w .parts .now) (w .m) (w .atoms .now) (w .links .now) (w .atoms .now) k b k
-    (atom-narrows (w .laid .now) (w .n) (w .parts .now) (w .m) (w .i) (s .pre .3) _ (c .before .before .before .before .before .before .before .before .before .laid-atom .ensures) (w .atoms .now) (w .links .now) k (f .ensures))
-    (alone-narrows (w .laid .now) (w .n) (w .parts .now) (w .m) (w .i) (s .pre .3) (w .atoms .now) k b (c .alone .ensures))
+    λ kin. narrows-then kin (w .laid .now) (w .n) (w .parts .now) (w .m) (w .atoms .now) (w .links .now) (w .atoms .now) k b k
+    (atom-narrows kin (w .laid .now) (w .n) (w .parts .now) (w .m) (w .i) (s .pre .3) _ (c .before .before .before .before .before .before .before .before .before .laid-atom .ensures) (w .atoms .now) (w .links .now) k (f .ensures))
+    (alone-narrows kin (w .laid .now) (w .n) (w .parts .now) (w .m) (w .i) (s .pre .3) (w .atoms .now) k b (c .alone .ensures))
 
 pub atom-turn-spec : {M : Type 1} → statement M
 atom-turn-spec =

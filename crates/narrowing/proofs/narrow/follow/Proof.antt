@@ -1,6 +1,7 @@
 -- Invariant: a good placing in the first sets is in those left.
 use Prim.Native.Nat.{ℕ}
 use mathlib.Core.Path.{refl, subst}
+use mathlib.Core.List.{List}
 use native.Mathlib.Omega.{arith}
 use Rattle.placing.proofs.FirstLaws.{both-ways}
 use Rattle.candidates.specs.Words.{In}
@@ -12,13 +13,13 @@ use Rattle.narrowing.proofs.narrow.follow.Statement.{statement}
 use Rattle.narrowing.proofs.narrow.follow.Tie as tie
 
 abbrev Inv-loop : tie.InvT-loop
-Inv-loop users owners laid n parts m first-due atoms₀ links₀ lost₀ gone₀ pending₀ due₀ left₀ atoms links lost gone pending due left = NarrowedBy laid n parts m atoms₀ links₀ atoms links
+Inv-loop users owners laid n parts m first-due atoms₀ links₀ lost₀ gone₀ pending₀ due₀ left₀ atoms links lost gone pending due left = (kin : List ℕ) → NarrowedBy kin laid n parts m atoms₀ links₀ atoms links
 
 abbrev μ-loop : tie.MeasureT-loop
 μ-loop users owners laid n parts m first-due atoms₀ links₀ lost₀ gone₀ pending₀ due₀ left₀ atoms links lost gone pending due left = left
 
 loop-holds : tie.Need-loop-holds Inv-loop μ-loop
-loop-holds c = λ S F os of p g o. o
+loop-holds c = λ kin S F os of rows p g o. o
 
 sub-left : tie.Need-sub-left Inv-loop μ-loop
 sub-left c = search needs
@@ -40,8 +41,8 @@ loop-again c = let l = c .before .before .before .before .before .before .before
     let s = l .before in
     let w = s .args in
     let b = c .link-turn .last .1 .1 .1 .1 .0 in
-    narrows-then (w .laid .now) (w .n) (w .parts .now) (w .m) (w .atoms .now) (w .links .now) (l .loop .atoms) (l .loop .links) b (l .loop .links) (l .loop .inv)
-    (link-narrows (w .laid .now) (w .n) (w .parts .now) (w .m) (l .loop .atoms) (l .loop .links) b (c .link-turn .ensures (w .laid .now) (w .n) (w .parts .now) (w .m) (s .pre .0) (s .pre .1) (s .pre .3)))
+    λ kin. narrows-then kin (w .laid .now) (w .n) (w .parts .now) (w .m) (w .atoms .now) (w .links .now) (l .loop .atoms) (l .loop .links) b (l .loop .links) (l .loop .inv kin)
+    (link-narrows kin (w .laid .now) (w .n) (w .parts .now) (w .m) (l .loop .atoms) (l .loop .links) b (c .link-turn .ensures (w .laid .now) (w .n) (w .parts .now) (w .m) (s .pre .0) (s .pre .1) (s .pre .3)))
 
 returns : tie.Need-returns Inv-loop μ-loop
 returns c = (c .before .before .before .before .before .loop .inv, λ e. both-ways e refl)
@@ -77,7 +78,7 @@ loop-less-2 c = search needs
 loop-again-2 : tie.Need-loop-again-2 Inv-loop μ-loop
 loop-again-2 c = let l = c .before .before .before .before .before .before .before .before .before .before .before .before .before .before .before .before .before in
     let w = l .before .args in
-    narrows-then (w .laid .now) (w .n) (w .parts .now) (w .m) (w .atoms .now) (w .links .now) (l .loop .atoms) (l .loop .links) (c .atom-turn .last .1 .1 .1 .1 .1 .1 .0) (c .atom-turn .last .1 .1 .1 .1 .1 .1 .1 .0) (l .loop .inv) (c .atom-turn .ensures)
+    λ kin. narrows-then kin (w .laid .now) (w .n) (w .parts .now) (w .m) (w .atoms .now) (w .links .now) (l .loop .atoms) (l .loop .links) (c .atom-turn .last .1 .1 .1 .1 .1 .1 .0) (c .atom-turn .last .1 .1 .1 .1 .1 .1 .1 .0) (l .loop .inv kin) (c .atom-turn .ensures kin)
 
 returns-4 : tie.Need-returns-4 Inv-loop μ-loop
 returns-4 c = (c .before .loop .inv, λ e. both-ways e refl)

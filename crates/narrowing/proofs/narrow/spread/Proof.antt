@@ -1,24 +1,25 @@
 -- Invariant: a good placing in the first sets is in those left.
 use mathlib.Core.Path.{sym, subst}
+use mathlib.Core.List.{List}
 use native.Mathlib.Omega.{arith}
 use Rattle.rows.specs.Limits.{sheetLinks}
 use Rattle.rows.specs.declared.Atom.{Atom}
 use Rattle.network.specs.NetIn.{Used}
 use Rattle.narrowing.proofs.Turns.{atom-narrows, narrows-then}
-use Prim.Native.Nat.{_-_, _≤_}
+use Prim.Native.Nat.{ℕ, _-_, _≤_}
 use Rattle.narrowing.specs.Steps.{NarrowedBy}
 use borrow.Author.Needs.{needs}
 use Rattle.narrowing.proofs.narrow.spread.Statement.{statement}
 use Rattle.narrowing.proofs.narrow.spread.Tie as tie
 
 abbrev Inv-loop : tie.InvT-loop
-Inv-loop users laid n parts m atoms links₀ gone₀ pending₀ i₀ links gone pending i = (i ≤ m) × NarrowedBy laid n parts m atoms links₀ atoms links
+Inv-loop users laid n parts m atoms links₀ gone₀ pending₀ i₀ links gone pending i = (i ≤ m) × ((kin : List ℕ) → NarrowedBy kin laid n parts m atoms links₀ atoms links)
 
 abbrev μ-loop : tie.MeasureT-loop
 μ-loop users laid n parts m atoms links₀ gone₀ pending₀ i₀ links gone pending i = m - i
 
 loop-holds : tie.Need-loop-holds Inv-loop μ-loop
-loop-holds c = (search needs, λ S F os of p g o. o)
+loop-holds c = (search needs, λ kin S F os of rows p g o. o)
 
 laid-atom-requires : tie.Need-laid-atom-requires Inv-loop μ-loop
 laid-atom-requires c κs = search needs
@@ -48,8 +49,8 @@ loop-again c = let i = c .before .before .before .before .before .before in
     let w = s .args in
     let k = c .follow-atom .last .1 .1 .1 .1 .1 .1 .1 .0 in (
       omega arith,
-      narrows-then (w .laid .now) (w .n) (w .parts .now) (w .m) (w .atoms .now) (w .links .now) (w .atoms .now) (l .loop .links) (w .atoms .now) k (l .loop .inv .1)
-          (atom-narrows (w .laid .now) (w .n) (w .parts .now) (w .m) (l .loop .i) (i .loop-test .taken) _ (c .before .before .before .before .before .laid-atom .ensures) (w .atoms .now) (l .loop .links) k (c .follow-atom .ensures)),
+      λ kin. narrows-then kin (w .laid .now) (w .n) (w .parts .now) (w .m) (w .atoms .now) (w .links .now) (w .atoms .now) (l .loop .links) (w .atoms .now) k (l .loop .inv .1 kin)
+          (atom-narrows kin (w .laid .now) (w .n) (w .parts .now) (w .m) (l .loop .i) (i .loop-test .taken) _ (c .before .before .before .before .before .laid-atom .ensures) (w .atoms .now) (l .loop .links) k (c .follow-atom .ensures)),
     )
 
 returns : tie.Need-returns Inv-loop μ-loop
