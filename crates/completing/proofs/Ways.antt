@@ -15,7 +15,7 @@ use Rattle.placing.proofs.Standing.{context-link, place-link}
 use Rattle.completing.specs.Completion.{Partial, Completion, Completable, remove}
 use Rattle.completing.specs.Fault.{Other}
 use Rattle.completing.specs.Known.{Touches, Known, MayGo}
-use Rattle.completing.specs.Ways.{OnHalf, AtomOnHalf, Halved, Route, linksOf, atomsOf, lastLink, Disjoint, Every, Walk, Way, Ways, Passes, SomeAt, OnlyAcross}
+use Rattle.completing.specs.Ways.{OnHalf, AtomOnHalf, OnOneHalf, Halved, Route, linksOf, atomsOf, lastLink, Disjoint, Every, Walk, Way, Ways, Passes, SomeAt, OnlyAcross}
 use Rattle.completing.proofs.Lists.{in-remove, remove-shorter}
 use Rattle.completing.proofs.Decide.{taken-dec}
 use Rattle.completing.proofs.Known.{completions-known, no-bars}
@@ -48,7 +48,7 @@ module _ (f g : ℕ → ℕ) (Guarded : ℕ → Type 0) where
 module _ (S F : Net) (NS : Normal S) (NF : Normal F) (P : Placing → Type 0) (may sure : ℕ → ℕ → Type 0) (other : ℕ → Type 0) (known : Known S F P may sure other)
     (X : ℕ → Bool) (first second : ℕ → Type 0) (halved : Halved F X first second)
     (pass : ℕ → Type 0) (pass-atom : (j : ℕ) → pass j → Range (length (S .atoms)) j) (Guarded : ℕ → Type 0) (breaking : List ℕ)
-    (taken-by : (p : Placing) → P p → (j : ℕ) → pass j → (t : Taken S F p j) → ((t .by ∈ breaking) × Guarded j) ⊎ (AtomOnHalf F X true (t .by) ⊎ AtomOnHalf F X false (t .by))) where
+    (taken-by : (p : Placing) → P p → (j : ℕ) → pass j → (t : Taken S F p j) → ((t .by ∈ breaking) × Guarded j) ⊎ OnOneHalf F X (t .by)) where
   module _ (p : Placing) (c : P p) where
     abbrev Cross : ℕ → Type 0
     Cross y = Crossed F X S p y
@@ -88,7 +88,7 @@ module _ (S F : Net) (NS : Normal S) (NF : Normal F) (P : Placing → Type 0) (m
     sided : (j : ℕ) → pass j → Breaks j ⊎ ((b : Bool) × ((y : ℕ) → Touches S j y → Faces b y))
     sided j r = go (taken-dec S F p j)
       where
-        by : (t : Taken S F p j) → ((t .by ∈ breaking) × Guarded j) ⊎ (AtomOnHalf F X true (t .by) ⊎ AtomOnHalf F X false (t .by)) → Breaks j ⊎ ((b : Bool) × ((y : ℕ) → Touches S j y → Faces b y))
+        by : (t : Taken S F p j) → ((t .by ∈ breaking) × Guarded j) ⊎ OnOneHalf F X (t .by) → Breaks j ⊎ ((b : Bool) × ((y : ℕ) → Touches S j y → Faces b y))
         by t (inl s) = inl (t, s .0, s .1)
         by t (inr (inl a)) = inr (true, taken-faces true j r t a)
         by t (inr (inr a)) = inr (false, taken-faces false j r t a)

@@ -1,6 +1,7 @@
 -- Two halves of a figure's contexts, and ways through a sheet from one to the other.
 use Prim.Native.Nat.{ℕ}
 use mathlib.Core.Path.{_≡_}
+use mathlib.Core.Logic.{_⊎_}
 use mathlib.Core.List.{List, [], _∷_, map}
 use mathlib.Core.Bool.{Bool, true, false}
 use lib.ListN.{length}
@@ -21,6 +22,9 @@ module _ (F : Net) (X : ℕ → Bool) where
   -- all links of figure atom i stand on this half
   abbrev pub AtomOnHalf : Bool → ℕ → Type 0
   AtomOnHalf b i = (x : ℕ) → x ∈ (cellAt (F .atoms) i) .1 → OnHalf b x
+
+  abbrev pub OnOneHalf : ℕ → Type 0
+  OnOneHalf i = AtomOnHalf true i ⊎ AtomOnHalf false i
 
   -- figure links that stand on no context of the second half, and links that stand on none of the first; no link is of both
   pub record Halved (first second : ℕ → Type 0) : Type 0 where
