@@ -21,16 +21,16 @@ use Rattle.stepping.proofs.Reading.{atom-links}
 use Rattle.ways.specs.Trails.{LaidStep, Passable}
 
 -- A row whose places were tested.
-module _ (laid taken : List ℕ) (atoms row : ℕ) (rowed : Rowed laid atoms) (h : row < atoms) where
+module _ (laid : List ℕ) (atoms row : ℕ) (rowed : Rowed laid atoms) (h : row < atoms) where
   pub row-few : laidAt laid row 1 ≤ mostLinks
   row-few = subst (λ (n : ℕ). n ≤ mostLinks) (count-laid laid row) (rowed .atoms row h .few)
 
-  place-range : (k : ℕ) → k < laidAt laid row 1 → Range sheetLinks (laidAt laid row (2 + k))
+  pub place-range : (k : ℕ) → k < laidAt laid row 1 → Range sheetLinks (laidAt laid row (2 + k))
   place-range k l = subst (Range sheetLinks) (link-laid laid row k (let f = row-few in omega arith)) (rowed .atoms row h .numbered k (let e = count-laid laid row in omega arith))
 
-  pub step-tested : (from into z r : ℕ) → getD taken row 0 ≢ 1 → from < laidAt laid row 1 → into < laidAt laid row 1 → laidAt laid row (2 + into) ≡ z + 1 → r ≡ laidAt laid row (2 + from)
+  pub step-tested : (taken : List ℕ) (from into z r : ℕ) → getD taken row 0 ≢ 1 → from < laidAt laid row 1 → into < laidAt laid row 1 → laidAt laid row (2 + into) ≡ z + 1 → r ≡ laidAt laid row (2 + from)
       → (r ≤ sheetLinks) × (r ≢ 0 → LaidStep laid taken atoms r (suc row) (suc z))
-  step-tested from into z r n f i e d = (
+  step-tested taken from into z r n f i e d = (
     let t = place-range from f .1 in omega arith,
     λ some. record {
       row = row;

@@ -1,3 +1,4 @@
 pub mod Halves
 pub mod Agrees
 pub mod Trails
+pub mod Nodes

@@ -92,7 +92,7 @@ returns-6 c = let s = c .before .before .before .before .before .before .before 
     let row = c .before .before .before .before .before .before .before .before .before .before .before .before .before .before .row-of .result in
     let width = c .before .before .before .before .before .before .before .wide3 in
     subst (λ (i : ℕ). (c .wide5 .result ≤ sheetLinks) × (c .wide5 .result ≢ 0 → LaidStep (a .laid .now) (a .taken .now) (a .atoms) (c .wide5 .result) (suc i) (suc (a .z)))) (c .before .before .before .before .before .before .before .before .before .before .before .before .before .before .row-of .ensures)
-    (step-tested (a .laid .now) (a .taken .now) (a .atoms) row (s .pre .0) (let h = c .before .before .before .before .before .before .before .before .before .before .before .if1 .left in omega arith)
+    (step-tested (a .laid .now) (a .atoms) row (s .pre .0) (let h = c .before .before .before .before .before .before .before .before .before .before .before .if1 .left in omega arith) (a .taken .now)
     (c .before .before .before .before .before .before .before .before .before .before .before .before .before .wide .result / mostLinks % mostLinks) (c .before .before .before .before .before .before .before .before .before .before .before .before .wide2 .result % mostLinks) (a .z) (c .wide5 .result) (c .before .before .before .before .before .before .before .before .before .if2 .left)
     (let h = c .before .before .before .before .before .before .if3 .left in let e = width .ensures .0 in omega arith)
     (let h = c .before .before .before .before .before .if4 .left in let e = width .ensures .0 in omega arith)
