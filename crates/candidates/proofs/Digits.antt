@@ -39,6 +39,17 @@ pub in-some : (a t : ℕ) → In a t → 0 < a
 in-some zero t e = absurd (none-in t e)
 in-some (suc a) t e = omega arith
 
+-- another number has one
+pub some-in : (a : ℕ) → 0 < a → (t : ℕ) × In a t
+some-in = bin-ind (λ (a : ℕ). 0 < a → (t : ℕ) × In a t) (λ h. absurd (omega (arith, h))) step
+  where
+    step : (a : ℕ) → (0 < a / 2 → (t : ℕ) × In (a / 2) t) → 0 < a → (t : ℕ) × In a t
+    step a ih h = go (ℕ-discrete (a % 2) 1)
+      where
+        go : Dec (a % 2 ≡ 1) → (t : ℕ) × In a t
+        go (yes e) = (0, digit-zero a ∙ e)
+        go (no n) = let r = ih (omega (arith, h, n)) in (suc (r .0), digit-suc a (r .0) ∙ r .1)
+
 -- ---- two words
 
 two : (n : ℕ) → n % 2 < 2
@@ -76,7 +87,7 @@ module _ (a b t : ℕ) where
   in-and p q = omega (arith, digit-and a b t, p, q)
 
   pub and-in : In (bitAnd a b) t → In a t × In b t
-  and-in p = (omega (arith, digit-and a b t, p, digit-lt a t, digit-lt b t), omega (arith, digit-and a b t, p, digit-lt a t, digit-lt b t))
+  and-in p = let e = digit-and a b t in let h = digit-lt a t in let k = digit-lt b t in (omega (arith, p), omega (arith, p))
 
   pub in-or-left : In a t → In (bitOr a b) t
   in-or-left p = omega (arith, digit-or a b t, p, digit-lt b t)

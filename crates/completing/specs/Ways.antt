@@ -1,11 +1,13 @@
 -- Two halves of a figure's contexts, and ways through a sheet from one to the other.
 use Prim.Native.Nat.{ℕ}
 use mathlib.Core.Path.{_≡_}
+use mathlib.Core.Logic.{_⊎_}
 use mathlib.Core.List.{List, [], _∷_, map}
 use mathlib.Core.Bool.{Bool, true, false}
 use lib.ListN.{length}
 use Rattle.hyperlmntal.specs.Link.{_∈_}
 use Rattle.placing.specs.Net.{Net}
+use Rattle.placing.specs.Placing.{cellAt}
 use Rattle.completing.specs.Known.{Stands, Touches}
 
 -- X k says on which half context k is: true on the first.
@@ -16,6 +18,13 @@ module _ (F : Net) (X : ℕ → Bool) where
 
   abbrev pub OnBoth : ℕ → Type 0
   OnBoth x = OnHalf true x × OnHalf false x
+
+  -- all links of figure atom i stand on this half
+  abbrev pub AtomOnHalf : Bool → ℕ → Type 0
+  AtomOnHalf b i = (x : ℕ) → x ∈ (cellAt (F .atoms) i) .1 → OnHalf b x
+
+  abbrev pub OnOneHalf : ℕ → Type 0
+  OnOneHalf i = AtomOnHalf true i ⊎ AtomOnHalf false i
 
   -- figure links that stand on no context of the second half, and links that stand on none of the first; no link is of both
   pub record Halved (first second : ℕ → Type 0) : Type 0 where
@@ -33,14 +42,20 @@ afterward l = map (λ (s : ℕ × ℕ). s .1) l
 abbrev pub linksOf : Route → List ℕ
 linksOf w = w .0 ∷ afterward (w .1)
 
+abbrev pub atomsOf : Route → List ℕ
+atomsOf w = map (λ (s : ℕ × ℕ). s .0) (w .1)
+
 abbrev pub lastLink : ℕ → List (ℕ × ℕ) → ℕ
 lastLink y [] = y
 lastLink y (s ∷ l) = lastLink (s .1) l
 
--- no two of the lists have a number in common
-abbrev pub Disjoint : List (List ℕ) → Type 0
-Disjoint [] = Unit {0}
-Disjoint (k ∷ ls) = ((l : List ℕ) → l ∈ ls → (y : ℕ) → y ∈ k → ¬ (y ∈ l)) × Disjoint ls
+-- no two of the lists have a number in common for which P holds
+abbrev pub Disjoint : (ℕ → Type 0) → List (List ℕ) → Type 0
+Disjoint P [] = Unit {0}
+Disjoint P (k ∷ ls) = ((l : List ℕ) → l ∈ ls → (y : ℕ) → P y → y ∈ k → ¬ (y ∈ l)) × Disjoint P ls
+
+abbrev pub Every : ℕ → Type 0
+Every y = Unit {0}
 
 -- Step y j z: a step leads from link y through atom j to link z.
 module _ (Step : ℕ → ℕ → ℕ → Type 0) where
@@ -56,16 +71,17 @@ module _ (Step : ℕ → ℕ → ℕ → Type 0) where
       pub end : Ends (lastLink (w .0) (w .1))
       pub free : (y : ℕ) → y ∈ linksOf w → Free y
 
-    -- n ways, no two of them with a link in common
-    pub record Ways (n : ℕ) : Type 0 where
+    -- n ways, no two of them with a link or a guarded atom in common
+    pub record Ways (Guarded : ℕ → Type 0) (n : ℕ) : Type 0 where
       pub routes : List Route
       pub count : length routes ≡ n
       pub all-ways : (w : Route) → w ∈ routes → Way w
-      pub disjoint : Disjoint (map linksOf routes)
+      pub disjoint : Disjoint Every (map linksOf routes)
+      pub apart : Disjoint Guarded (map atomsOf routes)
 
--- through an other atom
+-- through an atom that may be passed
 abbrev pub Passes : Net → (ℕ → Type 0) → ℕ → ℕ → ℕ → Type 0
-Passes S other y j z = other j × Touches S j y × Touches S j z
+Passes S pass y j z = pass j × Touches S j y × Touches S j z
 
 -- one of these links surely goes to y
 abbrev pub SomeAt : (ℕ → ℕ → Type 0) → (ℕ → Type 0) → ℕ → Type 0

@@ -1,6 +1,7 @@
 -- The contexts of each figure link as a word, and what a test over such words says of the completions.
 use Prim.Native.Nat.{ℕ, suc, _%_, _<_}
 use mathlib.Core.Path.{_≡_}
+use mathlib.Core.Logic.{_⊎_}
 use mathlib.Core.List.{List}
 use mathlib.Core.Bool.{Bool, true}
 use lib.ListN.{length, getD}
@@ -24,21 +25,24 @@ contextDigits = 16
 abbrev pub digitOf : ℕ → ℕ
 digitOf k = k % contextDigits
 
--- for each figure link, from 0, a word with its contexts
+-- for each figure link, from 0, a word with its contexts and no others
 pub record Standing (figure : form.Sheet) (words : List ℕ) : Type 0 where
   pub room : length words ≡ sheetLinks
   pub holds : (x : ℕ) → x < figure .«class_count» → (k : ℕ) → Stands (netIn figure) (suc x) k → In (getD words x 0) (digitOf k)
+  pub only : (x : ℕ) → x < figure .«class_count» → (t : ℕ) → In (getD words x 0) t → (k : ℕ) × Stands (netIn figure) (suc x) k × (t ≡ digitOf k)
 
--- a word joined to those of the links of a set; none loses a digit
+-- a word joined to those of the links of a set, and no other digits; none loses a digit
 pub record Marked (was set : List ℕ) (word : ℕ) (r : List ℕ) : Type 0 where
   pub room : length r ≡ sheetLinks
   pub kept : (x t : ℕ) → In (getD was x 0) t → In (getD r x 0) t
   pub joined : (x : ℕ) → x < pairDigits → InPair set x → (t : ℕ) → In word t → In (getD r x 0) t
+  pub only : (x t : ℕ) → In (getD r x 0) t → In (getD was x 0) t ⊎ (InPair set x × In word t)
 
 -- the words by the first c contexts
 pub record StandingTo (sets : List PortSet) (c : ℕ) (words : List ℕ) : Type 0 where
   pub room : length words ≡ sheetLinks
   pub holds : (i x : ℕ) → i < c → x < pairDigits → PortIn sets i x → In (getD words x 0) (digitOf (setAt sets i .number))
+  pub only : (x t : ℕ) → In (getD words x 0) t → (i : ℕ) × (i < c) × PortIn sets i x × (t ≡ digitOf (setAt sets i .number))
 
 -- The counts are those of this sheet and this figure; the chains are the sheet's, the words the figure's; `to` says where the
 -- figure links go.

@@ -5,3 +5,6 @@ pub mod Sorting
 pub mod Steps
 pub mod Trails
 pub mod Refusing
+-- Tables of a search node.
+pub mod Telling
+pub mod Guarding

@@ -1,5 +1,5 @@
 -- Rows of atoms that are laid out, as steps between links.
-use Prim.Native.Nat.{ℕ, suc, _+_, _-_, _≤_, _<_}
+use Prim.Native.Nat.{ℕ, suc, _+_, _≤_, _<_}
 use mathlib.Core.Path.{_≡_, refl, sym, _∙_, subst}
 use mathlib.Core.Logic.{_≢_}
 use mathlib.Core.List.{List}
@@ -7,56 +7,54 @@ use native.Mathlib.Omega.{arith}
 use lib.ListN.{take, getD}
 use Rattle.hyperlmntal.specs.Link.{_∈_}
 use Rattle.rows.specs.Format.{mostLinks}
-use Rattle.rows.specs.Limits.{sheetLinks}
+use Rattle.rows.specs.Limits.{sheetAtoms, sheetLinks}
 use Rattle.rows.specs.declared.Atom.{Atom}
 use Rattle.rows.specs.declared.Sheet.{Sheet as NormalForm}
 use Rattle.placing.specs.Net.{Range}
-use Rattle.placing.specs.Placing.{Placing, Taken}
 use Rattle.network.specs.NetIn.{netIn, atomAt, Used}
-use Rattle.network.specs.Ready.{TakenIn}
-use Rattle.network.proofs.NetIn.{used-in, atoms-length}
+use Rattle.network.proofs.NetIn.{used-in}
 use Rattle.candidates.specs.Laid.{laidAt, linkOf, Rowed, LaidOut}
 use Rattle.candidates.proofs.Laying.{link-laid, count-laid}
-use Rattle.completing.specs.Fault.{Other}
 use Rattle.completing.specs.Known.{Touches}
 use Rattle.completing.specs.Ways.{Passes}
 use Rattle.stepping.proofs.Reading.{atom-links}
-use Rattle.ways.specs.Trails.{LaidStep}
+use Rattle.ways.specs.Trails.{LaidStep, Passable}
 
 -- A row whose places were tested.
-module _ (laid taken : List ℕ) (atoms row : ℕ) (rowed : Rowed laid atoms) (h : row < atoms) where
+module _ (laid : List ℕ) (atoms row : ℕ) (rowed : Rowed laid atoms) (h : row < atoms) where
   pub row-few : laidAt laid row 1 ≤ mostLinks
   row-few = subst (λ (n : ℕ). n ≤ mostLinks) (count-laid laid row) (rowed .atoms row h .few)
 
-  place-range : (k : ℕ) → k < laidAt laid row 1 → Range sheetLinks (laidAt laid row (2 + k))
+  pub place-range : (k : ℕ) → k < laidAt laid row 1 → Range sheetLinks (laidAt laid row (2 + k))
   place-range k l = subst (Range sheetLinks) (link-laid laid row k (let f = row-few in omega arith)) (rowed .atoms row h .numbered k (let e = count-laid laid row in omega arith))
 
-  pub step-tested : (from into z r : ℕ) → getD taken row 0 ≢ 1 → from < laidAt laid row 1 → into < laidAt laid row 1 → laidAt laid row (2 + into) ≡ z + 1 → r ≡ laidAt laid row (2 + from)
-      → (r ≤ sheetLinks) × (r ≢ 0 → (j : ℕ) × LaidStep laid taken atoms r j (suc z))
-  step-tested from into z r n f i e d = (
+  pub step-tested : (taken : List ℕ) (from into z r : ℕ) → getD taken row 0 ≢ 1 → from < laidAt laid row 1 → into < laidAt laid row 1 → laidAt laid row (2 + into) ≡ z + 1 → r ≡ laidAt laid row (2 + from)
+      → (r ≤ sheetLinks) × (r ≢ 0 → LaidStep laid taken atoms r (suc row) (suc z))
+  step-tested taken from into z r n f i e d = (
     let t = place-range from f .1 in omega arith,
-    λ some. (
-      suc row,
-      record {
-        row = row;
-        atom = refl;
-        atom-in = h;
-        not-taken = n;
-        from = from;
-        into = into;
-        from-in = f;
-        into-in = i;
-        from-link = sym d;
-        into-link = let u : z + 1 ≡ suc z = omega arith in e ∙ u;
-      },
-    ),
+    λ some. record {
+      row = row;
+      atom = refl;
+      atom-in = h;
+      may-pass = n;
+      from = from;
+      into = into;
+      from-in = f;
+      into-in = i;
+      from-link = sym d;
+      into-link = let u : z + 1 ≡ suc z = omega arith in e ∙ u;
+    },
   )
 
 -- 0 is no step.
-pub no-step : (laid taken : List ℕ) (atoms z : ℕ) → (0 ≤ sheetLinks) × (_≢_ {A = ℕ} 0 0 → (j : ℕ) × LaidStep laid taken atoms 0 j (suc z))
-no-step laid taken atoms z = (omega arith, λ n. absurd (n refl))
+pub no-step : (laid taken : List ℕ) (atoms j z : ℕ) → (0 ≤ sheetLinks) × (_≢_ {A = ℕ} 0 0 → LaidStep laid taken atoms 0 j (suc z))
+no-step laid taken atoms j z = (omega arith, λ n. absurd (n refl))
 
-module _ (sheet figure : NormalForm) (q : Placing) (laid taken : List ℕ) (atoms : ℕ) (out : LaidOut sheet laid atoms) (t : TakenIn sheet figure q taken) where
+-- The row of a step is one of the array.
+pub step-row : {laid taken : List ℕ} {atoms y row z : ℕ} → Rowed laid atoms → LaidStep laid taken atoms y (suc row) z → row < sheetAtoms
+step-row rowed s = let e = s .atom in let h = s .atom-in in let f = rowed .few in omega arith
+
+module _ (sheet : NormalForm) (laid taken : List ℕ) (atoms : ℕ) (out : LaidOut sheet laid atoms) where
   -- A row touches the links at its places.
   row-touches : (row : ℕ) → row < atoms → (k : ℕ) → k < laidAt laid row 1 → Touches (netIn sheet) (suc row) (laidAt laid row (2 + k))
   row-touches row h k l = subst (λ (m : List ℕ). laidAt laid row (2 + k) ∈ m) (sym (atom-links sheet (out .fit) row inside)) (subst (λ (y : ℕ). y ∈ take (atomAt sheet row .count) (atomAt sheet row .links)) link (used-in _ _ _ used k few))
@@ -73,13 +71,10 @@ module _ (sheet figure : NormalForm) (q : Placing) (laid taken : List ℕ) (atom
       link : linkOf (atomAt sheet row) k ≡ laidAt laid row (2 + k)
       link = subst (λ (a : Atom). linkOf a k ≡ laidAt laid row (2 + k)) (out .atoms row h) (link-laid laid row k (let f = used .few in let g = few in omega arith))
 
-  -- A step through a row that is not taken passes through an other atom.
-  pub laid-passes : (y j z : ℕ) → LaidStep laid taken atoms y j z → Passes (netIn sheet) (Other (netIn sheet) (netIn figure) q) y j z
-  laid-passes y j z s = subst (λ (i : ℕ). Passes (netIn sheet) (Other (netIn sheet) (netIn figure) q) y i z) (sym (s .atom)) (
-    ((omega arith, let e = atoms-length sheet (out .fit) in let d = out .count in let h = s .atom-in in omega arith), free),
+  -- A step through a row that may be passed.
+  pub laid-passes : (y j z : ℕ) → LaidStep laid taken atoms y j z → Passes (netIn sheet) (Passable taken atoms) y j z
+  laid-passes y j z s = subst (λ (i : ℕ). Passes (netIn sheet) (Passable taken atoms) y i z) (sym (s .atom)) (
+    (s .row, refl, s .atom-in, s .may-pass),
     subst (Touches (netIn sheet) (suc (s .row))) (s .from-link) (row-touches (s .row) (s .atom-in) (s .from) (s .from-in)),
     subst (Touches (netIn sheet) (suc (s .row))) (s .into-link) (row-touches (s .row) (s .atom-in) (s .into) (s .into-in)),
   )
-    where
-      free : ¬ Taken (netIn sheet) (netIn figure) q (suc (s .row))
-      free k = s .not-taken (subst (λ (i : ℕ). getD taken i 0 ≡ 1) (let e : suc (s .row) - 1 ≡ s .row = omega arith in e) (t .flags (suc (s .row)) (let d = out .count in let h = s .atom-in in (omega arith, omega arith)) .1 k))

@@ -1,88 +1,133 @@
 -- The laws of a loop that follows ways back from their ends, and counts them.
 use Prim.Native.Nat.{ℕ, suc, _+_, _*_, _-_, _≤_, _<_}
-use mathlib.Core.Path.{_≡_, refl, sym, ap, subst}
+use mathlib.Core.Path.{_≡_, refl, sym, _∙_, ap, subst}
 use mathlib.Core.Logic.{_⊎_, inl, inr, _≢_}
-use mathlib.Core.List.{List, [], _∷_, map, List·Memᴰ·not-nil, List·Memᴰ·cases-cons, Memᴰ·of-map}
+use mathlib.Core.List.{List, [], _∷_, map, List·Memᴰ·not-nil, List·Memᴰ·cases-cons}
 use mathlib.Core.Bool.{true, false}
 use native.Mathlib.Omega.{arith}
 use lib.ListN.{length, getD, set, length-set}
+use lib.Seq.{getD-set-same, getD-set-other}
 use Rattle.hyperlmntal.specs.Link.{_∈_}
-use Rattle.rows.specs.Limits.{sheetLinks}
+use Rattle.rows.specs.Limits.{sheetAtoms, sheetLinks}
 use Rattle.placing.proofs.FirstLaws.{both-ways}
-use Rattle.completing.specs.Ways.{Route, afterward, linksOf, lastLink, Walk, Way, Ways}
-use Rattle.stepping.proofs.Tables.{store-flag}
-use Rattle.ways.specs.Trails.{LaidStep, Unflagged, Trail, Found, Seen, FoundIn, TrailIn, Follows}
+use Rattle.completing.specs.Ways.{Route, afterward, linksOf, atomsOf, lastLink, Every, Walk, Way, Ways}
+use Rattle.ways.specs.Trails.{LaidStep, Unflagged, Has, Fresh, AllSeen, Trail, Found, FoundIn, TrailIn, Follows, PassesBack}
 
-module _ {Step : ℕ → ℕ → ℕ → Type 0} {Starts Ends Free : ℕ → Type 0} where
-  -- An end.
-  trail-end : (was : ℕ → Type 0) (y : ℕ) → Ends y → Trail Step Starts Ends Free was was y []
-  trail-end was y e = record {
-    walk = tt;
-    end = e;
-    free = λ z m. absurd (List·Memᴰ·not-nil m);
-    new = λ z m. absurd (List·Memᴰ·not-nil m);
-    seen = λ z m. absurd (List·Memᴰ·not-nil m);
-    kept = λ z h. h;
+-- ---- what was seen
+
+fresh-none : (P was : ℕ → Type 0) → Fresh P was was []
+fresh-none P was = record { new = λ y h m. absurd (List·Memᴰ·not-nil m); seen = λ y h m. absurd (List·Memᴰ·not-nil m); kept = λ y h. h }
+
+-- One more, which was not seen.
+fresh-more : (P was now next : ℕ → Type 0) (z : ℕ) (l : List ℕ) → Fresh P was now l → (P z → ¬ now z) → (P z → next z) → ((y : ℕ) → now y → next y) → Fresh P was next (z ∷ l)
+fresh-more P was now next z l f new seen kept = record {
+  new = λ y h m. also (λ v. P v → ¬ was v) (λ k w. new k (f .kept z w)) (λ v i k. f .new v k i) y (List·Memᴰ·cases-cons m) h;
+  seen = λ y h m. also (λ v. P v → next v) seen (λ v i k. kept v (f .seen v k i)) y (List·Memᴰ·cases-cons m) h;
+  kept = λ y w. kept y (f .kept y w);
+}
+  where
+    also : (Q : ℕ → Type 0) → Q z → ((y : ℕ) → y ∈ l → Q y) → (y : ℕ) → (y ≡ z) ⊎ (y ∈ l) → Q y
+    also Q q r y (inl e) = subst Q (sym e) q
+    also Q q r y (inr m) = r y m
+
+-- The list is apart from all that were seen before, and is seen with them.
+fresh-apart : {P was now : ℕ → Type 0} {k : List ℕ} {ls : List (List ℕ)} → Fresh P was now k → AllSeen P was ls → (l : List ℕ) → l ∈ ls → (y : ℕ) → P y → y ∈ k → ¬ (y ∈ l)
+fresh-apart f s l i y h m j = f .new y h m (s l i y h j)
+
+fresh-all : (P was now : ℕ → Type 0) (k : List ℕ) (ls : List (List ℕ)) → Fresh P was now k → AllSeen P was ls → AllSeen P now (k ∷ ls)
+fresh-all P was now k ls f s l i y h m = go (List·Memᴰ·cases-cons i)
+  where
+    go : (l ≡ k) ⊎ (l ∈ ls) → now y
+    go (inl e) = f .seen y h (subst (λ (v : List ℕ). y ∈ v) e m)
+    go (inr j) = f .kept y (s l j y h m)
+
+-- In an array: v is stored for a number that did not have it, or something else where P does not hold.
+module _ (v w : ℕ) (now : List ℕ) (z : ℕ) (h : z < length now) (new : getD now z 0 ≢ v) where
+  pub has-not : ¬ Has v now (suc z)
+  has-not t = let e : suc z ≡ suc (t .0) = t .1 in let f : z ≡ t .0 = omega arith in new (subst (λ (i : ℕ). getD now i 0 ≡ v) (sym f) (t .2))
+
+  pub has-kept : (y : ℕ) → Has v now y → Has v (set now z w) y
+  has-kept y t = (t .0, t .1, getD-set-other now z (t .0) w 0 (λ e. new (subst (λ (i : ℕ). getD now i 0 ≡ v) e (t .2))) ∙ t .2)
+
+  pub has-stored : w ≡ v → Has v (set now z w) (suc z)
+  has-stored e = (z, refl, getD-set-same now z w 0 h ∙ e)
+
+-- ---- atoms that are passed
+
+module _ (laid taken : List ℕ) (atoms : ℕ) (passed : List ℕ) (z : ℕ) (room : length passed ≡ sheetAtoms) where
+  pub not-passed : PassesBack laid taken atoms passed passed z 0
+  not-passed = record { room = room; few = omega arith; kept = λ y h. h; step = λ n. absurd (n refl) }
+
+  pub row-passed : (row r : ℕ) → row < sheetAtoms → r ≤ sheetLinks → LaidStep laid taken atoms r (suc row) (suc z) → getD passed row 0 ≢ 2
+      → PassesBack laid taken atoms passed (set passed row (getD taken row 0)) z r
+  row-passed row r h few s new = record {
+    room = simp length-set room;
+    few = few;
+    kept = has-kept 2 (getD taken row 0) passed row (omega arith) new;
+    step = λ n. (suc row, s, (λ g. has-not 2 0 passed row (omega arith) new), λ g. has-stored 2 (getD taken row 0) passed row (omega arith) new (stands g));
   }
+    where
+      stands : Has 2 taken (suc row) → getD taken row 0 ≡ 2
+      stands t = let e : suc row ≡ suc (t .0) = t .1 in let f : row ≡ t .0 = omega arith in ap (λ (i : ℕ). getD taken i 0) f ∙ t .2
 
-  module _ (was now next : ℕ → Type 0) (z : ℕ) (l : List (ℕ × ℕ)) (t : Trail Step Starts Ends Free was now z l) (free : Free z) (new : ¬ now z) (seen : next z) (kept : (y : ℕ) → now y → next y) where
-    also : (P : ℕ → Type 0) → P z → ((y : ℕ) → y ∈ afterward l → P y) → (y : ℕ) → y ∈ linksOf (z, l) → P y
-    also P p r y m = go (List·Memᴰ·cases-cons m)
-      where
-        go : (y ≡ z) ⊎ (y ∈ afterward l) → P y
-        go (inl e) = subst P (sym e) p
-        go (inr k) = r y k
+-- ---- trails and ways
 
+module _ {Step : ℕ → ℕ → ℕ → Type 0} {Starts Ends Free Guarded : ℕ → Type 0} where
+  -- An end.
+  trail-end : (was was-atom : ℕ → Type 0) (y : ℕ) → Ends y → Trail Step Starts Ends Free Guarded was was-atom was was-atom y []
+  trail-end was was-atom y e = record { walk = tt; end = e; free = λ z m. absurd (List·Memᴰ·not-nil m); links = fresh-none Every was; atoms = fresh-none Guarded was-atom }
+
+  module _ (was was-atom now now-atom next : ℕ → Type 0) (z : ℕ) (l : List (ℕ × ℕ)) (t : Trail Step Starts Ends Free Guarded was was-atom now now-atom z l) (free : Free z)
+      (new : ¬ now z) (seen : next z) (kept : (y : ℕ) → now y → next y) where
     all-free : (y : ℕ) → y ∈ linksOf (z, l) → Free y
-    all-free = also Free free (t .free)
+    all-free y m = go (List·Memᴰ·cases-cons m)
+      where
+        go : (y ≡ z) ⊎ (y ∈ afterward l) → Free y
+        go (inl e) = subst Free (sym e) free
+        go (inr k) = t .free y k
 
-    all-new : (y : ℕ) → y ∈ linksOf (z, l) → ¬ was y
-    all-new = also (λ y. ¬ was y) (λ h. new (t .kept z h)) (t .new)
-
-    all-seen : (y : ℕ) → y ∈ linksOf (z, l) → next y
-    all-seen = also next seen (λ y m. kept y (t .seen y m))
+    fresh-links : Fresh Every was next (linksOf (z, l))
+    fresh-links = fresh-more Every was now next z (afterward l) (t .links) (λ u. new) (λ u. seen) kept
 
     -- One link further back.
-    trail-more : (y j : ℕ) → Step y j z → Trail Step Starts Ends Free was next y ((j, z) ∷ l)
-    trail-more y j s = record { walk = (s, t .walk); end = t .end; free = all-free; new = all-new; seen = all-seen; kept = λ w h. kept w (t .kept w h) }
+    trail-more : (y j : ℕ) (next-atom : ℕ → Type 0) → Step y j z → (Guarded j → ¬ now-atom j) → (Guarded j → next-atom j) → ((i : ℕ) → now-atom i → next-atom i)
+        → Trail Step Starts Ends Free Guarded was was-atom next next-atom y ((j, z) ∷ l)
+    trail-more y j next-atom s n g k = record { walk = (s, t .walk); end = t .end; free = all-free; links = fresh-links; atoms = fresh-more Guarded was-atom now-atom next-atom j (atomsOf (z, l)) (t .atoms) n g k }
 
     -- At a start it is one way more.
-    found-more : Starts z → (n : ℕ) → Found Step Starts Ends Free was n → Found Step Starts Ends Free next (suc n)
+    found-more : Starts z → (n : ℕ) → Found Step Starts Ends Free Guarded was was-atom n → Found Step Starts Ends Free Guarded next now-atom (suc n)
     found-more start n f = record {
       ways = record {
         routes = (z, l) ∷ f .ways .routes;
         count = ap suc (f .ways .count);
         all-ways = λ w m. way w (List·Memᴰ·cases-cons m);
-        disjoint = (apart, f .ways .disjoint);
+        disjoint = (fresh-apart fresh-links (f .links), f .ways .disjoint);
+        apart = (fresh-apart (t .atoms) (f .atoms), f .ways .apart);
       };
-      seen = λ w m. seen-on w (List·Memᴰ·cases-cons m);
+      links = fresh-all Every was next (linksOf (z, l)) (map linksOf (f .ways .routes)) fresh-links (f .links);
+      atoms = fresh-all Guarded was-atom now-atom (atomsOf (z, l)) (map atomsOf (f .ways .routes)) (t .atoms) (f .atoms);
     }
       where
         way : (w : Route) → (w ≡ (z, l)) ⊎ (w ∈ f .ways .routes) → Way Step Starts Ends Free w
         way w (inl e) = subst (Way Step Starts Ends Free) (sym e) (record { walk = t .walk; start = start; end = t .end; free = all-free })
         way w (inr m) = f .ways .all-ways w m
 
-        seen-on : (w : Route) → (w ≡ (z, l)) ⊎ (w ∈ f .ways .routes) → (y : ℕ) → y ∈ linksOf w → next y
-        seen-on w (inl e) y m = all-seen y (subst (λ (v : Route). y ∈ linksOf v) e m)
-        seen-on w (inr i) y m = kept y (t .kept y (f .seen w i y m))
-
-        apart : (k : List ℕ) → k ∈ map linksOf (f .ways .routes) → (y : ℕ) → y ∈ linksOf (z, l) → ¬ (y ∈ k)
-        apart k i y m j = let v : (w : Route) × (w ∈ f .ways .routes) × (linksOf w ≡ k) = Memᴰ·of-map linksOf (f .ways .routes) i in
-            all-new y m (f .seen (v .0) (v .1) y (subst (λ (r : List ℕ). y ∈ r) (sym (v .2)) j))
-
-  found-none : (now : ℕ → Type 0) → Found Step Starts Ends Free now 0
-  found-none now = record {
-    ways = record { routes = []; count = refl; all-ways = λ w m. absurd (List·Memᴰ·not-nil m); disjoint = tt };
-    seen = λ w m. absurd (List·Memᴰ·not-nil m);
+  found-none : (now now-atom : ℕ → Type 0) → Found Step Starts Ends Free Guarded now now-atom 0
+  found-none now now-atom = record {
+    ways = record { routes = []; count = refl; all-ways = λ w m. absurd (List·Memᴰ·not-nil m); disjoint = tt; apart = tt };
+    links = λ l m. absurd (List·Memᴰ·not-nil m);
+    atoms = λ l m. absurd (List·Memᴰ·not-nil m);
   }
 
-  found-kept : (was now : ℕ → Type 0) → ((y : ℕ) → was y → now y) → (n : ℕ) → Found Step Starts Ends Free was n → Found Step Starts Ends Free now n
-  found-kept was now k n f = record { ways = f .ways; seen = λ w m y i. k y (f .seen w m y i) }
+  found-kept : (was was-atom now now-atom : ℕ → Type 0) → ((y : ℕ) → was y → now y) → ((j : ℕ) → was-atom j → now-atom j)
+      → (n : ℕ) → Found Step Starts Ends Free Guarded was was-atom n → Found Step Starts Ends Free Guarded now now-atom n
+  found-kept was was-atom now now-atom k a n f = record { ways = f .ways; links = λ l m y h i. k y (f .links l m y h i); atoms = λ l m j h i. a j (f .atoms l m j h i) }
 
 -- Ways by other words.
-pub ways-as : {Step Step′ : ℕ → ℕ → ℕ → Type 0} {Starts Starts′ Ends Ends′ Free Free′ : ℕ → Type 0} → ((y j z : ℕ) → Step y j z → Step′ y j z) → ((y : ℕ) → Starts y → Starts′ y)
-    → ((y : ℕ) → Ends y → Ends′ y) → ((y : ℕ) → Free y → Free′ y) → (n : ℕ) → Ways Step Starts Ends Free n → Ways Step′ Starts′ Ends′ Free′ n
-ways-as {Step} {Step′} {Starts} {Starts′} {Ends} {Ends′} {Free} {Free′} f g h k n ways = record { routes = ways .routes; count = ways .count; all-ways = λ w m. way w (ways .all-ways w m); disjoint = ways .disjoint }
+pub ways-as : {Step Step′ : ℕ → ℕ → ℕ → Type 0} {Starts Starts′ Ends Ends′ Free Free′ Guarded : ℕ → Type 0} → ((y j z : ℕ) → Step y j z → Step′ y j z) → ((y : ℕ) → Starts y → Starts′ y)
+    → ((y : ℕ) → Ends y → Ends′ y) → ((y : ℕ) → Free y → Free′ y) → (n : ℕ) → Ways Step Starts Ends Free Guarded n → Ways Step′ Starts′ Ends′ Free′ Guarded n
+ways-as {Step} {Step′} {Starts} {Starts′} {Ends} {Ends′} {Free} {Free′} f g h k n ways =
+    record { routes = ways .routes; count = ways .count; all-ways = λ w m. way w (ways .all-ways w m); disjoint = ways .disjoint; apart = ways .apart }
   where
     walk : (l : List (ℕ × ℕ)) (y : ℕ) → Walk Step y l → Walk Step′ y l
     walk [] y w = tt
@@ -94,61 +139,61 @@ ways-as {Step} {Step′} {Starts} {Starts′} {Ends} {Ends′} {Free} {Free′} 
 -- ---- in arrays
 
 module _ (laid taken : List ℕ) (atoms links : ℕ) (table : List ℕ) where
-  pub laid-end : (seen : List ℕ) (z : ℕ) → z < links → getD table (2 * sheetLinks + z) 0 ≡ 1 → TrailIn laid taken atoms links table seen seen (suc z)
-  laid-end seen z h e = ([], trail-end (Seen seen) (suc z) (record { place = z; link = refl; place-in = h; flag = e }))
+  pub laid-end : (seen passed : List ℕ) (z : ℕ) → z < links → getD table (2 * sheetLinks + z) 0 ≡ 1 → TrailIn laid taken atoms links table seen passed seen passed (suc z)
+  laid-end seen passed z h e = ([], trail-end (Has 1 seen) (Has 2 passed) (suc z) (record { place = z; link = refl; place-in = h; flag = e }))
 
   -- Nothing is seen, and nothing found.
-  pub laid-none : (seen : List ℕ) → FoundIn laid taken atoms links table seen 0
-  laid-none seen = found-none (Seen seen)
+  pub laid-none : (seen passed : List ℕ) → FoundIn laid taken atoms links table seen passed 0
+  laid-none seen passed = found-none (Has 1 seen) (Has 2 passed)
 
-  -- What was seen stays so when a 1 is stored.
-  module _ (now : List ℕ) (z : ℕ) (room : length now ≡ sheetLinks) (few : links ≤ sheetLinks) (here : z < links) where
-    in-room : z < length now
-    in-room = omega arith
+  module _ (was passed₀ now passed : List ℕ) (room : length now ≡ sheetLinks) where
+    -- The trail stopped before this.
+    pub laid-left : (y : ℕ) → length passed ≡ sheetAtoms → TrailIn laid taken atoms links table was passed₀ now passed y → Follows laid taken atoms links table was passed₀ now passed false
+    laid-left y atom-room t = record {
+      room = room;
+      atom-room = atom-room;
+      stay = found-kept (Has 1 was) (Has 2 passed₀) (Has 1 now) (Has 2 passed) (t .1 .links .kept) (t .1 .atoms .kept);
+      more = λ e. both-ways e refl;
+    }
 
-    seen-kept : (y : ℕ) → Seen now y → Seen (set now z 1) y
-    seen-kept y t = (t .0, t .1, store-flag now z in-room (t .0) .1 (inl (t .2)))
+    -- A link that was not seen is.
+    module _ (z : ℕ) (few : links ≤ sheetLinks) (here : z < links) (t : TrailIn laid taken atoms links table was passed₀ now passed (suc z)) (new : getD now z 0 ≢ 1) where
+      in-room : z < length now
+      in-room = omega arith
 
-    seen-there : Seen (set now z 1) (suc z)
-    seen-there = (z, refl, store-flag now z in-room z .1 (inr refl))
+      room-kept : length (set now z 1) ≡ sheetLinks
+      room-kept = simp length-set room
 
-    room-kept : length (set now z 1) ≡ sheetLinks
-    room-kept = simp length-set room
+      kept : (y : ℕ) → Has 1 now y → Has 1 (set now z 1) y
+      kept = has-kept 1 1 now z in-room new
 
-    not-seen : getD now z 0 ≢ 1 → ¬ Seen now (suc z)
-    not-seen n t = let e : suc z ≡ suc (t .0) = t .1 in let f : z ≡ t .0 = omega arith in n (subst (λ (i : ℕ). getD now i 0 ≡ 1) (sym f) (t .2))
-
-    module _ (was : List ℕ) (t : TrailIn laid taken atoms links table was now (suc z)) where
-      -- The trail stops here.
-      pub laid-stopped : Follows laid taken atoms links table was (set now z 1) false
-      laid-stopped = record {
+      -- No step leads on.
+      pub laid-stopped : (after : List ℕ) (r : ℕ) → PassesBack laid taken atoms passed after z r → Follows laid taken atoms links table was passed₀ (set now z 1) after false
+      laid-stopped after r b = record {
         room = room-kept;
-        stay = found-kept (Seen was) (Seen (set now z 1)) (λ y h. seen-kept y (t .1 .kept y h));
+        atom-room = b .room;
+        stay = found-kept (Has 1 was) (Has 2 passed₀) (Has 1 (set now z 1)) (Has 2 after) (λ y h. kept y (t .1 .links .kept y h)) (λ j h. b .kept j (t .1 .atoms .kept j h));
         more = λ e. both-ways e refl;
       }
 
-      module _ (free : getD table (3 * sheetLinks + z) 0 ≢ 1) (new : getD now z 0 ≢ 1) where
+      module _ (free : getD table (3 * sheetLinks + z) 0 ≢ 1) where
         unflagged : Unflagged table 3 links (suc z)
         unflagged = record { place = z; link = refl; place-in = here; no-flag = free }
 
-        laid-more : (y j : ℕ) → LaidStep laid taken atoms y j (suc z) → TrailIn laid taken atoms links table was (set now z 1) y
-        laid-more y j s = ((j, suc z) ∷ t .0, trail-more (Seen was) (Seen now) (Seen (set now z 1)) (suc z) (t .0) (t .1) unflagged (not-seen new) seen-there seen-kept y j s)
-
         -- as the loop has it, with links from 0
-        pub laid-again : (y j : ℕ) → y ≢ 0 → LaidStep laid taken atoms y j (suc z) → TrailIn laid taken atoms links table was (set now z 1) (suc (y - 1))
-        laid-again y j n s = subst (TrailIn laid taken atoms links table was (set now z 1)) (let e : y ≡ suc (y - 1) = omega arith in e) (laid-more y j s)
+        pub laid-again : (after : List ℕ) (y : ℕ) → y ≢ 0 → PassesBack laid taken atoms passed after z y → TrailIn laid taken atoms links table was passed₀ (set now z 1) after (suc (y - 1))
+        laid-again after y n b = let s = b .step n in
+            subst (TrailIn laid taken atoms links table was passed₀ (set now z 1) after) (let e : y ≡ suc (y - 1) = omega arith in e) (
+              (s .0, suc z) ∷ t .0,
+              trail-more (Has 1 was) (Has 2 passed₀) (Has 1 now) (Has 2 passed) (Has 1 (set now z 1)) (suc z) (t .0) (t .1) unflagged
+                  (has-not 1 1 now z in-room new) (has-stored 1 1 now z in-room new refl) kept y (s .0) (Has 2 after) (s .1) (s .2) (s .3) (b .kept),
+            )
 
-        pub laid-found : getD table (1 * sheetLinks + z) 0 ≡ 1 → Follows laid taken atoms links table was (set now z 1) true
-        laid-found e = record {
+        pub laid-found : length passed ≡ sheetAtoms → getD table (1 * sheetLinks + z) 0 ≡ 1 → Follows laid taken atoms links table was passed₀ (set now z 1) passed true
+        laid-found atom-room e = record {
           room = room-kept;
-          stay = laid-stopped .stay;
-          more = λ b. found-more (Seen was) (Seen now) (Seen (set now z 1)) (suc z) (t .0) (t .1) unflagged (not-seen new) seen-there seen-kept (record { place = z; link = refl; place-in = here; flag = e });
+          atom-room = atom-room;
+          stay = found-kept (Has 1 was) (Has 2 passed₀) (Has 1 (set now z 1)) (Has 2 passed) (λ y h. kept y (t .1 .links .kept y h)) (t .1 .atoms .kept);
+          more = λ b. found-more (Has 1 was) (Has 2 passed₀) (Has 1 now) (Has 2 passed) (Has 1 (set now z 1)) (suc z) (t .0) (t .1) unflagged
+              (has-not 1 1 now z in-room new) (has-stored 1 1 now z in-room new refl) kept (record { place = z; link = refl; place-in = here; flag = e });
         }
-
-  -- The trail stopped before this.
-  pub laid-left : (was now : List ℕ) (y : ℕ) → length now ≡ sheetLinks → TrailIn laid taken atoms links table was now y → Follows laid taken atoms links table was now false
-  laid-left was now y room t = record {
-    room = room;
-    stay = found-kept (Seen was) (Seen now) (t .1 .kept);
-    more = λ e. both-ways e refl;
-  }

@@ -1,13 +1,13 @@
 -- The half of a word, and what it says of the contexts.
-use Prim.Native.Nat.{ℕ, _<_}
+use Prim.Native.Nat.{ℕ, zero, suc, _<_}
 use mathlib.Core.Path.{_≡_, refl}
-use mathlib.Core.Logic.{_≢_}
+use mathlib.Core.Logic.{_⊎_, inl, inr, _≢_}
 use mathlib.Core.Bool.{Bool, true, false}
 use native.Mathlib.Omega.{arith}
 use lib.Bits.{bitAnd, bitXor}
 use lib.Dec.{eqb}
 use borrow.Author.Tests.{eqb-true, ne-eqb}
-use Rattle.candidates.specs.Words.{In, fewer}
+use Rattle.candidates.specs.Words.{digit, In, fewer}
 use Rattle.candidates.proofs.Digits.{in-dec, in-some, in-and, in-fewer}
 use Rattle.ways.specs.Halves.{halfBy, halfOf}
 
@@ -36,6 +36,15 @@ by-second true true e = refl
 by-second false true e = absurd (omega arith)
 by-second true false e = refl
 by-second false false e = absurd (omega arith)
+
+-- The halves of some links, as digits: the first or the second is there.
+pub some-half : (r : ℕ) → r < 4 → r ≢ 0 → In r 0 ⊎ In r 1
+unfolding digit
+some-half zero h n = absurd (n refl)
+some-half (suc zero) h n = inl refl
+some-half (suc (suc zero)) h n = inr refl
+some-half (suc (suc (suc zero))) h n = inl refl
+some-half (suc (suc (suc (suc r)))) h n = absurd (omega arith)
 
 module _ (w s : ℕ) where
   -- all contexts of half 1 are on the first half

@@ -1,2 +1,4 @@
 pub mod Halves
+pub mod Agrees
 pub mod Trails
+pub mod Nodes

@@ -9,7 +9,7 @@ ghost use Rattle.stepping.specs.Flags.{Within};
 ghost use Rattle.ways.specs.Halves.{halfOf, Sorts, Crossing};
 
 // The half of a link that stands on the contexts of `word`: 1 and 2 for the halves, 3 for both, 0 for none.
-fn half_of(word: u16, side: u16) -> usize
+pub(crate) fn half_of(word: u16, side: u16) -> usize
     ensures { λ r. ⌜ (r ≡ halfOf word side) × (r < 4) ⌝ }
 {
     let first = word & side;

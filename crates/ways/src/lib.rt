@@ -1,8 +1,10 @@
 // Ways through the sheet from one half of the contexts to the other.
 mod flow;
+mod guarded;
 mod halves;
 pub mod outnumbered;
 mod search;
+mod told;
 mod trail;
 
 use rows::Sheet;

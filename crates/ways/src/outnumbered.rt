@@ -1,4 +1,4 @@
-// Do more ways lead from one half of the contexts to the other than open links stand on both?
+// Do more ways lead from one half of the contexts to the other than can be broken?
 use crate::SORTED;
 use crate::flow::lay_ways;
 use crate::halves::crossing;
@@ -9,11 +9,12 @@ use rows::Sheet;
 use stepping::CHAINS;
 ghost use Prim.Native.Nat.{ℕ, _<_, _≤_};
 ghost use lib.ListN.{getD};
-ghost use Rattle.rows.specs.Limits.{sheetLinks};
+ghost use Rattle.rows.specs.Limits.{sheetAtoms, sheetLinks};
 ghost use Rattle.rows.specs.declared.Sheet.{Sheet as NormalForm};
 ghost use Rattle.candidates.specs.Laid.{LaidOut};
 ghost use Rattle.candidates.specs.Words.{In};
 ghost use Rattle.stepping.specs.Standing.{Described, Refuses};
+ghost use Rattle.ways.specs.Agrees.{NoneAgrees};
 
 // How many links have a flag of half h and none of both.
 fn ends(sorted: &[u8; SORTED], h: usize) -> usize
@@ -33,8 +34,10 @@ fn ends(sorted: &[u8; SORTED], h: usize) -> usize
     n
 }
 
-// The same for these two halves. Where there are too few starts or ends no way is looked for.
-fn outnumbered_by(
+// No placing is left that agrees with the tables: more ways from one half of the contexts to the other, no two of
+// them with a link or a guarded atom in common, than links with a flag that stand on both, and figure atoms that break
+// ways. Where there are too few starts or ends no way is looked for.
+pub fn outnumbered_by(
     atoms: usize,
     links: usize,
     count: usize,
@@ -44,13 +47,14 @@ fn outnumbered_by(
     standing: &[u16; Sheet::LINKS],
     to: &[u16; Sheet::LINKS],
     flags: &[u8; Sheet::LINKS],
+    breaking: usize,
     side: u16,
 ) -> bool
-    requires { ⌜ ((sheet : NormalForm) × (figure : NormalForm) × Described sheet figure atoms links count (now chains) (now standing) (now to) × LaidOut sheet (now laid) atoms) ⌝ }
-    ensures { λ r. ⌜ ((sheet figure : NormalForm) → Described sheet figure atoms links count (now (chains .entry)) (now (standing .entry)) (now (to .entry)) → LaidOut sheet (now (laid .entry)) atoms → Refuses sheet figure (now (taken .entry)) (now (to .entry)) (now (flags .entry)) r) ⌝ }
+    requires { ⌜ ((sheet : NormalForm) × (figure : NormalForm) × Described sheet figure atoms links count (now chains) (now standing) (now to) × LaidOut sheet (now laid) atoms × (breaking ≤ sheetAtoms)) ⌝ }
+    ensures { λ r. ⌜ ((sheet figure : NormalForm) → Described sheet figure atoms links count (now (chains .entry)) (now (standing .entry)) (now (to .entry)) → LaidOut sheet (now (laid .entry)) atoms → NoneAgrees sheet figure (now (to .entry)) (now (flags .entry)) (now (taken .entry)) side breaking r) ⌝ }
 {
     let table = sorted(count, standing, to, (links + 1) as u16, side);
-    let most = crossing(count, standing, flags, side);
+    let most = crossing(count, standing, flags, side) + breaking;
     if ends(&table, 1) <= most {
         return false;
     }
@@ -118,6 +122,7 @@ pub fn outnumbered(
             standing,
             to,
             flags,
+            0,
             side,
         ) {
             return true;

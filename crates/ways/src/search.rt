@@ -4,6 +4,7 @@
 // where the search goes on from it, OWN if it was entered, else the link after it on its way, from 1; from QUEUE
 // on, the links from which the search goes on, in order.
 use crate::SORTED;
+use crate::trail::row_of;
 use crate::trail::step_back;
 use crate::trail::wide;
 use candidates::LAID;
@@ -133,7 +134,25 @@ fn cross(
     enter(look, tail, laid, atoms, taken, marks, z, mark)
 }
 
-// From link y through this place of an atom that is not taken.
+// Is the atom of this row on a way? The ways mark the links into which they step through it.
+fn on_way(laid: &[u16; LAID], marks: &[u16; Sheet::LINKS], row: usize) -> bool
+    requires { ⌜ row < sheetAtoms ⌝ }
+{
+    let at = row * Sheet::FIELDS;
+    let mut k = 0;
+    while k < Sheet::MOST_LINKS {
+        let mark = marks[below(wide(laid[at + (2 + k)]))];
+        if mark != 0 {
+            if row_of(mark) == row {
+                return true;
+            }
+        }
+        k += 1;
+    }
+    false
+}
+
+// From link y through this place of an atom that may be passed, but through no guarded one that is on a way.
 fn through(
     look: &mut [u16; LOOK],
     tail: usize,
@@ -148,8 +167,14 @@ fn through(
     requires { ⌜ Rowed (now laid) atoms × (place < sheetAtoms * mostLinks) × (tail ≤ sheetLinks) ⌝ }
     ensures { λ r. ⌜ r ≤ sheetLinks ⌝ }
 {
-    if taken[place / Sheet::MOST_LINKS] == 1 {
+    let row = place / Sheet::MOST_LINKS;
+    if taken[row] == 1 {
         return tail;
+    }
+    if taken[row] == 2 {
+        if on_way(laid, marks, row) {
+            return tail;
+        }
     }
     let mut next = tail;
     let mut k = 0;

@@ -1,6 +1,6 @@
 -- `standing::standing` meets its contract. The loop's invariant: the words have the first c contexts. Assumes nothing.
 use Prim.Native.Nat.{ℕ, _-_, _≤_}
-use mathlib.Core.Path.{_≡_, refl, subst}
+use mathlib.Core.Path.{_≡_, subst}
 use native.Mathlib.Omega.{arith}
 use Rattle.stepping.specs.Standing.{StandingTo}
 use Rattle.stepping.proofs.StandingWords.{standing-start, standing-next, standing-end}
@@ -14,7 +14,7 @@ abbrev μ-loop : tie.MeasureT-loop
 μ-loop rows contexts words₀ c₀ words c = rows - c
 
 loop-holds : tie.Need-loop-holds Inv-loop μ-loop
-loop-holds c = (omega arith, standing-start (c .args .t1) _ refl)
+loop-holds c = (omega arith, standing-start (c .args .t1))
 
 mul-row : tie.Need-mul-row Inv-loop μ-loop
 mul-row c = omega (arith, c .loop-test .taken, c .before .before .pre .1 .few)

@@ -2,10 +2,11 @@
 use borrow.Author.Needs.{needs}
 use Prim.Native.Nat.{_-_}
 use mathlib.Core.Path.{refl}
+use mathlib.Core.List.{[]}
 use native.Mathlib.Omega.{arith}
 use lib.Bits.{bitAnd, and-le-l}
 use Rattle.placing.proofs.FirstLaws.{both-ways}
-use Rattle.ways.proofs.Refusing.{count-few}
+use Rattle.ways.proofs.Refusing.{count-few, completion-agrees}
 use Rattle.ways.proofs.outnumbered.outnumbered.Statement.{statement}
 use Rattle.ways.proofs.outnumbered.outnumbered.Tie as tie
 
@@ -28,10 +29,12 @@ loop-holds : tie.Need-loop-holds Inv-loop μ-loop
 loop-holds c = tt
 
 outnumbered-by-requires : tie.Need-outnumbered-by-requires Inv-loop μ-loop
-outnumbered-by-requires c κs = c .before .before .before .before .pre
+outnumbered-by-requires c κs = let h = c .before .before .before .before .pre in (h .0, h .1, h .2, h .3, omega arith)
 
 returns-2 : tie.Need-returns-2 Inv-loop μ-loop
-returns-2 c = λ sheet figure d out e. c .before .outnumbered-by .ensures sheet figure d out (c .if2 .taken)
+returns-2 c = let s = c .before .before .before .before .before .before in
+    λ sheet figure d out e list un t a f k. c .before .outnumbered-by .ensures sheet figure d out (c .if2 .taken) [] (omega arith) (k .0)
+    (completion-agrees sheet figure (d .ready) _ list (s .args .to .now) (s .args .flags .now) (s .args .taken .now) un t a f (k .0) (k .1))
 
 sub-side : tie.Need-sub-side Inv-loop μ-loop
 sub-side c = search needs

@@ -1,11 +1,11 @@
--- The ways are more than the links across.
+-- The ways are more than the links across and the atoms that break ways.
 use borrow.Author.Needs.{needs}
 use mathlib.Core.Path.{refl}
 use native.Mathlib.Omega.{arith}
 use borrow.Author.Tests.{ltb-true}
 use Rattle.candidates.proofs.Laying.{laid-rowed}
 use Rattle.placing.proofs.FirstLaws.{both-ways}
-use Rattle.ways.proofs.Refusing.{links-few, count-few, links-within, chains-fall, ways-refuse}
+use Rattle.ways.proofs.Refusing.{links-few, count-few, links-within, chains-fall, ways-none-agree}
 use Rattle.ways.proofs.outnumbered.outnumbered_by.Statement.{statement}
 use Rattle.ways.proofs.outnumbered.outnumbered_by.Tie as tie
 
@@ -20,6 +20,11 @@ sorted-requires c κs = (count-few (c .pre .0) (c .pre .1) (c .args .atoms) (c .
 
 crossing-requires : tie.Need-crossing-requires
 crossing-requires c κs = let s = c .before in count-few (s .pre .0) (s .pre .1) (s .args .atoms) (s .args .links) (s .args .count) (s .args .chains .now) (s .args .standing .now) (s .args .to .now) (s .pre .2)
+
+add-most : tie.Need-add-most
+add-most c = let s = c .before .before in
+    let h = c .crossing .ensures .0 in
+    omega (arith, s .pre .4, count-few (s .pre .0) (s .pre .1) (s .args .atoms) (s .args .links) (s .args .count) (s .args .chains .now) (s .args .standing .now) (s .args .to .now) (s .pre .2))
 
 ends-requires : tie.Need-ends-requires
 ends-requires c κs = search needs
@@ -45,7 +50,7 @@ ways-requires c κs = let s = c .before .before .before .before .before .before 
 returns-3 : tie.Need-returns-3
 returns-3 c = let s = c .before .before .before .before .before .before .before .before .before .before .before .before .before .before in
     let a = s .args in
-    λ sheet figure d out e. ways-refuse sheet figure (a .atoms) (a .links) (a .count) (a .chains .now) (a .standing .now) (a .to .now) d (a .side) (a .laid .now) (a .taken .now) (a .flags .now) (c .before .before .before .before .before .before .before .before .before .before .before .before .before .sorted .result) (c .before .before .before .before .before .before .before .before .before .before .before .before .crossing .result) (c .ways .result) out (c .before .before .before .before .before .before .before .before .before .before .before .before .before .sorted .ensures) (c .before .before .before .before .before .before .before .before .before .before .before .before .crossing .ensures .1) (c .ways .ensures) (ltb-true _ _ e) _ e
+    λ sheet figure d out e. ways-none-agree sheet figure (a .atoms) (a .links) (a .count) (a .chains .now) (a .standing .now) (a .to .now) d (a .side) (a .laid .now) (a .taken .now) (a .flags .now) (c .before .before .before .before .before .before .before .before .before .before .before .before .before .sorted .result) (c .before .before .before .before .before .before .before .before .before .before .before .before .crossing .result) (c .ways .result) (a .breaking) out (c .before .before .before .before .before .before .before .before .before .before .before .before .before .sorted .ensures) (c .before .before .before .before .before .before .before .before .before .before .before .before .crossing .ensures .1) (c .ways .ensures) (ltb-true _ _ e) _ e
 
 pub outnumbered-by-spec : {M : Type 1} → statement M
 outnumbered-by-spec =
@@ -55,6 +60,7 @@ outnumbered-by-spec =
     cast-sorted
     sorted-requires
     crossing-requires
+    add-most
     ends-requires
     returns
     ends-requires-2

@@ -4,23 +4,24 @@ use Prim.Native.Nat.{suc, _-_, _≤_, _<_}
 use mathlib.Core.Path.{_≡_}
 use native.Mathlib.Omega.{arith}
 use lib.ListN.{length, length-set}
-use Rattle.rows.specs.Limits.{sheetLinks}
+use Rattle.rows.specs.Limits.{sheetAtoms, sheetLinks}
 use Rattle.ways.specs.Trails.{TrailIn}
 use Rattle.ways.proofs.Trails.{laid-end, laid-left, laid-stopped, laid-found, laid-again}
 use Rattle.ways.proofs.trail.follow.Statement.{statement}
 use Rattle.ways.proofs.trail.follow.Tie as tie
 
 abbrev Inv-loop : tie.InvT-loop
-Inv-loop seen₀ laid atoms links taken sorted marks end z₀ n₀ seen z n = (z < sheetLinks) × (n ≤ links) × (length seen ≡ sheetLinks) × TrailIn laid taken atoms links sorted seen₀ seen (suc z)
+Inv-loop seen₀ passed₀ laid atoms links taken sorted marks end z₀ n₀ seen passed z n =
+    (z < sheetLinks) × (n ≤ links) × (length seen ≡ sheetLinks) × (length passed ≡ sheetAtoms) × TrailIn laid taken atoms links sorted seen₀ passed₀ seen passed (suc z)
 
 abbrev μ-loop : tie.MeasureT-loop
-μ-loop seen₀ laid atoms links taken sorted marks end z₀ n₀ seen z n = links - n
+μ-loop seen₀ passed₀ laid atoms links taken sorted marks end z₀ n₀ seen passed z n = links - n
 
 loop-holds : tie.Need-loop-holds Inv-loop μ-loop
-loop-holds c = (omega arith, omega arith, c .pre .3, laid-end (c .args .laid .now) (c .args .taken .now) (c .args .atoms) (c .args .links) (c .args .sorted .now) (c .args .seen .now) (c .args .end) (c .pre .2) (c .pre .4))
+loop-holds c = (omega arith, omega arith, c .pre .3, c .pre .4, laid-end (c .args .laid .now) (c .args .taken .now) (c .args .atoms) (c .args .links) (c .args .sorted .now) (c .args .seen .now) (c .args .passed .now) (c .args .end) (c .pre .2) (c .pre .5))
 
 returns : tie.Need-returns Inv-loop μ-loop
-returns c = let s = c .before .before .before in let l = c .before .before .loop in laid-left (s .args .laid .now) (s .args .taken .now) (s .args .atoms) (s .args .links) (s .args .sorted .now) (s .args .seen .now) (l .seen) (suc (l .z)) (l .inv .2) (l .inv .3)
+returns c = let s = c .before .before .before in let l = c .before .before .loop in laid-left (s .args .laid .now) (s .args .taken .now) (s .args .atoms) (s .args .links) (s .args .sorted .now) (s .args .seen .now) (s .args .passed .now) (l .seen) (l .passed) (l .inv .2) (suc (l .z)) (l .inv .3) (l .inv .4)
 
 mul-if2 : tie.Need-mul-if2 Inv-loop μ-loop
 mul-if2 c = search needs
@@ -32,13 +33,13 @@ element-copy-out-if2 : tie.Need-element-copy-out-if2 Inv-loop μ-loop
 element-copy-out-if2 c = search needs
 
 returns-2 : tie.Need-returns-2 Inv-loop μ-loop
-returns-2 c = let s = c .before .before .before .before .before in let l = c .before .before .before .before .loop in laid-left (s .args .laid .now) (s .args .taken .now) (s .args .atoms) (s .args .links) (s .args .sorted .now) (s .args .seen .now) (l .seen) (suc (l .z)) (l .inv .2) (l .inv .3)
+returns-2 c = let s = c .before .before .before .before .before in let l = c .before .before .before .before .loop in laid-left (s .args .laid .now) (s .args .taken .now) (s .args .atoms) (s .args .links) (s .args .sorted .now) (s .args .seen .now) (s .args .passed .now) (l .seen) (l .passed) (l .inv .2) (suc (l .z)) (l .inv .3) (l .inv .4)
 
 element-copy-out-if3 : tie.Need-element-copy-out-if3 Inv-loop μ-loop
 element-copy-out-if3 c = search needs
 
 returns-3 : tie.Need-returns-3 Inv-loop μ-loop
-returns-3 c = let s = c .before .before .before .before .before .before .before in let l = c .before .before .before .before .before .before .loop in laid-left (s .args .laid .now) (s .args .taken .now) (s .args .atoms) (s .args .links) (s .args .sorted .now) (s .args .seen .now) (l .seen) (suc (l .z)) (l .inv .2) (l .inv .3)
+returns-3 c = let s = c .before .before .before .before .before .before .before in let l = c .before .before .before .before .before .before .loop in laid-left (s .args .laid .now) (s .args .taken .now) (s .args .atoms) (s .args .links) (s .args .sorted .now) (s .args .seen .now) (s .args .passed .now) (l .seen) (l .passed) (l .inv .2) (suc (l .z)) (l .inv .3) (l .inv .4)
 
 element-write-seen : tie.Need-element-write-seen Inv-loop μ-loop
 element-write-seen c = search needs
@@ -52,21 +53,21 @@ element-copy-out-if4 c = search needs
 returns-4 : tie.Need-returns-4 Inv-loop μ-loop
 returns-4 c = let s = c .before .before .before .before .before .before .before .before .before in
     let l = c .before .before .before .before .before .before .before .before .loop in
-    laid-found (s .args .laid .now) (s .args .taken .now) (s .args .atoms) (s .args .links) (s .args .sorted .now) (l .seen) (l .z) (l .inv .2) (s .pre .1) (let h = c .before .before .before .before .before .before .if1 .left in omega arith) (s .args .seen .now) (l .inv .3) (c .before .before .before .before .if2 .left) (c .before .before .if3 .left) (c .if4 .taken)
+    laid-found (s .args .laid .now) (s .args .taken .now) (s .args .atoms) (s .args .links) (s .args .sorted .now) (s .args .seen .now) (s .args .passed .now) (l .seen) (l .passed) (l .inv .2) (l .z) (s .pre .1) (let h = c .before .before .before .before .before .before .if1 .left in omega arith) (l .inv .4) (c .before .before .if3 .left) (c .before .before .before .before .if2 .left) (l .inv .3) (c .if4 .taken)
 
-mul-step-back : tie.Need-mul-step-back Inv-loop μ-loop
-mul-step-back c = search needs
+mul-pass-back : tie.Need-mul-pass-back Inv-loop μ-loop
+mul-pass-back c = search needs
 
-element-copy-out-step-back : tie.Need-element-copy-out-step-back Inv-loop μ-loop
-element-copy-out-step-back c = search needs
+element-copy-out-pass-back : tie.Need-element-copy-out-pass-back Inv-loop μ-loop
+element-copy-out-pass-back c = search needs
 
-step-back-requires : tie.Need-step-back-requires Inv-loop μ-loop
-step-back-requires c κs = search needs
+pass-back-requires : tie.Need-pass-back-requires Inv-loop μ-loop
+pass-back-requires c κs = search needs
 
 returns-5 : tie.Need-returns-5 Inv-loop μ-loop
-returns-5 c = let s = c .before .before .before .before .before .before .before .before .before .before .before .before in
-    let l = c .before .before .before .before .before .before .before .before .before .before .before .loop in
-    laid-stopped (s .args .laid .now) (s .args .taken .now) (s .args .atoms) (s .args .links) (s .args .sorted .now) (l .seen) (l .z) (l .inv .2) (s .pre .1) (let h = c .before .before .before .before .before .before .before .before .before .if1 .left in omega arith) (s .args .seen .now) (l .inv .3)
+returns-5 c = let s = c .before .before .before .before .before .before .before .before .before .before .before .before .before in
+    let l = c .before .before .before .before .before .before .before .before .before .before .before .before .loop in
+    laid-stopped (s .args .laid .now) (s .args .taken .now) (s .args .atoms) (s .args .links) (s .args .sorted .now) (s .args .seen .now) (s .args .passed .now) (l .seen) (l .passed) (l .inv .2) (l .z) (s .pre .1) (let h = c .before .before .before .before .before .before .before .before .before .before .if1 .left in omega arith) (l .inv .4) (c .before .before .before .before .before .before .if3 .left) _ _ (c .before .pass-back .ensures)
 
 sub-z : tie.Need-sub-z Inv-loop μ-loop
 sub-z c = search needs
@@ -78,14 +79,18 @@ loop-less : tie.Need-loop-less Inv-loop μ-loop
 loop-less c = search needs
 
 loop-again : tie.Need-loop-again Inv-loop μ-loop
-loop-again c = let s = c .before .before .before .before .before .before .before .before .before .before .before .before in
-    let l = c .before .before .before .before .before .before .before .before .before .before .before .loop in
-    let y = c .before .step-back in
-    let t = y .ensures .1 (c .if5 .left) in
-    (let h = y .ensures .0 in let n = c .if5 .left in omega arith, omega arith, simp length-set (l .inv .2), laid-again (s .args .laid .now) (s .args .taken .now) (s .args .atoms) (s .args .links) (s .args .sorted .now) (l .seen) (l .z) (l .inv .2) (s .pre .1) (let h = c .before .before .before .before .before .before .before .before .before .if1 .left in omega arith) (s .args .seen .now) (l .inv .3) (c .before .before .before .before .before .before .before .if2 .left) (c .before .before .before .before .before .if3 .left) (y .result) (t .0) (c .if5 .left) (t .1))
+loop-again c = let s = c .before .before .before .before .before .before .before .before .before .before .before .before .before in
+    let l = c .before .before .before .before .before .before .before .before .before .before .before .before .loop in
+    let b = c .before .pass-back .ensures in (
+      let h = b .few in let n = c .if5 .left in omega arith,
+      omega arith,
+      simp length-set (l .inv .2),
+      b .room,
+      laid-again (s .args .laid .now) (s .args .taken .now) (s .args .atoms) (s .args .links) (s .args .sorted .now) (s .args .seen .now) (s .args .passed .now) (l .seen) (l .passed) (l .inv .2) (l .z) (s .pre .1) (let h = c .before .before .before .before .before .before .before .before .before .before .if1 .left in omega arith) (l .inv .4) (c .before .before .before .before .before .before .if3 .left) (c .before .before .before .before .before .before .before .before .if2 .left) _ (c .before .pass-back .result) (c .if5 .left) b,
+    )
 
 returns-6 : tie.Need-returns-6 Inv-loop μ-loop
-returns-6 c = let s = c .before .before in let l = c .before .loop in laid-left (s .args .laid .now) (s .args .taken .now) (s .args .atoms) (s .args .links) (s .args .sorted .now) (s .args .seen .now) (l .seen) (suc (l .z)) (l .inv .2) (l .inv .3)
+returns-6 c = let s = c .before .before in let l = c .before .loop in laid-left (s .args .laid .now) (s .args .taken .now) (s .args .atoms) (s .args .links) (s .args .sorted .now) (s .args .seen .now) (s .args .passed .now) (l .seen) (l .passed) (l .inv .2) (suc (l .z)) (l .inv .3) (l .inv .4)
 
 pub follow-spec : {M : Type 1} → statement M
 follow-spec =
@@ -105,9 +110,9 @@ follow-spec =
     add-if4
     element-copy-out-if4
     returns-4
-    mul-step-back
-    element-copy-out-step-back
-    step-back-requires
+    mul-pass-back
+    element-copy-out-pass-back
+    pass-back-requires
     returns-5
     sub-z
     add-n

@@ -7,20 +7,20 @@ use mathlib.Core.List.{List}
 use native.Mathlib.Numerals.{add-one}
 use native.Mathlib.Omega.{arith}
 use lib.ListN.{length, replicate}
-use Rattle.rows.specs.Limits.{sheetLinks}
+use Rattle.rows.specs.Limits.{sheetAtoms, sheetLinks}
 use Rattle.ways.specs.Trails.{FoundIn}
 use Rattle.ways.proofs.Trails.{laid-none}
 use Rattle.ways.proofs.trail.ways.Statement.{statement}
 use Rattle.ways.proofs.trail.ways.Tie as tie
 
 abbrev Inv-loop : tie.InvT-loop
-Inv-loop laid atoms links taken sorted marks seen₀ n₀ y₀ seen n y = (y ≤ links) × (n ≤ y) × (length seen ≡ sheetLinks) × FoundIn laid taken atoms links sorted seen n
+Inv-loop laid atoms links taken sorted marks seen₀ passed₀ n₀ y₀ seen passed n y = (y ≤ links) × (n ≤ y) × (length seen ≡ sheetLinks) × (length passed ≡ sheetAtoms) × FoundIn laid taken atoms links sorted seen passed n
 
 abbrev μ-loop : tie.MeasureT-loop
-μ-loop laid atoms links taken sorted marks seen₀ n₀ y₀ seen n y = links - y
+μ-loop laid atoms links taken sorted marks seen₀ passed₀ n₀ y₀ seen passed n y = links - y
 
 loop-holds : tie.Need-loop-holds Inv-loop μ-loop
-loop-holds c = let a = c .args in (omega arith, omega arith, refl, laid-none (a .laid .now) (a .taken .now) (a .atoms) (a .links) (a .sorted .now) (replicate sheetLinks 0))
+loop-holds c = let a = c .args in (omega arith, omega arith, refl, refl, laid-none (a .laid .now) (a .taken .now) (a .atoms) (a .links) (a .sorted .now) (replicate sheetLinks 0) (replicate sheetAtoms 0))
 
 mul-if1 : tie.Need-mul-if1 Inv-loop μ-loop
 mul-if1 c = search needs
@@ -52,20 +52,21 @@ loop-less c = search needs
 loop-again : tie.Need-loop-again Inv-loop μ-loop
 loop-again c = let l = c .before .before .before .loop in
     let a = c .before .before .before .before .args in
-    let P : List ℕ → ℕ → Type 0 = λ m k. (k ≤ l .y + 1) × (length m ≡ sheetLinks) × FoundIn (a .laid .now) (a .taken .now) (a .atoms) (a .links) (a .sorted .now) m k in
-    let at : (m : List ℕ) (k : ℕ) → c .if1 .seen ≡ m → c .if1 .n ≡ k → P m k → P (c .if1 .seen) (c .if1 .n) = λ m k d e p. subst (λ i. P i (c .if1 .n)) (sym d) (subst (P m) (sym e) p) in
-    let w : P (c .if1 .seen) (c .if1 .n) = ⊎-elim
-    (λ w. at _ _ (w .6) (w .7) (omega arith, w .4 .ensures .room, rw add-one (w .4 .ensures .more (w .5 .taken) (l .n) (l .inv .3))))
+    let P : List ℕ → List ℕ → ℕ → Type 0 = λ m q k. (k ≤ l .y + 1) × (length m ≡ sheetLinks) × (length q ≡ sheetAtoms) × FoundIn (a .laid .now) (a .taken .now) (a .atoms) (a .links) (a .sorted .now) m q k in
+    let at : (m q : List ℕ) (k : ℕ) → c .if1 .seen ≡ m → c .if1 .passed ≡ q → c .if1 .n ≡ k → P m q k → P (c .if1 .seen) (c .if1 .passed) (c .if1 .n) =
+    λ m q k d e f p. subst (λ i. P i (c .if1 .passed) (c .if1 .n)) (sym d) (subst (λ i. P m i (c .if1 .n)) (sym e) (subst (P m q) (sym f) p)) in
+    let w : P (c .if1 .seen) (c .if1 .passed) (c .if1 .n) = ⊎-elim
+    (λ w. at _ _ _ (w .7) (w .8) (w .9) (omega arith, w .5 .ensures .room, w .5 .ensures .atom-room, rw add-one (w .5 .ensures .more (w .6 .taken) (l .n) (l .inv .4))))
     (⊎-elim
-    (λ w. at _ _ (w .6) (w .7) (omega arith, w .4 .ensures .room, w .4 .ensures .stay (l .n) (l .inv .3)))
+    (λ w. at _ _ _ (w .7) (w .8) (w .9) (omega arith, w .5 .ensures .room, w .5 .ensures .atom-room, w .5 .ensures .stay (l .n) (l .inv .4)))
     (⊎-elim
-    (λ w. at _ _ (w .3) (w .4) (omega arith, l .inv .2, l .inv .3))
-    (λ w. at _ _ (w .1) (w .2) (omega arith, l .inv .2, l .inv .3))))
+    (λ w. at _ _ _ (w .3) (w .4) (w .5) (omega arith, l .inv .2, l .inv .3, l .inv .4))
+    (λ w. at _ _ _ (w .1) (w .2) (w .3) (omega arith, l .inv .2, l .inv .3, l .inv .4))))
     (c .if1 .came) in
-    (omega arith, w .0, w .1, w .2)
+    (omega arith, w .0, w .1, w .2, w .3)
 
 returns : tie.Need-returns Inv-loop μ-loop
-returns c = c .before .loop .inv .3 .ways
+returns c = c .before .loop .inv .4 .ways
 
 pub ways-spec : {M : Type 1} → statement M
 ways-spec =

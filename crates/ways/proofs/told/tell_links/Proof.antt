@@ -1,0 +1,48 @@
+-- Invariant: what was told stays told.
+use borrow.Author.Needs.{needs}
+use Prim.Native.Nat.{suc, _-_, _≤_}
+use mathlib.Core.Path.{_≡_}
+use native.Mathlib.Omega.{arith}
+use lib.ListN.{length}
+use Rattle.rows.specs.Limits.{sheetLinks}
+use Rattle.ways.specs.Nodes.{Tells}
+use Rattle.ways.proofs.told.tell_links.Statement.{statement}
+use Rattle.ways.proofs.told.tell_links.Tie as tie
+
+abbrev Inv-loop : tie.InvT-loop
+Inv-loop to₀ flags₀ sets links parts n row₀ to flags row =
+    (row ≤ n) × (length to ≡ sheetLinks) × (length flags ≡ sheetLinks) × (Tells parts n sets (suc links) to₀ flags₀ → Tells parts n sets (suc links) to flags)
+
+abbrev μ-loop : tie.MeasureT-loop
+μ-loop to₀ flags₀ sets links parts n row₀ to flags row = n - row
+
+loop-holds : tie.Need-loop-holds Inv-loop μ-loop
+loop-holds c = (omega arith, c .pre .2, c .pre .3, λ t. t)
+
+tell-row-requires : tie.Need-tell-row-requires Inv-loop μ-loop
+tell-row-requires c κs = let s = c .before .before .before .before in let l = c .before .before .before .loop in (s .pre .0, c .before .before .loop-test .taken, s .pre .1, l .inv .1, l .inv .2)
+
+add-row : tie.Need-add-row Inv-loop μ-loop
+add-row c = search needs
+
+loop-less : tie.Need-loop-less Inv-loop μ-loop
+loop-less c = search needs
+
+loop-again : tie.Need-loop-again Inv-loop μ-loop
+loop-again c = let l = c .before .before .before .before .loop in (let h = c .before .before .before .loop-test .taken in omega arith, c .tell-row .ensures .0, c .tell-row .ensures .1, λ t. c .tell-row .ensures .2 (l .inv .3 t))
+
+returns : tie.Need-returns Inv-loop μ-loop
+returns c = c .before .loop .inv .3
+
+pub tell-links-spec : {M : Type 1} → statement M
+tell-links-spec =
+    tie.close
+    (tie.spec
+    Inv-loop
+    μ-loop
+    loop-holds
+    tell-row-requires
+    add-row
+    loop-less
+    loop-again
+    returns)

@@ -1,0 +1,89 @@
+-- Tables made from the sets of a search node: where figure links surely go, and which sheet atoms the figure atoms take.
+-- `parts` are the figure's atoms, laid out; rows and links are counted from 0.
+use Prim.Native.Nat.{ℕ, suc, _+_, _-_, _<_}
+use mathlib.Core.Path.{_≡_}
+use mathlib.Core.Logic.{_⊎_}
+use mathlib.Core.List.{List}
+use mathlib.Core.Bool.{Bool, true}
+use lib.ListN.{length, getD}
+use Rattle.hyperlmntal.specs.Link.{_∈_}
+use Rattle.rows.specs.Limits.{sheetAtoms, sheetLinks}
+use Rattle.rows.specs.declared.Sheet.{Sheet as NormalForm}
+use Rattle.placing.specs.Net.{Range}
+use Rattle.placing.specs.Placing.{Placing, Good}
+use Rattle.network.specs.NetIn.{netIn}
+use Rattle.network.specs.Ready.{Ready}
+use Rattle.candidates.specs.Forced.{Only}
+use Rattle.candidates.specs.Laid.{laidAt, LaidOut}
+use Rattle.candidates.specs.Sets.{Obeys}
+use Rattle.candidates.specs.Tables.{AtomIn, LinkIn, mayAtom, mayLink}
+use Rattle.candidates.specs.Words.{In}
+use Rattle.stepping.specs.Chains.{ChainsIn}
+use Rattle.stepping.specs.Standing.{Standing}
+use Rattle.ways.specs.Halves.{halfOf}
+
+-- the counts are those of this sheet and this figure; their atoms are laid out, the chains are the sheet's, the words the
+-- figure's
+pub record NodeOf (sheet figure : NormalForm) (atoms links count : ℕ) (laid chains : List ℕ) (rows : ℕ) (parts words : List ℕ) : Type 0 where
+  pub ready : Ready sheet figure
+  pub sheet-links : sheet .«class_count» ≡ links
+  pub figure-links : figure .«class_count» ≡ count
+  pub sheet-out : LaidOut sheet laid atoms
+  pub chains-in : ChainsIn sheet chains
+  pub figure-out : LaidOut figure parts rows
+  pub standing : Standing figure words
+
+-- r says that no good placing stays in the sets
+abbrev pub NoneStays : NormalForm → NormalForm → List ℕ → List ℕ → Bool → Type 0
+NoneStays sheet figure atoms links r = r ≡ true → (p : Placing) → Good (netIn sheet) (netIn figure) p → ¬ Obeys (netIn sheet) (netIn figure) (mayAtom atoms) (mayLink links) p
+
+-- ---- links
+
+-- one of the first n rows has link x
+abbrev pub OnRow : List ℕ → ℕ → ℕ → Type 0
+OnRow parts n x = (i : ℕ) × (k : ℕ) × (i < n) × (k < laidAt parts i 1) × (laidAt parts i (2 + k) ≡ suc x)
+
+-- the set of link x has no link but y, from 1
+abbrev pub OnlyLink : List ℕ → ℕ → ℕ → Type 0
+OnlyLink sets x y = (z : ℕ) → z < sheetLinks → LinkIn sets x z → suc z ≡ y
+
+-- `to` has none for a link and it has a flag, or one of the rows has it, and it has only that place
+pub record Tells (parts : List ℕ) (n : ℕ) (sets : List ℕ) (none : ℕ) (to flags : List ℕ) : Type 0 where
+  pub room : length to ≡ sheetLinks
+  pub flag-room : length flags ≡ sheetLinks
+  pub within : (x : ℕ) → x < sheetLinks → Range none (getD to x 0)
+  pub told : (x : ℕ) → x < sheetLinks → ((getD to x 0 ≡ none) × (getD flags x 0 ≡ 1)) ⊎ (OnRow parts n x × OnlyLink sets x (getD to x 0))
+
+-- ---- atoms
+
+-- the half of digit h, 0 the first and 1 the second, has all links of row i
+abbrev pub RowOnHalf : List ℕ → List ℕ → ℕ → ℕ → ℕ → Type 0
+RowOnHalf parts words side i h = (k : ℕ) → k < laidAt parts i 1 → In (halfOf (getD words (laidAt parts i (2 + k) - 1) 0) side) h
+
+abbrev pub RowOnOneHalf : List ℕ → List ℕ → ℕ → ℕ → Type 0
+RowOnOneHalf parts words side i = RowOnHalf parts words side i 0 ⊎ RowOnHalf parts words side i 1
+
+-- 1 for an atom that is taken, 2 for one that a breaking atom may take
+abbrev pub Guarded : ℕ → Type 0
+Guarded v = (v ≡ 1) ⊎ (v ≡ 2)
+
+-- what is taken stays so, and what is guarded
+abbrev pub StaysGuarded : List ℕ → List ℕ → Type 0
+StaysGuarded was now = (t : ℕ) → (getD was t 0 ≡ 1 → getD now t 0 ≡ 1) × (Guarded (getD was t 0) → Guarded (getD now t 0))
+
+-- where row i may go below t is guarded
+abbrev pub GuardedTo : List ℕ → ℕ → List ℕ → ℕ → Type 0
+GuardedTo atoms i taken t = (u : ℕ) → u < t → AtomIn atoms i u → Guarded (getD taken u 0)
+
+-- row i goes to one of the n sheet atoms, which is taken; or all its links are on one half; or it is a breaking atom, and where
+-- it may go is guarded
+abbrev pub Guards : List ℕ → List ℕ → List ℕ → ℕ → ℕ → List ℕ → List ℕ → ℕ → Type 0
+Guards parts words atoms n side taken breaking i =
+    ((t : ℕ) × Only atoms i n t × (getD taken t 0 ≡ 1)) ⊎ (RowOnOneHalf parts words side i ⊎ ((suc i ∈ breaking) × GuardedTo atoms i taken n))
+
+-- so for the first c rows, of which r are breaking
+pub record GuardsTo (parts words atoms : List ℕ) (n side c : ℕ) (taken : List ℕ) (r : ℕ) : Type 0 where
+  pub room : length taken ≡ sheetAtoms
+  pub breaking : List ℕ
+  pub number : length breaking ≡ r
+  pub each : (i : ℕ) → i < c → Guards parts words atoms n side taken breaking i

@@ -1,0 +1,98 @@
+// Where figure links surely go at a search node: a link of a figure atom that has one place only.
+use crate::trail::wide;
+use candidates::LAID;
+use candidates::LINK_SETS;
+use candidates::pairs::first_link;
+use candidates::pairs::is_empty;
+use candidates::pairs::pair_at;
+use candidates::pairs::without_link;
+use rows::Sheet;
+ghost use Prim.Native.Nat.{ℕ, suc, _<_, _≤_};
+ghost use mathlib.Core.Path.{_≡_};
+ghost use mathlib.Core.Logic.{_≢_};
+ghost use mathlib.Core.List.{List};
+ghost use lib.ListN.{length};
+ghost use Rattle.rows.specs.Limits.{sheetLinks};
+ghost use Rattle.candidates.specs.Laid.{Rowed};
+ghost use Rattle.ways.specs.Nodes.{OnRow, OnlyLink, Tells};
+
+// The only link of the set of link x, from 1; 0 where there is none, or more than one.
+fn only_link(sets: &[u64; LINK_SETS], x: usize) -> usize
+    requires { ⌜ x < sheetLinks ⌝ }
+    ensures { λ r. ⌜ (r ≢ 0 → OnlyLink (now (sets .entry)) x r) ⌝ }
+{
+    let set = pair_at(sets, x);
+    if is_empty(set) {
+        return 0;
+    }
+    let y = first_link(set);
+    let rest = without_link(set, y);
+    if !is_empty(rest) {
+        return 0;
+    }
+    y + 1
+}
+
+// Link x of a row is told, if it has one place only.
+fn tell(
+    to: &mut [u16; Sheet::LINKS],
+    flags: &mut [u8; Sheet::LINKS],
+    sets: &[u64; LINK_SETS],
+    links: usize,
+    x: usize,
+)
+    requires { ⌜ (x < sheetLinks) × (links ≤ sheetLinks) × (length (now to) ≡ sheetLinks) × (length (now flags) ≡ sheetLinks) ⌝ }
+    ensures { λ _. ⌜ (length (now (to .exit)) ≡ sheetLinks) × (length (now (flags .exit)) ≡ sheetLinks) × ((parts : List ℕ) (n : ℕ) → OnRow parts n x → Tells parts n (now (sets .entry)) (suc links) (now (to .entry)) (now (flags .entry)) → Tells parts n (now (sets .entry)) (suc links) (now (to .exit)) (now (flags .exit))) ⌝ }
+{
+    let y = only_link(sets, x);
+    if y == 0 {
+        return;
+    }
+    if links < y {
+        return;
+    }
+    to[x] = y as u16;
+    flags[x] = 0;
+}
+
+// The links of a row.
+fn tell_row(
+    to: &mut [u16; Sheet::LINKS],
+    flags: &mut [u8; Sheet::LINKS],
+    sets: &[u64; LINK_SETS],
+    links: usize,
+    parts: &[u16; LAID],
+    n: usize,
+    row: usize,
+)
+    requires { ⌜ Rowed (now parts) n × (row < n) × (links ≤ sheetLinks) × (length (now to) ≡ sheetLinks) × (length (now flags) ≡ sheetLinks) ⌝ }
+    ensures { λ _. ⌜ (length (now (to .exit)) ≡ sheetLinks) × (length (now (flags .exit)) ≡ sheetLinks) × (Tells (now (parts .entry)) n (now (sets .entry)) (suc links) (now (to .entry)) (now (flags .entry)) → Tells (now (parts .entry)) n (now (sets .entry)) (suc links) (now (to .exit)) (now (flags .exit))) ⌝ }
+{
+    let at = row * Sheet::FIELDS;
+    let width = wide(parts[at + 1]);
+    let mut k = 0;
+    while k < width {
+        let x = wide(parts[at + (2 + k)]);
+        tell(to, flags, sets, links, x - 1);
+        k += 1;
+    }
+}
+
+// The links of all rows, from a table of none and one of flags.
+pub(crate) fn tell_links(
+    to: &mut [u16; Sheet::LINKS],
+    flags: &mut [u8; Sheet::LINKS],
+    sets: &[u64; LINK_SETS],
+    links: usize,
+    parts: &[u16; LAID],
+    n: usize,
+)
+    requires { ⌜ Rowed (now parts) n × (links ≤ sheetLinks) × (length (now to) ≡ sheetLinks) × (length (now flags) ≡ sheetLinks) ⌝ }
+    ensures { λ _. ⌜ (Tells (now (parts .entry)) n (now (sets .entry)) (suc links) (now (to .entry)) (now (flags .entry)) → Tells (now (parts .entry)) n (now (sets .entry)) (suc links) (now (to .exit)) (now (flags .exit))) ⌝ }
+{
+    let mut row = 0;
+    while row < n {
+        tell_row(to, flags, sets, links, parts, n, row);
+        row += 1;
+    }
+}
