@@ -21,6 +21,7 @@ use Rattle.network.proofs.NetIn.{atoms-length}
 use Rattle.network.specs.Ready.{Ready, AtomsIn}
 use Rattle.matching.specs.Search.{KeepsIn, Kept, behind, searchFrom, foundList, foundIn, Onward}
 use Rattle.candidates.specs.Sets.{Keeps}
+use Rattle.candidates.specs.Kin.{RowLabels}
 use Rattle.candidates.specs.Words.{digit}
 use Rattle.candidates.specs.Tables.{AtomIn, mayAtom, mayLink, NoAtom}
 use Rattle.candidates.specs.Forced.{Only}
@@ -194,12 +195,12 @@ choice-kept sheet figure fit k t h a b l promise pre e keeps =
     subst (λ (i : ℕ). KeepsIn sheet figure (pre ++ (i ∷ [])) b l) (add-one t) (promise (netIn sheet) (netIn figure) pre l e (omega (arith, atoms-length figure fit)) keeps)
 
 -- What narrowing promises, for a sheet and a figure that are laid out.
-pub narrow-kept : (sheet figure : form.Sheet) (laid : List ℕ) (n : ℕ) (parts : List ℕ) (m : ℕ) → LaidOut sheet laid n → LaidOut figure parts m
-    → (pre a l b k : List ℕ) (r : Bool) → NarrowedBy laid n parts m a l b k → (r ≡ true → (i : ℕ) × (i < m) × NoAtom b i) → KeepsIn sheet figure pre a l → Kept sheet figure pre b k r
-narrow-kept sheet figure laid n parts m os of pre a l b k r narrowed empty keeps = record { keeps = still; none = lost }
+pub narrow-kept : (sheet figure : form.Sheet) (laid : List ℕ) (n : ℕ) (parts : List ℕ) (m : ℕ) → LaidOut sheet laid n → LaidOut figure parts m → (kin : List ℕ) → RowLabels (netIn figure) (λ x. getD kin (x - 1) 0)
+    → (pre a l b k : List ℕ) (r : Bool) → NarrowedBy kin laid n parts m a l b k → (r ≡ true → (i : ℕ) × (i < m) × NoAtom b i) → KeepsIn sheet figure pre a l → Kept sheet figure pre b k r
+narrow-kept sheet figure laid n parts m os of kin rows pre a l b k r narrowed empty keeps = record { keeps = still; none = lost }
   where
     still : KeepsIn sheet figure pre b k
-    still p g s = narrowed sheet figure os of p g (keeps p g s)
+    still p g s = narrowed sheet figure os of rows p g (keeps p g s)
 
     lost : r ≡ true → ¬ Begun (netIn sheet) (netIn figure) pre
     lost e = let w = empty e in atom-hopeless sheet figure (os .fit) (of .fit) (os .normal) (of .normal) pre b k still (w .0) (omega (arith, w .1, of .count)) (w .2)

@@ -1,10 +1,10 @@
 -- The recursive search: what it gives.
-use Prim.Native.Nat.{ℕ, _+_, _≤_}
+use Prim.Native.Nat.{ℕ, _+_, _-_, _≤_}
 use mathlib.Core.Path.{_≡_}
 use mathlib.Core.List.{List, _++_}
 use mathlib.Core.Bool.{Bool, true}
 use mathlib.Core.Option.{Option, none, some}
-use lib.ListN.{take, set}
+use lib.ListN.{getD, take, set}
 use Rattle.rows.specs.Pick.{pick}
 use Rattle.rows.specs.declared.Sheet as form
 use Rattle.placing.specs.Net.{Net}
@@ -13,6 +13,7 @@ use Rattle.network.specs.NetIn.{netIn}
 use Rattle.network.specs.Begun.{Begun, leastAfter}
 use Rattle.network.specs.Ready.{Ready, AtomsIn}
 use Rattle.candidates.specs.Sets.{Keeps}
+use Rattle.candidates.specs.Kin.{RowLabels}
 use Rattle.candidates.specs.Tables.{mayAtom, mayLink}
 use Rattle.candidates.specs.Laid.{LaidOut}
 use Rattle.candidates.specs.Frames.{whole}
@@ -63,7 +64,7 @@ abbrev pub withAtom : Frame → Frame → (placed : List ℕ) → (k t : ℕ) �
 withAtom sheet figure placed k t lost = record { sheet = sheet; figure = figure; chosen = set placed k (t + 1); placed = k + 1; hopeless = lost }
 
 -- what is lent is that of the sheet and the figure, and the sets keep every good placing that begins so
-pub record Stands (s : State) (users owners atoms links laid parts : List ℕ) : Type 0 where
+pub record Stands (s : State) (users owners kin atoms links laid parts : List ℕ) : Type 0 where
   pub ready : Ready (sheetOf s laid) (figureOf s parts)
   pub within : s .placed ≤ s .figure .«atom_count»
   pub atoms-in : AtomsIn (sheetOf s laid) (s .placed) (s .chosen)
@@ -72,6 +73,7 @@ pub record Stands (s : State) (users owners atoms links laid parts : List ℕ) :
   pub figure-laid : LaidOut (figureOf s parts) parts (s .figure .«atom_count»)
   pub users-in : UsersIn laid (s .sheet .«atom_count») users
   pub owners-in : UsersIn parts (s .figure .«atom_count») owners
+  pub labels : RowLabels (netIn (figureOf s parts)) (λ x. getD kin (x - 1) 0)
 
 -- what was found is the smallest good placing that begins so
 abbrev pub FoundFrom : State → (laid parts : List ℕ) → Found → Type 0

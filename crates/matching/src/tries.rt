@@ -1,4 +1,5 @@
 // One try of the search: a figure atom goes to a sheet atom.
+use candidates::KIN;
 use candidates::LAID;
 use candidates::LINK_SETS;
 use candidates::frame::Frame;
@@ -9,10 +10,12 @@ use rows::Sheet;
 use symmetry::excuse::excuse;
 ghost use mathlib.Core.Path.{_≡_};
 ghost use mathlib.Core.List.{List, [], _∷_, _++_};
-ghost use Prim.Native.Nat.{ℕ, _<_, _≤_, suc};
-ghost use lib.ListN.{length, take};
+ghost use Prim.Native.Nat.{ℕ, _-_, _<_, _≤_, suc};
+ghost use lib.ListN.{length, getD, take};
 ghost use Rattle.rows.specs.Limits.{sheetAtoms, sheetMarks};
 ghost use Rattle.rows.specs.declared.Sheet.{Sheet as NormalForm};
+ghost use Rattle.network.specs.NetIn.{netIn};
+ghost use Rattle.candidates.specs.Kin.{RowLabels};
 ghost use Rattle.candidates.specs.Laid.{Rowed, LaidOut};
 ghost use Rattle.narrowing.specs.Users.{UsersIn};
 ghost use Rattle.lawful.specs.Checks.{Lent};
@@ -72,6 +75,7 @@ pub(crate) fn tally(a: u32, b: u32) -> u32
 pub(crate) fn try_atom<'a>(
     users: &'a [u64; PLACES],
     owners: &'a [u64; PLACES],
+    kin: &'a [u16; KIN],
     laid: &'a [u16; LAID],
     n: usize,
     parts: &'a [u16; LAID],
@@ -84,12 +88,13 @@ pub(crate) fn try_atom<'a>(
     gone: &mut [u64; LINK_SETS],
 ) -> bool
     requires { ⌜ Rowed (now laid) n × UsersIn (now laid) n (now users) × Rowed (now parts) m × UsersIn (now parts) m (now owners) × (k < m) × (t < n) ⌝ }
-    ensures { λ r. ⌜ ((sheet figure : NormalForm) → LaidOut sheet (now (laid .entry)) n → LaidOut figure (now (parts .entry)) m → (pre : List ℕ) → length pre ≡ k → KeepsIn sheet figure pre (now (atoms .entry)) (now (links .entry)) → Kept sheet figure (pre ++ (suc t ∷ [])) (now (atoms .exit)) (now (links .exit)) r) ⌝ }
+    ensures { λ r. ⌜ ((sheet figure : NormalForm) → LaidOut sheet (now (laid .entry)) n → LaidOut figure (now (parts .entry)) m → RowLabels (netIn figure) (λ x. getD (now (kin .entry)) (x - 1) 0) → (pre : List ℕ) → length pre ≡ k → KeepsIn sheet figure pre (now (atoms .entry)) (now (links .entry)) → Kept sheet figure (pre ++ (suc t ∷ [])) (now (atoms .exit)) (now (links .exit)) r) ⌝ }
 {
     let went = choose(k, t, atoms);
     narrow_after(
         users,
         owners,
+        kin,
         laid,
         n,
         parts,

@@ -2,6 +2,7 @@
 mod alone;
 mod barred;
 pub mod choose;
+mod follow;
 mod given;
 mod kin;
 pub mod narrow;

@@ -12,9 +12,10 @@ use Rattle.network.specs.Ready.{Ready, AtomsIn}
 use Rattle.matching.specs.Search.{searchFrom}
 use Rattle.candidates.specs.Frames.{FrameOf, whole}
 use Rattle.candidates.specs.Laid.{LaidOut}
+use Rattle.candidates.specs.PortSets.{ContextsIn}
 use Rattle.candidates.specs.declared.frame.Frame.{Frame}
-use Rattle.candidates.proofs.PortRows.{wider}
-use Rattle.candidates.proofs.Framing.{whole-laid}
+use Rattle.candidates.proofs.PortRows.{wider, ports-of}
+use Rattle.candidates.proofs.Framing.{whole-laid, whole-contexts}
 use Rattle.candidates.proofs.Laying.{laid-rowed}
 use Rattle.candidates.proofs.Marks.{own-marks, mark-links}
 use Rattle.candidates.proofs.Hopeless.{lost-hopeless}
@@ -69,6 +70,9 @@ figure-laid a = whole-laid (start-of a .args .figure) _ (given-figure a) (figure
 
 ready : (a : tie.After-frame-of2) → Ready (sheet-of a) (figure-of a)
 ready a = laid-ready _ _ _ _ _ _ (sheet-laid a) (figure-laid a)
+
+figure-contexts : (a : tie.After-frame-of2) → ContextsIn (figure-of a) (figure-frame a .contexts) (figure-frame a .«context_count») (figure-frame a .«class_count»)
+figure-contexts a = whole-contexts (figure-frame a) (parts-of a) (ready a .figure-fit)
 
 leaves-some-requires : tie.Need-leaves-some-requires
 leaves-some-requires c κs = search needs
@@ -151,27 +155,32 @@ users-of-requires c κs = (laid-rowed _ _ _ (sheet-laid (c .before .before .befo
 users-of-requires-2 : tie.Need-users-of-requires-2
 users-of-requires-2 c κs = (laid-rowed _ _ _ (figure-laid (c .before .before .before .before .before .before .before .before .before .before .before .before .before .before .before .before)), refl)
 
+kin-of-requires : tie.Need-kin-of-requires
+kin-of-requires c κs = let a = c .before .before .before .before .before .before .before .before .before .before .before .before .before .before .before .before .before .before .before in (ports-of (figure-contexts a), ready a .figure-fit .atom-count)
+
 narrow-all-requires : tie.Need-narrow-all-requires
-narrow-all-requires c κs = let a = c .before .before .before .before .before .before .before .before .before .before .before .before .before .before .before .before .before .before .before .before .before .before .before in
-    (laid-rowed _ _ _ (sheet-laid a), c .before .before .before .before .before .before .before .before .before .users-of .ensures, laid-rowed _ _ _ (figure-laid a), c .before .before .before .before .before .before .users-of2 .ensures)
+narrow-all-requires c κs = let a = c .before .before .before .before .before .before .before .before .before .before .before .before .before .before .before .before .before .before .before .before .before .before .before .before .before .before .before in
+    (laid-rowed _ _ _ (sheet-laid a), c .before .before .before .before .before .before .before .before .before .before .before .before .before .users-of .ensures, laid-rowed _ _ _ (figure-laid a), c .before .before .before .before .before .before .before .before .before .before .users-of2 .ensures)
 
 search-requires : tie.Need-search-requires
-search-requires c κs = let a = c .before .before .before .before .before .before .before .before .before .before .before .before .before .before .before .before .before .before .before .before .before .before .before .before .before .before .before .before .before .before .before .before in
-    let s = c .before .before .before .before .before .before .before .before .before .before .before .before .before .before .before .before .before .before .before .before .before .before .before .before .before .before .start in
-    let w = c .before .before .before .before .before .before .before .before .narrow-all in record {
+search-requires c κs = let a = c .before .before .before .before .before .before .before .before .before .before .before .before .before .before .before .before .before .before .before .before .before .before .before .before .before .before .before .before .before .before .before .before .before .before .before .before .before in
+    let s = c .before .before .before .before .before .before .before .before .before .before .before .before .before .before .before .before .before .before .before .before .before .before .before .before .before .before .before .before .before .before .before .start in
+    let k = c .before .before .before .before .before .before .before .before .before .before .before .before .before .before .before .before .before .kin-of in
+    let w = c .before .before .before .before .before .before .before .before .before .narrow-all in record {
       ready = ready a;
       within = omega arith;
       atoms-in = no-atoms (sheet-of a) _ refl;
-      kept = narrow-kept (sheet-of a) (figure-of a) _ _ _ _ (sheet-laid a) (figure-laid a) _ (s .last .1 .1 .1 .1 .0) (s .last .1 .1 .1 .1 .1 .0) _ _ (w .result) (w .ensures .0) (w .ensures .1) (s .ensures);
+      kept = narrow-kept (sheet-of a) (figure-of a) _ _ _ _ (sheet-laid a) (figure-laid a) (k .result) (k .ensures (figure-of a) (figure-contexts a)) _ (s .last .1 .1 .1 .1 .0) (s .last .1 .1 .1 .1 .1 .0) _ _ (w .result) (w .ensures .0) (w .ensures .1) (s .ensures);
       sheet-laid = sheet-laid a;
       figure-laid = figure-laid a;
-      users-in = c .before .before .before .before .before .before .before .before .before .before .before .before .before .before .before .before .before .before .users-of .ensures;
-      owners-in = c .before .before .before .before .before .before .before .before .before .before .before .before .before .before .before .users-of2 .ensures;
+      users-in = c .before .before .before .before .before .before .before .before .before .before .before .before .before .before .before .before .before .before .before .before .before .before .before .users-of .ensures;
+      owners-in = c .before .before .before .before .before .before .before .before .before .before .before .before .before .before .before .before .before .before .before .before .users-of2 .ensures;
+      labels = k .ensures (figure-of a) (figure-contexts a);
     }
 
 returns-4 : tie.Need-returns-4
 returns-4 c =
-    let a = c .before .before .before .before .before .before .before .before .before .before .before .before .before .before .before .before .before .before .before .before .before .before .before .before .before .before .before .before .before .before .before .before .before in
+    let a = c .before .before .before .before .before .before .before .before .before .before .before .before .before .before .before .before .before .before .before .before .before .before .before .before .before .before .before .before .before .before .before .before .before .before .before .before .before .before in
     let b = start-of a in
     placed-whole (b .args .sheet) (b .args .figure) _ _ (given-sheet a) (given-figure a) _ _ (sheet-framed a) (figure-framed a) (c .search .result)
     (placed-smallest (sheet-of a) (figure-of a) (ready a) (c .search .result) (search-room c .0) (search-room c .1) (c .search .ensures))
@@ -197,6 +206,7 @@ smallest-placing-spec =
     returns-3
     users-of-requires
     users-of-requires-2
+    kin-of-requires
     narrow-all-requires
     search-requires
     returns-4)

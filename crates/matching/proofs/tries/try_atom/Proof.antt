@@ -20,7 +20,7 @@ returns c = let s = c .before .before .before .before .before .before .before in
     let a = s .args in
     let t = c .before .before .before .before .before .choose in
     let w = c .narrow-after in
-    λ sheet figure os of pre e keeps. narrow-kept sheet figure (a .laid .now) (a .n) (a .parts .now) (a .m) os of (pre ++ (suc (a .t) ∷ [])) (t .last .1 .1 .0) (a .links .now) _ _ (w .result) (w .ensures .0) (w .ensures .1)
+    λ sheet figure os of rows pre e keeps. narrow-kept sheet figure (a .laid .now) (a .n) (a .parts .now) (a .m) os of (a .kin .now) rows (pre ++ (suc (a .t) ∷ [])) (t .last .1 .1 .0) (a .links .now) _ _ (w .result) (w .ensures .0) (w .ensures .1)
     (choice-kept sheet figure (of .fit) (a .k) (a .t) (omega (arith, s .pre .4, of .count)) (a .atoms .now) (t .last .1 .1 .0) (a .links .now) (choose-keeps (a .atoms .now) (t .last .1 .1 .0) (a .k) (a .t) (omega (arith, s .pre .5, s .pre .0 .few)) (t .ensures .1)) pre e keeps)
 
 pub try-atom-spec : {M : Type 1} → statement M

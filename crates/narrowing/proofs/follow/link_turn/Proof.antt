@@ -1,7 +1,7 @@
 -- The losses are taken out of their table, then followed.
 use borrow.Author.Needs.{needs}
-use Rattle.narrowing.proofs.narrow.link_turn.Statement.{statement}
-use Rattle.narrowing.proofs.narrow.link_turn.Tie as tie
+use Rattle.narrowing.proofs.follow.link_turn.Statement.{statement}
+use Rattle.narrowing.proofs.follow.link_turn.Tie as tie
 
 pair-at-requires : tie.Need-pair-at-requires
 pair-at-requires c κs = search needs

@@ -5,8 +5,8 @@ use Rattle.rows.specs.declared.Atom.{Atom}
 use Rattle.network.specs.NetIn.{Used}
 use Rattle.narrowing.proofs.Turns.{atom-narrows, alone-narrows, narrows-then}
 use borrow.Author.Needs.{needs}
-use Rattle.narrowing.proofs.narrow.atom_turn.Statement.{statement}
-use Rattle.narrowing.proofs.narrow.atom_turn.Tie as tie
+use Rattle.narrowing.proofs.follow.atom_turn.Statement.{statement}
+use Rattle.narrowing.proofs.follow.atom_turn.Tie as tie
 
 laid-atom-requires : tie.Need-laid-atom-requires
 laid-atom-requires c κs = search needs

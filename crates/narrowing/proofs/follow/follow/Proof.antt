@@ -9,8 +9,8 @@ use Rattle.candidates.proofs.Digits.{none-in}
 use Rattle.narrowing.proofs.Turns.{link-narrows, narrows-then}
 use Rattle.narrowing.specs.Steps.{NarrowedBy}
 use borrow.Author.Needs.{needs}
-use Rattle.narrowing.proofs.narrow.follow.Statement.{statement}
-use Rattle.narrowing.proofs.narrow.follow.Tie as tie
+use Rattle.narrowing.proofs.follow.follow.Statement.{statement}
+use Rattle.narrowing.proofs.follow.follow.Tie as tie
 
 abbrev Inv-loop : tie.InvT-loop
 Inv-loop users owners laid n parts m first-due atoms₀ links₀ lost₀ gone₀ pending₀ due₀ left₀ atoms links lost gone pending due left = (kin : List ℕ) → NarrowedBy kin laid n parts m atoms₀ links₀ atoms links
