@@ -113,12 +113,16 @@ pub standing-end : (figure : form.Sheet) (sets : List PortSet) (rows links : ℕ
 standing-end figure sets rows links o words s = record { room = s .room; holds = λ x h k t. by x h k t (context-of figure (o .fit) (t .row) (t .of-figure)); only = λ x h t i. from x h t (s .only x t i) }
   where
     from : (x : ℕ) → x < figure .«class_count» → (t : ℕ) → (i : ℕ) × (i < rows) × PortIn sets i x × (t ≡ digitOf (setAt sets i .number)) → (k : ℕ) × Stands (netIn figure) (suc x) k × (t ≡ digitOf k)
-    from x h t (i, u, p, e) = (setAt sets i .number, record {
-      row = contextIn (contextAt figure i);
-      of-figure = subst (λ (c : NetCell). c ∈ netIn figure .contexts) (context-index figure (o .fit) i there) (cell-in (netIn figure .contexts) (i + 1) (omega arith, let l = contexts-length figure (o .fit) in omega (arith, there)));
-      port = o .each i u .ports x (omega (arith, h, o .fit .class-count)) .0 p;
-      number = sym (o .each i u .number);
-    }, e)
+    from x h t (i, u, p, e) = (
+      setAt sets i .number,
+      record {
+        row = contextIn (contextAt figure i);
+        of-figure = subst (λ (c : NetCell). c ∈ netIn figure .contexts) (context-index figure (o .fit) i there) (cell-in (netIn figure .contexts) (i + 1) (omega arith, let l = contexts-length figure (o .fit) in omega (arith, there)));
+        port = o .each i u .ports x (omega (arith, h, o .fit .class-count)) .0 p;
+        number = sym (o .each i u .number);
+      },
+      e,
+    )
       where
         there : i < figure .«context_count»
         there = omega (arith, u, o .row-count)

@@ -1,4 +1,5 @@
 // Ways through the sheet from one half of the contexts to the other.
+pub mod crowded;
 mod flow;
 mod guarded;
 mod halves;

@@ -47,9 +47,12 @@ loop-again c = let s = c .before .before .before .before .before .before in
     let l = c .before .before .before .before .loop in
     let f = c .next-from2 in
     let v = c .before .guarded in
-    let inside : l .t < length (l .taken) = (let h = c .before .before .before .loop-test .taken in omega (arith, s .pre .1, l .inv .1)) in
-    (f .ensures .within, simp length-set (l .inv .1), stays-stored (a .taken .now) (l .taken) (l .t) (v .result) inside (v .ensures .1) (v .ensures .0) (l .inv .2),
-    guarded-next (a .atoms .now) (a .row) (l .taken) (l .t) (v .result) (f .result) inside (v .ensures .1) (v .ensures .0) (f .ensures) (l .inv .3))
+    let inside : l .t < length (l .taken) = (let h = c .before .before .before .loop-test .taken in omega (arith, s .pre .1, l .inv .1)) in (
+      f .ensures .within,
+      simp length-set (l .inv .1),
+      stays-stored (a .taken .now) (l .taken) (l .t) (v .result) inside (v .ensures .1) (v .ensures .0) (l .inv .2),
+      guarded-next (a .atoms .now) (a .row) (l .taken) (l .t) (v .result) (f .result) inside (v .ensures .1) (v .ensures .0) (f .ensures) (l .inv .3),
+    )
 
 returns : tie.Need-returns Inv-loop μ-loop
 returns c = let l = c .before .loop in (l .inv .1, l .inv .2, λ u h m. l .inv .3 u (omega arith) m)

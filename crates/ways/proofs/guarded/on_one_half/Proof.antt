@@ -97,10 +97,12 @@ loop-again c = let s = c .before .before .before .before .before .before .before
     let a = s .args in
     let l = c .before .before .before .before .before .loop in
     let x = c .before .before .wide2 in
-    let half = c .half-of in
-    (let h = c .before .before .before .before .loop-test .taken in omega arith, (let h = l .inv .1 in omega (arith, and-le-l (l .halves) (half .result))),
-    λ h i. below-next (λ j. In (halfOf (getD (a .standing .now) (laidAt (a .parts .now) (a .row) (2 + j) - 1) 0) (a .side)) h) (l .k) (l .inv .2 h (and-in (l .halves) (half .result) h i .0))
-    (subst (λ (w : ℕ). In w h) (half .ensures .0 ∙ ap (λ (w : ℕ). halfOf (getD (a .standing .now) (w - 1) 0) (a .side)) (x .ensures .0)) (and-in (l .halves) (half .result) h i .1)))
+    let half = c .half-of in (
+      let h = c .before .before .before .before .loop-test .taken in omega arith,
+      (let h = l .inv .1 in omega (arith, and-le-l (l .halves) (half .result))),
+      λ h i. below-next (λ j. In (halfOf (getD (a .standing .now) (laidAt (a .parts .now) (a .row) (2 + j) - 1) 0) (a .side)) h) (l .k) (l .inv .2 h (and-in (l .halves) (half .result) h i .0))
+          (subst (λ (w : ℕ). In w h) (half .ensures .0 ∙ ap (λ (w : ℕ). halfOf (getD (a .standing .now) (w - 1) 0) (a .side)) (x .ensures .0)) (and-in (l .halves) (half .result) h i .1)),
+    )
 
 returns : tie.Need-returns Inv-loop μ-loop
 returns c = let l = c .before .loop in
