@@ -24,7 +24,7 @@ use Rattle.completing.specs.Ways.{OnHalf, OnOneHalf}
 use Rattle.stepping.specs.Standing.{digitOf, Described}
 use Rattle.ways.specs.Halves.{onFirst, halfOf}
 use Rattle.ways.specs.Agrees.{Agrees, NoneAgrees}
-use Rattle.ways.specs.Nodes.{NodeOf, NoneStays, OnRow, OnlyLink, Tells, RowOnHalf, Guarded, GuardedTo, Guards, GuardsTo}
+use Rattle.ways.specs.Nodes.{NodeOf, NoneStays, OnRow, OnlyLink, Tells, RowOnHalf, Guarded, Guards, GuardsTo}
 use Rattle.ways.proofs.Words.{half-one, half-two}
 use Rattle.ways.proofs.Steps.{row-touches, touches-row}
 

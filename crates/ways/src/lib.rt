@@ -4,6 +4,7 @@ mod flow;
 mod guarded;
 mod halves;
 pub mod outnumbered;
+mod row;
 mod search;
 mod told;
 mod trail;
