@@ -1,21 +1,16 @@
 -- The sheet atoms that figure atoms take or may take, row by row.
-use Prim.Native.Nat.{ℕ, suc, _+_, _≤_, _<_}
+use Prim.Native.Nat.{ℕ, suc, _+_, _<_}
 use mathlib.Core.Path.{_≡_, refl, sym, _∙_, ap, subst}
-use mathlib.Core.Logic.{_⊎_, inl, inr}
+use mathlib.Core.Logic.{inl, inr}
 use mathlib.Core.List.{List, [], _∷_, List·Memᴰ·head, List·Memᴰ·tail}
 use native.Mathlib.Decide.{ℕ-discrete, decLt}
 use native.Mathlib.Omega.{arith}
-use lib.Bits.{bitAnd}
 use lib.ListN.{length, getD, set, length-set}
 use lib.Seq.{getD-set-same, getD-set-other}
 use Rattle.hyperlmntal.specs.Link.{_∈_}
 use Rattle.rows.specs.Limits.{sheetAtoms}
 use Rattle.candidates.specs.Forced.{FirstFrom, Only}
-use Rattle.candidates.specs.Laid.{laidAt}
-use Rattle.candidates.specs.Tables.{AtomIn}
-use Rattle.candidates.specs.Words.{In}
-use Rattle.candidates.proofs.Digits.{and-in}
-use Rattle.ways.specs.Nodes.{RowOnHalf, RowOnOneHalf, Guarded, StaysGuarded, GuardedTo, Guards, GuardsTo}
+use Rattle.ways.specs.Nodes.{RowOnOneHalf, Guarded, StaysGuarded, GuardedTo, Guards, GuardsTo}
 
 -- A flag is stored, and what was taken stays so.
 pub stays-stored : (was now : List ℕ) (t v : ℕ) → t < length now → (getD now t 0 ≡ 1 → v ≡ 1) → Guarded v → StaysGuarded was now → StaysGuarded was (set now t v)

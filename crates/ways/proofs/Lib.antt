@@ -8,3 +8,4 @@ pub mod Refusing
 -- Tables of a search node.
 pub mod Telling
 pub mod Guarding
+pub mod Crowding

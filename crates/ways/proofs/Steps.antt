@@ -1,6 +1,6 @@
 -- Rows of atoms that are laid out, as steps between links.
 use Prim.Native.Nat.{ℕ, suc, _+_, _≤_, _<_}
-use mathlib.Core.Path.{_≡_, refl, sym, _∙_, subst}
+use mathlib.Core.Path.{_≡_, refl, sym, _∙_, ap, subst}
 use mathlib.Core.Logic.{_≢_}
 use mathlib.Core.List.{List}
 use native.Mathlib.Omega.{arith}
@@ -12,7 +12,7 @@ use Rattle.rows.specs.declared.Atom.{Atom}
 use Rattle.rows.specs.declared.Sheet.{Sheet as NormalForm}
 use Rattle.placing.specs.Net.{Range}
 use Rattle.network.specs.NetIn.{netIn, atomAt, Used}
-use Rattle.network.proofs.NetIn.{used-in}
+use Rattle.network.proofs.NetIn.{in-place, used-numbered, used-in}
 use Rattle.candidates.specs.Laid.{laidAt, linkOf, Rowed, LaidOut}
 use Rattle.candidates.proofs.Laying.{link-laid, count-laid}
 use Rattle.completing.specs.Known.{Touches}
@@ -54,27 +54,33 @@ no-step laid taken atoms j z = (omega arith, λ n. absurd (n refl))
 pub step-row : {laid taken : List ℕ} {atoms y row z : ℕ} → Rowed laid atoms → LaidStep laid taken atoms y (suc row) z → row < sheetAtoms
 step-row rowed s = let e = s .atom in let h = s .atom-in in let f = rowed .few in omega arith
 
-module _ (sheet : NormalForm) (laid taken : List ℕ) (atoms : ℕ) (out : LaidOut sheet laid atoms) where
-  -- A row touches the links at its places.
-  row-touches : (row : ℕ) → row < atoms → (k : ℕ) → k < laidAt laid row 1 → Touches (netIn sheet) (suc row) (laidAt laid row (2 + k))
-  row-touches row h k l = subst (λ (m : List ℕ). laidAt laid row (2 + k) ∈ m) (sym (atom-links sheet (out .fit) row inside)) (subst (λ (y : ℕ). y ∈ take (atomAt sheet row .count) (atomAt sheet row .links)) link (used-in _ _ _ used k few))
-    where
-      inside : row < sheet .«atom_count»
-      inside = let e = out .count in omega arith
+module _ (net : NormalForm) (laid : List ℕ) (atoms : ℕ) (out : LaidOut net laid atoms) (row : ℕ) (h : row < atoms) where
+  inside : row < net .«atom_count»
+  inside = let e = out .count in omega arith
 
-      used : Used (sheet .«class_count») (atomAt sheet row .count) (atomAt sheet row .links)
-      used = out .fit .atoms row inside
+  used : Used (net .«class_count») (atomAt net row .count) (atomAt net row .links)
+  used = out .fit .atoms row inside
 
-      few : k < atomAt sheet row .count
-      few = subst (λ (a : Atom). k < a .count) (out .atoms row h) (let e = count-laid laid row in omega arith)
+  width : laidAt laid row 1 ≡ atomAt net row .count
+  width = sym (count-laid laid row) ∙ ap (λ (a : Atom). a .count) (out .atoms row h)
 
-      link : linkOf (atomAt sheet row) k ≡ laidAt laid row (2 + k)
-      link = subst (λ (a : Atom). linkOf a k ≡ laidAt laid row (2 + k)) (out .atoms row h) (link-laid laid row k (let f = used .few in let g = few in omega arith))
+  link : (k : ℕ) → k < atomAt net row .count → linkOf (atomAt net row) k ≡ laidAt laid row (2 + k)
+  link k l = subst (λ (a : Atom). linkOf a k ≡ laidAt laid row (2 + k)) (out .atoms row h) (link-laid laid row k (let f = used .few in omega arith))
 
-  -- A step through a row that may be passed.
-  pub laid-passes : (y j z : ℕ) → LaidStep laid taken atoms y j z → Passes (netIn sheet) (Passable taken atoms) y j z
-  laid-passes y j z s = subst (λ (i : ℕ). Passes (netIn sheet) (Passable taken atoms) y i z) (sym (s .atom)) (
-    (s .row, refl, s .atom-in, s .may-pass),
-    subst (Touches (netIn sheet) (suc (s .row))) (s .from-link) (row-touches (s .row) (s .atom-in) (s .from) (s .from-in)),
-    subst (Touches (netIn sheet) (suc (s .row))) (s .into-link) (row-touches (s .row) (s .atom-in) (s .into) (s .into-in)),
-  )
+  -- A row touches the links at its places, and no others.
+  pub row-touches : (k : ℕ) → k < laidAt laid row 1 → Touches (netIn net) (suc row) (laidAt laid row (2 + k))
+  row-touches k l = let few : k < atomAt net row .count = subst (λ (n : ℕ). k < n) width l in
+      subst (λ (m : List ℕ). laidAt laid row (2 + k) ∈ m) (sym (atom-links net (out .fit) row inside)) (subst (λ (y : ℕ). y ∈ take (atomAt net row .count) (atomAt net row .links)) (link k few) (used-in _ _ _ used k few))
+
+  pub touches-row : (y : ℕ) → Touches (netIn net) (suc row) y → (k : ℕ) × (k < laidAt laid row 1) × (laidAt laid row (2 + k) ≡ y)
+  touches-row y m =
+      let t = in-place _ _ (used-numbered _ _ _ used .there) y (subst (λ (l : List ℕ). y ∈ l) (atom-links net (out .fit) row inside) m) in
+      (t .0, subst (λ (n : ℕ). t .0 < n) (sym width) (t .1), sym (link (t .0) (t .1)) ∙ t .2)
+
+-- A step through a row that may be passed.
+pub laid-passes : (sheet : NormalForm) (laid taken : List ℕ) (atoms : ℕ) → LaidOut sheet laid atoms → (y j z : ℕ) → LaidStep laid taken atoms y j z → Passes (netIn sheet) (Passable taken atoms) y j z
+laid-passes sheet laid taken atoms out y j z s = subst (λ (i : ℕ). Passes (netIn sheet) (Passable taken atoms) y i z) (sym (s .atom)) (
+  (s .row, refl, s .atom-in, s .may-pass),
+  subst (Touches (netIn sheet) (suc (s .row))) (s .from-link) (row-touches sheet laid atoms out (s .row) (s .atom-in) (s .from) (s .from-in)),
+  subst (Touches (netIn sheet) (suc (s .row))) (s .into-link) (row-touches sheet laid atoms out (s .row) (s .atom-in) (s .into) (s .into-in)),
+)

@@ -1,12 +1,12 @@
 -- Where links surely go, told link by link.
-use Prim.Native.Nat.{ℕ, suc, _+_, _*_, _<_}
+use Prim.Native.Nat.{ℕ, suc, _+_, _*_, _≤_, _<_}
 use mathlib.Core.Path.{_≡_, refl, sym, _∙_, ap, subst}
 use mathlib.Core.Logic.{_⊎_, inl, inr, _≢_}
 use mathlib.Core.List.{List, [], _∷_}
 use mathlib.Core.Bool.{true}
 use native.Mathlib.Decide.{ℕ-discrete}
 use native.Mathlib.Omega.{arith}
-use lib.ListN.{getD, set, length-set}
+use lib.ListN.{getD, set, replicate, length-set, getD-replicate}
 use lib.Seq.{getD-set-same, getD-set-other}
 use Rattle.rows.specs.Limits.{sheetLinks}
 use Rattle.placing.specs.Net.{Range}
@@ -22,6 +22,15 @@ only-without sets x pair e y small rest f none z h i = go (ℕ-discrete z y)
     go : Dec (z ≡ y) → suc z ≡ y + 1
     go (yes q) = omega arith
     go (no n) = absurd (none-in-pair rest none z (in-pair h) (in-without pair y small rest f z (in-pair h) (subst (λ (l : List ℕ). InPair l z) (sym e) (pair-in sets x z h i)) n))
+
+-- Nothing is told at first.
+pub tells-none : (parts : List ℕ) (n : ℕ) (sets : List ℕ) (none : ℕ) → 1 ≤ none → Tells parts n sets none (replicate sheetLinks none) (replicate sheetLinks 1)
+tells-none parts n sets none h = record {
+  room = refl;
+  flag-room = refl;
+  within = λ x l. subst (Range none) (sym (getD-replicate sheetLinks x none 0 l)) (h, omega arith);
+  told = λ x l. inl (getD-replicate sheetLinks x none 0 l, getD-replicate {A = ℕ} sheetLinks x 1 0 l);
+}
 
 -- One more link is told.
 pub tells-more : (parts : List ℕ) (n : ℕ) (sets : List ℕ) (none : ℕ) (to flags : List ℕ) (x y : ℕ) → x < sheetLinks → OnlyLink sets x y → Range none y → OnRow parts n x

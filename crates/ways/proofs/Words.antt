@@ -6,9 +6,9 @@ use mathlib.Core.Bool.{Bool, true, false}
 use native.Mathlib.Omega.{arith}
 use lib.Bits.{bitAnd, bitXor}
 use lib.Dec.{eqb}
-use borrow.Author.Tests.{eqb-true, ne-eqb}
+use borrow.Author.Tests.{eqb-true, eqb-false, ne-eqb}
 use Rattle.candidates.specs.Words.{digit, In, fewer}
-use Rattle.candidates.proofs.Digits.{in-dec, in-some, in-and, in-fewer}
+use Rattle.candidates.proofs.Digits.{in-dec, in-some, some-in, in-and, and-in, fewer-in, in-fewer}
 use Rattle.ways.specs.Halves.{halfBy, halfOf}
 
 pub half-is : (w s : ℕ) (b d : Bool) → eqb (bitAnd w s) 0 ≡ b → eqb (bitXor w (bitAnd w s)) 0 ≡ d → halfBy b d ≡ halfOf w s
@@ -36,6 +36,18 @@ by-second true true e = refl
 by-second false true e = absurd (omega arith)
 by-second true false e = refl
 by-second false false e = absurd (omega arith)
+
+by-one : (b d : Bool) → In (halfBy b d) 0 → b ≡ false
+unfolding digit
+by-one true true e = absurd (omega (arith, e))
+by-one true false e = absurd (omega (arith, e))
+by-one false d e = refl
+
+by-two : (b d : Bool) → In (halfBy b d) 1 → d ≡ false
+unfolding digit
+by-two true true e = absurd (omega (arith, e))
+by-two false true e = absurd (omega (arith, e))
+by-two b false e = refl
 
 -- The halves of some links, as digits: the first or the second is there.
 pub some-half : (r : ℕ) → r < 4 → r ≢ 0 → In r 0 ⊎ In r 1
@@ -73,3 +85,20 @@ module _ (w s : ℕ) where
 
       more : fewer w s ≢ 0
       more e = omega (arith, e, in-some (fewer w s) u (in-fewer w s (fewer w s) refl u j n))
+
+  -- by its digits: some context is on the first half, and some on the second
+  pub half-one : In (halfOf w s) 0 → (t : ℕ) × In w t × In s t
+  unfolding halfOf
+  half-one i =
+      let some : bitAnd w s ≢ 0 = eqb-false _ _ (by-one (eqb (bitAnd w s) 0) (eqb (fewer w s) 0) i) in
+      let t = some-in (bitAnd w s) (omega (arith, some)) in
+      let u = and-in w s (t .0) (t .1) in
+      (t .0, u .0, u .1)
+
+  pub half-two : In (halfOf w s) 1 → (t : ℕ) × In w t × (¬ In s t)
+  unfolding halfOf
+  half-two i =
+      let some : fewer w s ≢ 0 = eqb-false _ _ (by-two (eqb (bitAnd w s) 0) (eqb (fewer w s) 0) i) in
+      let t = some-in (fewer w s) (omega (arith, some)) in
+      let u = fewer-in w s (fewer w s) refl (t .0) (t .1) in
+      (t .0, u .0, u .1)

@@ -1,7 +1,8 @@
 // The figure atoms at a search node, for two halves of the contexts: one that has a single place takes it, and one
 // whose links are not on one half breaks ways wherever it may go, so that at most one way passes there.
 use crate::halves::half_of;
-use crate::trail::wide;
+use crate::row::link;
+use crate::row::width;
 use candidates::LAID;
 use candidates::forced::forced;
 use candidates::forced::next_from;
@@ -25,13 +26,12 @@ fn on_one_half(
     requires { ⌜ Rowed (now parts) n × (row < n) ⌝ }
     ensures { λ r. ⌜ (r ≡ true → RowOnOneHalf (now (parts .entry)) (now (standing .entry)) side row) ⌝ }
 {
-    let at = row * Sheet::FIELDS;
-    let width = wide(parts[at + 1]);
+    let most = width(parts, n, row);
     let mut halves = 3;
     let mut k = 0;
-    while k < width {
-        let x = wide(parts[at + (2 + k)]);
-        halves = halves & half_of(standing[x - 1], side);
+    while k < most {
+        let x = link(parts, n, row, k);
+        halves = halves & half_of(standing[x], side);
         k += 1;
     }
     halves != 0

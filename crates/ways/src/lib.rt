@@ -1,8 +1,10 @@
 // Ways through the sheet from one half of the contexts to the other.
+pub mod crowded;
 mod flow;
 mod guarded;
 mod halves;
 pub mod outnumbered;
+mod row;
 mod search;
 mod told;
 mod trail;

@@ -76,7 +76,7 @@ pub fn outnumbered_by(
 }
 
 // The contexts on which figure links stand, in one word.
-fn contexts(standing: &[u16; Sheet::LINKS], count: usize) -> u16
+pub(crate) fn contexts(standing: &[u16; Sheet::LINKS], count: usize) -> u16
     requires { ⌜ count ≤ sheetLinks ⌝ }
     ensures { λ r. ⌜ ((x : ℕ) → x < count → (t : ℕ) → In (getD (now (standing .entry)) x 0) t → In r t) ⌝ }
 {

@@ -1,5 +1,6 @@
 // Where figure links surely go at a search node: a link of a figure atom that has one place only.
-use crate::trail::wide;
+use crate::row::link;
+use crate::row::width;
 use candidates::LAID;
 use candidates::LINK_SETS;
 use candidates::pairs::first_link;
@@ -68,12 +69,11 @@ fn tell_row(
     requires { ⌜ Rowed (now parts) n × (row < n) × (links ≤ sheetLinks) × (length (now to) ≡ sheetLinks) × (length (now flags) ≡ sheetLinks) ⌝ }
     ensures { λ _. ⌜ (length (now (to .exit)) ≡ sheetLinks) × (length (now (flags .exit)) ≡ sheetLinks) × (Tells (now (parts .entry)) n (now (sets .entry)) (suc links) (now (to .entry)) (now (flags .entry)) → Tells (now (parts .entry)) n (now (sets .entry)) (suc links) (now (to .exit)) (now (flags .exit))) ⌝ }
 {
-    let at = row * Sheet::FIELDS;
-    let width = wide(parts[at + 1]);
+    let most = width(parts, n, row);
     let mut k = 0;
-    while k < width {
-        let x = wide(parts[at + (2 + k)]);
-        tell(to, flags, sets, links, x - 1);
+    while k < most {
+        let x = link(parts, n, row, k);
+        tell(to, flags, sets, links, x);
         k += 1;
     }
 }

@@ -1,0 +1,32 @@
+-- No placing that stays in the sets agrees with the tables.
+use mathlib.Core.Path.{refl}
+use native.Mathlib.Omega.{arith}
+use Rattle.candidates.proofs.Laying.{laid-rowed}
+use Rattle.ways.proofs.Crowding.{node-described, none-stays}
+use Rattle.ways.proofs.crowded.crowded_by.Statement.{statement}
+use Rattle.ways.proofs.crowded.crowded_by.Tie as tie
+
+guard-rows-requires : tie.Need-guard-rows-requires
+guard-rows-requires c κs = let s = c .before in (laid-rowed (s .pre .1) (s .args .parts .now) (s .args .rows) (s .pre .2 .figure-out), laid-rowed (s .pre .0) (s .args .laid .now) (s .args .atoms) (s .pre .2 .sheet-out) .few, refl)
+
+outnumbered-by-requires : tie.Need-outnumbered-by-requires
+outnumbered-by-requires c κs = let s = c .before .before .before in
+    let a = s .args in
+    let d = node-described (s .pre .0) (s .pre .1) (a .atoms) (a .links) (a .count) (a .laid .now) (a .chains .now) (a .rows) (a .parts .now) (a .standing .now) (s .pre .2) (a .sets .now) (a .to .now) (a .flags .now) (s .pre .3) in
+    let f = laid-rowed (s .pre .1) (a .parts .now) (a .rows) (s .pre .2 .figure-out) .few in
+    (s .pre .0, s .pre .1, d, s .pre .2 .sheet-out, let h = c .before .guard-rows .ensures .0 in omega arith)
+
+returns : tie.Need-returns
+returns c = let s = c .before .before .before .before in
+    let a = s .args in
+    let g = c .before .before .guard-rows in
+    λ sheet figure n. none-stays sheet figure (a .atoms) (a .links) (a .count) (a .laid .now) (a .chains .now) (a .rows) (a .parts .now) (a .standing .now) n (a .places .now) (a .sets .now) (a .to .now) (a .flags .now) _ (a .side) (g .result) (s .pre .3) (g .ensures .1) _
+    (c .outnumbered-by .ensures sheet figure (node-described sheet figure (a .atoms) (a .links) (a .count) (a .laid .now) (a .chains .now) (a .rows) (a .parts .now) (a .standing .now) n (a .sets .now) (a .to .now) (a .flags .now) (s .pre .3)) (n .sheet-out))
+
+pub crowded-by-spec : {M : Type 1} → statement M
+crowded-by-spec =
+    tie.close
+    (tie.spec
+    guard-rows-requires
+    outnumbered-by-requires
+    returns)
