@@ -59,7 +59,7 @@ nothing-requires c κs = search needs
 returns : tie.Need-returns
 returns c = let f = c .before .before in
     let s = start-of f in
-    nothing-begun (sheet-of s) (figure-of s) (s .pre .0) (replicate sheetAtoms 0) 0 (omega arith) (no-atoms (sheet-of s) (replicate sheetAtoms 0) refl) (λ b. f .first-sets .ensures .0 (c .before .if1 .taken) (b .0) (b .1 .0)) (c .nothing .result) (c .nothing .ensures)
+    nothing-begun (sheet-of s) (figure-of s) (s .pre .0) (replicate sheetAtoms 0) 0 (omega arith) (no-atoms (sheet-of s) (replicate sheetAtoms 0) refl) (λ b. f .first-sets .ensures .0 (c .before .if1 .taken) (b .0) (b .1)) (c .nothing .result) (c .nothing .ensures)
 
 mark-lost-requires : tie.Need-mark-lost-requires
 mark-lost-requires c κs = let s = start-of (c .before .before .before .before) in
