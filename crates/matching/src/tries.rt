@@ -1,4 +1,5 @@
 // One try of the search: a figure atom goes to a sheet atom.
+use crate::crowd::crowded_at;
 use candidates::KIN;
 use candidates::LAID;
 use candidates::LINK_SETS;
@@ -15,6 +16,8 @@ ghost use lib.ListN.{length, getD, take};
 ghost use Rattle.rows.specs.Limits.{sheetAtoms, sheetMarks};
 ghost use Rattle.rows.specs.declared.Sheet.{Sheet as NormalForm};
 ghost use Rattle.network.specs.NetIn.{netIn};
+ghost use Rattle.network.specs.Ready.{Ready};
+ghost use Rattle.candidates.specs.Frames.{whole};
 ghost use Rattle.candidates.specs.Kin.{RowLabels};
 ghost use Rattle.candidates.specs.Laid.{Rowed, LaidOut};
 ghost use Rattle.narrowing.specs.Users.{UsersIn};
@@ -71,15 +74,20 @@ pub(crate) fn tally(a: u32, b: u32) -> u32
     MOST_WORK
 }
 
-// Figure atom k goes to sheet atom t, and the sets are narrowed. Whether some atom may go nowhere.
+// Tries that failed at a node before ways are looked for below it: most nodes have no such number.
+const PATIENT: u32 = 8;
+
+// Figure atom k goes to sheet atom t, and the sets are narrowed. Whether it is known that no good placing is left: some
+// atom may go nowhere, or, where tries have failed already, too many ways lead from context to context.
 pub(crate) fn try_atom<'a>(
+    sheet: Frame,
+    figure: Frame,
+    work: u32,
     users: &'a [u64; PLACES],
     owners: &'a [u64; PLACES],
     kin: &'a [u16; KIN],
     laid: &'a [u16; LAID],
-    n: usize,
     parts: &'a [u16; LAID],
-    m: usize,
     k: usize,
     t: usize,
     atoms: &mut [u64; Sheet::ATOMS],
@@ -87,25 +95,31 @@ pub(crate) fn try_atom<'a>(
     lost: &mut [u64; Sheet::ATOMS],
     gone: &mut [u64; LINK_SETS],
 ) -> bool
-    requires { ⌜ Rowed (now laid) n × UsersIn (now laid) n (now users) × Rowed (now parts) m × UsersIn (now parts) m (now owners) × (k < m) × (t < n) ⌝ }
-    ensures { λ r. ⌜ ((sheet figure : NormalForm) → LaidOut sheet (now (laid .entry)) n → LaidOut figure (now (parts .entry)) m → RowLabels (netIn figure) (λ x. getD (now (kin .entry)) (x - 1) 0) → (pre : List ℕ) → length pre ≡ k → KeepsIn sheet figure pre (now (atoms .entry)) (now (links .entry)) → Kept sheet figure (pre ++ (suc t ∷ [])) (now (atoms .exit)) (now (links .exit)) r) ⌝ }
+    requires { ⌜ Ready (whole sheet (now laid)) (whole figure (now parts)) × LaidOut (whole sheet (now laid)) (now laid) (sheet .«atom_count») × LaidOut (whole figure (now parts)) (now parts) (figure .«atom_count») × UsersIn (now laid) (sheet .«atom_count») (now users) × UsersIn (now parts) (figure .«atom_count») (now owners) × (k < figure .«atom_count») × (t < sheet .«atom_count») ⌝ }
+    ensures { λ r. ⌜ (RowLabels (netIn (whole figure (now (parts .entry)))) (λ x. getD (now (kin .entry)) (x - 1) 0) → (pre : List ℕ) → length pre ≡ k → KeepsIn (whole sheet (now (laid .entry))) (whole figure (now (parts .entry))) pre (now (atoms .entry)) (now (links .entry)) → Kept (whole sheet (now (laid .entry))) (whole figure (now (parts .entry))) (pre ++ (suc t ∷ [])) (now (atoms .exit)) (now (links .exit)) r) ⌝ }
 {
     let went = choose(k, t, atoms);
-    narrow_after(
+    if narrow_after(
         users,
         owners,
         kin,
         laid,
-        n,
+        sheet.atom_count,
         parts,
-        m,
+        figure.atom_count,
         k,
         went,
         atoms,
         links,
         lost,
         gone,
-    )
+    ) {
+        return true;
+    }
+    if work < PATIENT {
+        return false;
+    }
+    crowded_at(sheet, figure, laid, parts, atoms, links)
 }
 
 // Sheet atom t failed after the first k chosen, at this cost: it is marked, and those that fail as surely.

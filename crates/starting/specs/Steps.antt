@@ -1,5 +1,5 @@
 -- What the steps of the start look at, on the arrays of normal forms: atoms are counted from 0, links and marks by their numbers.
-use Prim.Native.Nat.{ℕ, _+_, _-_, _≤_, _<_}
+use Prim.Native.Nat.{ℕ, _+_, _≤_, _<_}
 use mathlib.Core.Path.{_≡_}
 use mathlib.Core.List.{List}
 use lib.ListN.{length, getD}

@@ -148,7 +148,7 @@ module _ (n : ℕ) where
       let l = c .before .before .before .before .before .before .before .before in
       let d = l .before .before .before in
       let b = d .before .before .before .before .before .before in
-      (laid-rowed (sheet-of b) (b .args .laid .now) _ (b .pre .1 .sheet-laid), b .pre .1 .users-in, laid-rowed (figure-of b) (b .args .parts .now) _ (b .pre .1 .figure-laid), b .pre .1 .owners-in, unfinished (l .before .before), c .before .before .before .before .before .before .before .loop-test .taken)
+      (b .pre .1 .ready, b .pre .1 .sheet-laid, b .pre .1 .figure-laid, b .pre .1 .users-in, b .pre .1 .owners-in, unfinished (l .before .before), c .before .before .before .before .before .before .before .loop-test .taken)
 
   with-atom-requires : search-lts.Need-with-atom-requires (claims n) (search-at n) search′.Post Inv-loop μ-loop
   with-atom-requires c κs =
@@ -168,12 +168,12 @@ module _ (n : ℕ) where
       let next = c .before .before .before .before .with-atom .ensures in
       let e = next-begin (sheet-of b) (figure-of b) (b .pre .1 .ready) (d .advance .last .1 .0) (d .advance .result) (d .advance .ensures .within) (onward d .atoms-in) u (l .loop .failed) (l .loop .work) (l .loop .t) (l .loop .inv) h in (
         omega (arith, b .pre .0, u, d .advance .ensures .after, ap (λ (s : State). s .figure .«atom_count») next, ap (λ (s : State). s .placed) next),
-        subst (λ (s : State). Stands s (b .args .users .now) (b .args .owners .now) (b .args .kin .now) (w .last .1 .1 .1 .1 .1 .1 .1 .1 .1 .0) (w .last .1 .1 .1 .1 .1 .1 .1 .1 .1 .1 .0) (b .args .laid .now) (b .args .parts .now)) (sym next) (record {
+        subst (λ (s : State). Stands s (b .args .users .now) (b .args .owners .now) (b .args .kin .now) (w .last .1 .1 .1 .1 .1 .1 .1 .1 .1 .1 .0) (w .last .1 .1 .1 .1 .1 .1 .1 .1 .1 .1 .1 .0) (b .args .laid .now) (b .args .parts .now)) (sym next) (record {
           ready = b .pre .1 .ready;
           within = omega (arith, u);
           atoms-in = next-atoms (sheet-of b) (figure-of b) (b .pre .1 .ready) (d .advance .last .1 .0) (d .advance .result) (d .advance .ensures .within) (onward d .atoms-in) u (l .loop .failed) (l .loop .work) (l .loop .t) (l .loop .inv) h;
-          kept = subst (λ (m : List ℕ). Kept (sheet-of b) (figure-of b) m (w .last .1 .1 .1 .1 .1 .1 .1 .1 .1 .0) (w .last .1 .1 .1 .1 .1 .1 .1 .1 .1 .1 .0) (w .result)) (sym e)
-              (w .ensures (sheet-of b) (figure-of b) (b .pre .1 .sheet-laid) (b .pre .1 .figure-laid) (b .pre .1 .labels) (take (d .advance .result) (d .advance .last .1 .0)) (pre-length (sheet-of b) (figure-of b) (b .pre .1 .ready) (d .advance .last .1 .0) (d .advance .result) (d .advance .ensures .within) (onward d .atoms-in)) (onward d .keeps));
+          kept = subst (λ (m : List ℕ). Kept (sheet-of b) (figure-of b) m (w .last .1 .1 .1 .1 .1 .1 .1 .1 .1 .1 .0) (w .last .1 .1 .1 .1 .1 .1 .1 .1 .1 .1 .1 .0) (w .result)) (sym e)
+              (w .ensures (b .pre .1 .labels) (take (d .advance .result) (d .advance .last .1 .0)) (pre-length (sheet-of b) (figure-of b) (b .pre .1 .ready) (d .advance .last .1 .0) (d .advance .result) (d .advance .ensures .within) (onward d .atoms-in)) (onward d .keeps));
           sheet-laid = b .pre .1 .sheet-laid;
           figure-laid = b .pre .1 .figure-laid;
           users-in = b .pre .1 .users-in;

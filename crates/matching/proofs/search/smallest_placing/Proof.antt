@@ -1,9 +1,9 @@
 -- `search::smallest_placing` meets its contract: the search from the beginning, of the sheet and the figure with their atoms
 -- as they are laid out. Assumes nothing.
 use Rattle.matching.proofs.SearchWhole.{no-atoms, placed-smallest, laid-ready, placed-whole}
-use Rattle.matching.proofs.SearchTurns.{nothing-begun, narrow-kept}
+use Rattle.matching.proofs.SearchTurns.{nothing-begun}
 use Prim.Native.Nat.{ℕ}
-use mathlib.Core.List.{List, []}
+use mathlib.Core.List.{List}
 use lib.ListN.{length, take, replicate}
 use Rattle.rows.specs.Limits.{sheetAtoms, sheetLinks}
 use Rattle.rows.specs.declared.Sheet.{Sheet as NormalForm}
@@ -14,11 +14,8 @@ use Rattle.candidates.specs.Frames.{FrameOf, whole}
 use Rattle.candidates.specs.Laid.{LaidOut}
 use Rattle.candidates.specs.PortSets.{ContextsIn}
 use Rattle.candidates.specs.declared.frame.Frame.{Frame}
-use Rattle.candidates.proofs.PortRows.{wider, ports-of}
+use Rattle.candidates.proofs.PortRows.{wider}
 use Rattle.candidates.proofs.Framing.{whole-laid, whole-contexts}
-use Rattle.candidates.proofs.Laying.{laid-rowed}
-use Rattle.candidates.proofs.Marks.{own-marks, mark-links}
-use Rattle.candidates.proofs.Hopeless.{lost-hopeless}
 use Rattle.matching.proofs.Leftover.{leftover}
 use mathlib.Core.Path.{_≡_, refl, sym, _∙_, ap, subst}
 use native.Mathlib.Omega.{arith}
