@@ -10,11 +10,13 @@ pub struct Candidates {
     pub links: [Links; LINKS],
     /// Figure atoms with one candidate that has been taken from all others.
     pub settled: Atoms,
+    /// Figure links with one candidate that has been taken from all that are not kin.
+    alone: Links,
 }
 
 /// The candidates by name, port counts and marks, narrowed; `None` where some set is empty.
 pub fn start(figure: &Network, sheet: &Network) -> Option<Candidates> {
-    let mut candidates = Candidates { atoms: [0; ATOMS], links: [0; LINKS], settled: 0 };
+    let mut candidates = Candidates { atoms: [0; ATOMS], links: [0; LINKS], settled: 0, alone: 0 };
     for a in 0..figure.atoms {
         for x in 0..sheet.atoms {
             candidates.atoms[a] |= (alike(figure, a, sheet, x) as Atoms) << x;
@@ -81,6 +83,8 @@ struct Narrowing<'a> {
     dropped_links: [Links; LINKS],
     pending_atoms: Atoms,
     pending_links: Links,
+    /// Links that have one candidate left, still to be taken from others.
+    pending_alone: Links,
 }
 
 impl<'a> Narrowing<'a> {
@@ -93,6 +97,7 @@ impl<'a> Narrowing<'a> {
             dropped_links: [0; LINKS],
             pending_atoms: 0,
             pending_links: 0,
+            pending_alone: 0,
         }
     }
 
@@ -105,9 +110,9 @@ impl<'a> Narrowing<'a> {
             }
         }
         self.pending_atoms = figure.all();
-        for l in (0..figure.links).filter(|&l| !figure.is_open(l)) {
+        self.pending_links = figure.bound;
+        for l in links_in(figure.bound) {
             self.dropped_links[l] = self.sheet.all_links() & !self.candidates.links[l];
-            self.pending_links |= 1 << l;
         }
     }
 
@@ -153,6 +158,10 @@ impl<'a> Narrowing<'a> {
                     return false;
                 }
                 self.follow_atom(a);
+            } else if self.pending_alone != 0 {
+                let l = self.pending_alone.trailing_zeros() as usize;
+                self.pending_alone &= self.pending_alone - 1;
+                self.follow_alone(l);
             } else {
                 return true;
             }
@@ -164,6 +173,7 @@ impl<'a> Narrowing<'a> {
         let gone = std::mem::take(&mut self.dropped_links[l]);
         let left = self.candidates.links[l];
         let few = left.count_ones() < gone.count_ones();
+        self.pending_alone |= Links::from(left.is_power_of_two()) << l;
         for a in atoms_in(self.figure.atoms_on[l]) {
             for (i, _) in self.figure.places(a).iter().enumerate().filter(|&(_, &m)| m as usize == l) {
                 let at = &self.sheet.atoms_at[i];
@@ -195,6 +205,20 @@ impl<'a> Narrowing<'a> {
             for b in atoms_in(figure.all() & !self.candidates.settled) {
                 self.keep_atoms(b, !left);
             }
+        }
+    }
+
+    /// Link `l` has one candidate: links that are not kin lose it. Nobody has it where the atoms of a link on no
+    /// context have settled, since nothing else is at it.
+    fn follow_alone(&mut self, l: usize) {
+        let figure = self.figure;
+        self.candidates.alone |= 1 << l;
+        if figure.rows[l] == 0 && figure.atoms_on[l] & !self.candidates.settled == 0 {
+            return;
+        }
+        let left = self.candidates.links[l];
+        for m in links_in(figure.bound & !figure.kin_of(l) & !self.candidates.alone) {
+            self.keep_links(m, !left);
         }
     }
 }
