@@ -5,6 +5,7 @@
 
 pub mod case;
 pub mod complete;
+pub mod crowded;
 pub mod ends;
 pub mod enumerate;
 pub mod fill;

@@ -1,14 +1,25 @@
 //! The least good placing: figure atoms in order, sheet atoms ascending, then the links, then the contexts.
 
 use crate::complete::Completing;
+use crate::crowded::crowded;
 use crate::graph::Graph;
 use crate::narrow::{choose, start, Candidates};
 use crate::network::{Atoms, Network, ATOMS};
 use crate::placing::Placing;
 use crate::symmetry::{sends, twins, Symmetries};
 
-/// Steps that a failed candidate must have cost before symmetries are looked for.
-const COSTLY: usize = 16;
+/// When the search looks further than narrowing does. Other bounds change no result.
+#[derive(Clone, Copy)]
+pub struct Bounds {
+    /// Work that a failed candidate must have cost before symmetries are looked for.
+    pub costly: usize,
+    /// Work in all before ways between contexts are counted.
+    pub crowded: usize,
+}
+
+pub const BOUNDS: Bounds = Bounds { costly: 16, crowded: 8 };
+/// What counting ways is taken for as work.
+const COUNTING: usize = 2;
 
 struct Search<'a> {
     figure: &'a Network,
@@ -16,17 +27,19 @@ struct Search<'a> {
     used: [u8; ATOMS],
     twins: [Atoms; ATOMS],
     symmetries: Symmetries,
-    costly: usize,
+    bounds: Bounds,
     work: usize,
+    /// The half of the contexts by which ways last outnumbered what breaks them.
+    half: u8,
 }
 
 /// The least good placing of a figure in a sheet, both in normal form; each context number occurs once at most.
 pub fn least_placing(sheet: &Graph, figure: &Graph) -> Option<Placing> {
-    least_placing_at(sheet, figure, COSTLY)
+    least_placing_at(sheet, figure, BOUNDS)
 }
 
-/// The same with another bound for what is costly, which changes no result.
-pub fn least_placing_at(sheet: &Graph, figure: &Graph, costly: usize) -> Option<Placing> {
+/// The same with other bounds.
+pub fn least_placing_at(sheet: &Graph, figure: &Graph, bounds: Bounds) -> Option<Placing> {
     let carried = |graph: &Graph| graph.marks.iter().map(|&(mark, _)| mark).collect::<Vec<_>>();
     let (has, needs) = (sheet.atoms.len(), figure.atoms.len());
     if needs > has || (figure.contexts.is_empty() && needs < has) || carried(sheet) != carried(figure) {
@@ -40,8 +53,9 @@ pub fn least_placing_at(sheet: &Graph, figure: &Graph, costly: usize) -> Option<
         used: [0; ATOMS],
         twins: twins(sheet),
         symmetries: Symmetries::default(),
-        costly,
+        bounds,
         work: 0,
+        half: 0,
     };
     search.place(0, &candidates)
 }
@@ -69,7 +83,7 @@ impl Search<'_> {
                 return Some(placing);
             }
             left &= !self.twins[x];
-            if self.work - before >= self.costly {
+            if self.work - before >= self.bounds.costly {
                 failed.costly |= 1 << x;
             }
         }
@@ -80,10 +94,19 @@ impl Search<'_> {
         self.work += 1;
         self.used[at] = x as u8;
         let mut next = candidates.clone();
-        if !choose(self.figure, self.sheet, &mut next, at, x) {
+        if !choose(self.figure, self.sheet, &mut next, at, x) || self.crowded(&next) {
             return None;
         }
         self.place(at + 1, &next)
+    }
+
+    /// Whether ways between contexts show that nothing good is left; not asked where little has been done so far.
+    fn crowded(&mut self, candidates: &Candidates) -> bool {
+        if self.figure.contexts < 2 || self.work < self.bounds.crowded {
+            return false;
+        }
+        self.work += COUNTING;
+        crowded(self.figure, self.sheet, candidates, &mut self.half)
     }
 
     /// Whether a symmetry that fixes the atoms used so far sends a costly failed candidate to `x`.

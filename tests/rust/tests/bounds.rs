@@ -1,0 +1,61 @@
+//! What the search does besides narrowing changes no answer: it is the same whenever that is done.
+
+use plain::case::{Case, Task};
+use plain::generate::hard::{hard_case, FAMILIES};
+use plain::generate::lines::text;
+use plain::generate::regular::{chain_in, two_rings};
+use plain::generate::Rng;
+use plain::graph::{normal, Graph};
+use plain::read::{read_figure, read_sheet, Figure};
+use plain::search::{least_placing_at, Bounds, BOUNDS};
+
+/// Reads a sheet and a pattern or, with the larger limits, a sheet in its place.
+fn read_both(sheet: &[u8], figure: &[u8]) -> Option<(Graph, Graph)> {
+    let figure = read_figure(figure, Figure::Pattern).or_else(|_| read_sheet(figure)).ok()?;
+    Some((normal(&read_sheet(sheet).ok()?), normal(&figure)))
+}
+
+/// Whether there is a placing, after making sure that all bounds give the same.
+fn found(sheet: &Graph, figure: &Graph, bounds: [Bounds; 3]) -> bool {
+    let [often, seldom, never] = bounds.map(|bounds| least_placing_at(sheet, figure, bounds));
+    assert_eq!(often, never, "{sheet:?} {figure:?}");
+    assert_eq!(seldom, never, "{sheet:?} {figure:?}");
+    never.is_some()
+}
+
+/// Rings and chains, whose symmetries matter.
+#[test]
+fn symmetries_change_no_answer() {
+    let mut rng = Rng::new(21);
+    let bounds = [0, 16, usize::MAX].map(|costly| Bounds { costly, ..BOUNDS });
+    let (mut cases, mut placed) = (0, 0);
+    while cases < 4000 {
+        let (sheet, figure) = if rng.chance(1, 2) { two_rings(&mut rng) } else { chain_in(&mut rng) };
+        let Some((sheet, figure)) = read_both(&text(&sheet), &text(&figure)) else { continue };
+        if sheet.atoms.len() <= 14 {
+            cases += 1;
+            placed += found(&sheet, &figure, bounds) as usize;
+        }
+    }
+    println!("{cases} agree: {placed} placings");
+    assert!(cases / 4 < placed && placed < cases * 3 / 4);
+}
+
+/// Hard calls of place, where ways between contexts matter.
+#[test]
+fn ways_change_no_answer() {
+    let mut rng = Rng::new(22);
+    let bounds = [0, 32, usize::MAX].map(|crowded| Bounds { crowded, ..BOUNDS });
+    let (mut cases, mut placed) = (0, 0);
+    while cases < 3000 {
+        let family = rng.pick(&["pieces", "apart", "cut", "regular"]);
+        let family = FAMILIES.iter().position(|f| f.name == family).expect("a family");
+        let Case { task, inputs, .. } = hard_case(&mut rng, family);
+        let Some((sheet, figure)) = read_both(&inputs[0], &inputs[1]) else { continue };
+        assert!(task == Task::Place || task == Task::Swap);
+        cases += 1;
+        placed += found(&sheet, &figure, bounds) as usize;
+    }
+    println!("{cases} agree: {placed} placings");
+    assert!(cases / 4 < placed && placed < cases * 3 / 4);
+}
