@@ -60,6 +60,13 @@ pub fn choose(figure: &Network, sheet: &Network, candidates: &mut Candidates, a:
     choose_all(figure, sheet, candidates, std::iter::once((a, x)))
 }
 
+/// Takes `x` from the candidates of figure atom `a` and narrows; false where no good placing is left.
+pub fn take_out(figure: &Network, sheet: &Network, candidates: &mut Candidates, a: usize, x: usize) -> bool {
+    let mut narrowing = Narrowing::new(figure, sheet, candidates);
+    narrowing.keep_atoms(a, !(1 << x));
+    narrowing.run()
+}
+
 /// Sends the first atom of each pair to the second and narrows.
 pub fn choose_all(
     figure: &Network,

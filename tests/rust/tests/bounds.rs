@@ -41,11 +41,13 @@ fn symmetries_change_no_answer() {
     assert!(cases / 4 < placed && placed < cases * 3 / 4);
 }
 
-/// Hard calls of place, where ways between contexts matter.
+/// Hard calls of place, where ways between contexts matter, and each candidate tried by itself.
 #[test]
-fn ways_change_no_answer() {
+fn ways_and_single_tries_change_no_answer() {
     let mut rng = Rng::new(22);
-    let bounds = [0, 32, usize::MAX].map(|crowded| Bounds { crowded, ..BOUNDS });
+    let never = usize::MAX;
+    let bounds = [(0, [1, 20]), (32, [200, never]), (never, [never; 2])];
+    let bounds = bounds.map(|(crowded, singly)| Bounds { crowded, singly, ..BOUNDS });
     let (mut cases, mut placed) = (0, 0);
     while cases < 3000 {
         let family = rng.pick(&["pieces", "apart", "cut", "regular"]);
