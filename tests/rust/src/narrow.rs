@@ -1,6 +1,7 @@
 //! Narrowing: for each figure atom the sheet atoms, for each figure link the sheet links that are left to it.
 //! Only candidates that belong to no good placing are dropped.
 
+use crate::colours::{spread_both, Colours};
 use crate::network::{atoms_in, links_in, Atoms, Links, Network, ATOMS, LINKS};
 
 #[derive(Clone)]
@@ -14,25 +15,47 @@ pub struct Candidates {
     alone: Links,
 }
 
-/// The candidates by name, port counts and marks, narrowed; `None` where some set is empty.
-pub fn start(figure: &Network, sheet: &Network) -> Option<Candidates> {
+/// The candidates by name, port counts and marks, and without contexts by colours after so many rounds, narrowed; `None`
+/// where some set is empty.
+pub fn start(figure: &Network, sheet: &Network, rounds: usize) -> Option<Candidates> {
+    let mut candidates = if figure.contexts == 0 && rounds > 0 {
+        let (mut of_figure, mut of_sheet) = (Colours::new(figure), Colours::new(sheet));
+        if !spread_both(&mut of_figure, figure, &mut of_sheet, sheet, rounds) {
+            return None;
+        }
+        let atoms = |a: usize, x: usize| of_figure.atoms[a] == of_sheet.atoms[x] && alike(figure, a, sheet, x);
+        let links = |l: usize, s: usize| of_figure.links[l] == of_sheet.links[s] && can_go(figure, l, sheet, s);
+        first_candidates(figure, sheet, atoms, links)?
+    } else {
+        first_candidates(figure, sheet, |a, x| alike(figure, a, sheet, x), |l, s| can_go(figure, l, sheet, s))?
+    };
+    let mut narrowing = Narrowing::new(figure, sheet, &mut candidates);
+    narrowing.begin();
+    narrowing.run().then_some(candidates)
+}
+
+/// The candidates by tests of an atom and a link; `None` where a link has none.
+fn first_candidates(
+    figure: &Network,
+    sheet: &Network,
+    atoms: impl Fn(usize, usize) -> bool,
+    links: impl Fn(usize, usize) -> bool,
+) -> Option<Candidates> {
     let mut candidates = Candidates { atoms: [0; ATOMS], links: [0; LINKS], settled: 0, alone: 0 };
     for a in 0..figure.atoms {
         for x in 0..sheet.atoms {
-            candidates.atoms[a] |= (alike(figure, a, sheet, x) as Atoms) << x;
+            candidates.atoms[a] |= (atoms(a, x) as Atoms) << x;
         }
     }
     for l in 0..figure.links {
         for s in 0..sheet.links {
-            candidates.links[l] |= (can_go(figure, l, sheet, s) as Links) << s;
+            candidates.links[l] |= (links(l, s) as Links) << s;
         }
         if candidates.links[l] == 0 && !figure.is_open(l) {
             return None;
         }
     }
-    let mut narrowing = Narrowing::new(figure, sheet, &mut candidates);
-    narrowing.begin();
-    narrowing.run().then_some(candidates)
+    Some(candidates)
 }
 
 /// Same name and port count, and equal links of the figure atom are equal in the sheet atom.

@@ -1,5 +1,6 @@
 //! The least good placing: figure atoms in order, sheet atoms ascending, then the links, then the contexts.
 
+use crate::colours::ROUNDS;
 use crate::complete::Completing;
 use crate::crowded::crowded;
 use crate::graph::Graph;
@@ -11,6 +12,8 @@ use crate::symmetry::{sends, twins, Symmetries};
 /// When the search looks further than narrowing does. Other bounds change no result.
 #[derive(Clone, Copy)]
 pub struct Bounds {
+    /// Rounds of colours where the figure has no contexts.
+    pub rounds: usize,
     /// Work that a failed candidate must have cost before symmetries are looked for.
     pub costly: usize,
     /// Work in all before ways between contexts are counted.
@@ -20,7 +23,7 @@ pub struct Bounds {
     pub singly: [usize; 2],
 }
 
-pub const BOUNDS: Bounds = Bounds { costly: 16, crowded: 8, singly: [500, 20_000] };
+pub const BOUNDS: Bounds = Bounds { rounds: ROUNDS, costly: 16, crowded: 8, singly: [500, 20_000] };
 /// What counting ways is taken for as work.
 const COUNTING: usize = 2;
 
@@ -49,7 +52,7 @@ pub fn least_placing_at(sheet: &Graph, figure: &Graph, bounds: Bounds) -> Option
         return None;
     }
     let (sheet, figure) = (&Network::new(sheet), &Network::new(figure));
-    let candidates = start(figure, sheet)?;
+    let candidates = start(figure, sheet, bounds.rounds)?;
     let mut search = Search {
         figure,
         sheet,

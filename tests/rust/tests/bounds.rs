@@ -1,6 +1,5 @@
 //! What the search does besides narrowing changes no answer: it is the same whenever that is done.
 
-use plain::case::{Case, Task};
 use plain::generate::hard::{hard_case, FAMILIES};
 use plain::generate::lines::text;
 use plain::generate::regular::{chain_in, two_rings};
@@ -41,7 +40,29 @@ fn symmetries_change_no_answer() {
     assert!(cases / 4 < placed && placed < cases * 3 / 4);
 }
 
-/// Hard calls of place, where ways between contexts matter, and each candidate tried by itself.
+/// A hard call of a family, read.
+fn hard_pair(rng: &mut Rng, family: &str) -> Option<(Graph, Graph)> {
+    let family = FAMILIES.iter().position(|f| f.name == family).expect("a family");
+    let inputs = hard_case(rng, family).inputs;
+    read_both(&inputs[0], &inputs[1])
+}
+
+/// Sheets that are the same or nearly, where colours matter.
+#[test]
+fn colours_change_no_answer() {
+    let mut rng = Rng::new(23);
+    let bounds = [6, 3, 0].map(|rounds| Bounds { rounds, ..BOUNDS });
+    let (mut cases, mut same) = (0, 0);
+    while cases < 3000 {
+        let Some((sheet, other)) = hard_pair(&mut rng, "compared") else { continue };
+        cases += 1;
+        same += found(&sheet, &other, bounds) as usize;
+    }
+    println!("{cases} agree: {same} are the same");
+    assert!(cases / 4 < same && same < cases * 3 / 4);
+}
+
+/// Calls of place where ways between contexts matter, and each candidate tried by itself.
 #[test]
 fn ways_and_single_tries_change_no_answer() {
     let mut rng = Rng::new(22);
@@ -51,10 +72,7 @@ fn ways_and_single_tries_change_no_answer() {
     let (mut cases, mut placed) = (0, 0);
     while cases < 3000 {
         let family = rng.pick(&["pieces", "apart", "cut", "regular"]);
-        let family = FAMILIES.iter().position(|f| f.name == family).expect("a family");
-        let Case { task, inputs, .. } = hard_case(&mut rng, family);
-        let Some((sheet, figure)) = read_both(&inputs[0], &inputs[1]) else { continue };
-        assert!(task == Task::Place || task == Task::Swap);
+        let Some((sheet, figure)) = hard_pair(&mut rng, family) else { continue };
         cases += 1;
         placed += found(&sheet, &figure, bounds) as usize;
     }

@@ -15,7 +15,7 @@ const CASES: usize = 40_000;
 /// Placings of atoms and links that enumeration may have to go through.
 const MOST: usize = 20_000;
 /// Looks further than narrowing does as soon as it can.
-const EAGER: Bounds = Bounds { costly: 1, crowded: 0, singly: [1, 2] };
+const EAGER: Bounds = Bounds { rounds: 0, costly: 1, crowded: 0, singly: [1, 2] };
 
 /// Fewer atoms in the figure, more in the fillings, with two links at most.
 const LINKED: Size = Size { atoms: 6, joints: 4, marks: 2, figure_atoms: 1, figure_joints: 5, arity: 2, names: 1 };
