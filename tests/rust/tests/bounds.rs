@@ -53,8 +53,9 @@ fn colours_change_no_answer() {
     let mut rng = Rng::new(23);
     let bounds = [6, 3, 0].map(|rounds| Bounds { rounds, ..BOUNDS });
     let (mut cases, mut same) = (0, 0);
-    while cases < 3000 {
-        let Some((sheet, other)) = hard_pair(&mut rng, "compared") else { continue };
+    while cases < 2000 {
+        let family = rng.pick(&["compared", "loops", "bundles", "cycles", "copies"]);
+        let Some((sheet, other)) = hard_pair(&mut rng, family) else { continue };
         cases += 1;
         same += found(&sheet, &other, bounds) as usize;
     }
