@@ -1,10 +1,10 @@
 //! Completing: with all atoms placed, only links on contexts alone are open.
 
+use crate::crowded::open_outnumbered;
 use crate::ends::{Before, Ends};
 use crate::network::{atoms_in, links_in, Links, Network, CONTEXTS};
 use crate::open::{kinds_in, Open};
 use crate::remaining::contexts_remain;
-use crate::ways::enough_cross;
 
 pub struct Completing<'a> {
     sheet: &'a Network,
@@ -40,7 +40,7 @@ impl<'a> Completing<'a> {
             return true;
         }
         let kinds = self.open.kinds();
-        if kinds == 0 || !contexts_remain(&self.ends, &self.open) || !enough_cross(&self.ends, &self.open) {
+        if kinds == 0 || !contexts_remain(&self.ends, &self.open) || open_outnumbered(&self.ends, &self.open) {
             return false;
         }
         let fault = self.ends.fault();

@@ -4,7 +4,9 @@
 //! contexts (blanks). The tasks read texts of rows, normalise, compare, fill, place and swap.
 
 pub mod case;
+pub mod colours;
 pub mod complete;
+pub mod crowded;
 pub mod ends;
 pub mod enumerate;
 pub mod fill;

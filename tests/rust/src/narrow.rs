@@ -1,6 +1,7 @@
 //! Narrowing: for each figure atom the sheet atoms, for each figure link the sheet links that are left to it.
 //! Only candidates that belong to no good placing are dropped.
 
+use crate::colours::{spread_both, Colours};
 use crate::network::{atoms_in, links_in, Atoms, Links, Network, ATOMS, LINKS};
 
 #[derive(Clone)]
@@ -10,27 +11,51 @@ pub struct Candidates {
     pub links: [Links; LINKS],
     /// Figure atoms with one candidate that has been taken from all others.
     pub settled: Atoms,
+    /// Figure links with one candidate that has been taken from all that are not kin.
+    alone: Links,
 }
 
-/// The candidates by name, port counts and marks, narrowed; `None` where some set is empty.
-pub fn start(figure: &Network, sheet: &Network) -> Option<Candidates> {
-    let mut candidates = Candidates { atoms: [0; ATOMS], links: [0; LINKS], settled: 0 };
+/// The candidates by name, port counts and marks, and without contexts by colours after so many rounds, narrowed; `None`
+/// where some set is empty.
+pub fn start(figure: &Network, sheet: &Network, rounds: usize) -> Option<Candidates> {
+    let mut candidates = if figure.contexts == 0 && rounds > 0 {
+        let (mut of_figure, mut of_sheet) = (Colours::new(figure), Colours::new(sheet));
+        if !spread_both(&mut of_figure, figure, &mut of_sheet, sheet, rounds) {
+            return None;
+        }
+        let atoms = |a: usize, x: usize| of_figure.atoms[a] == of_sheet.atoms[x] && alike(figure, a, sheet, x);
+        let links = |l: usize, s: usize| of_figure.links[l] == of_sheet.links[s] && can_go(figure, l, sheet, s);
+        first_candidates(figure, sheet, atoms, links)?
+    } else {
+        first_candidates(figure, sheet, |a, x| alike(figure, a, sheet, x), |l, s| can_go(figure, l, sheet, s))?
+    };
+    let mut narrowing = Narrowing::new(figure, sheet, &mut candidates);
+    narrowing.begin();
+    narrowing.run().then_some(candidates)
+}
+
+/// The candidates by tests of an atom and a link; `None` where a link has none.
+fn first_candidates(
+    figure: &Network,
+    sheet: &Network,
+    atoms: impl Fn(usize, usize) -> bool,
+    links: impl Fn(usize, usize) -> bool,
+) -> Option<Candidates> {
+    let mut candidates = Candidates { atoms: [0; ATOMS], links: [0; LINKS], settled: 0, alone: 0 };
     for a in 0..figure.atoms {
         for x in 0..sheet.atoms {
-            candidates.atoms[a] |= (alike(figure, a, sheet, x) as Atoms) << x;
+            candidates.atoms[a] |= (atoms(a, x) as Atoms) << x;
         }
     }
     for l in 0..figure.links {
         for s in 0..sheet.links {
-            candidates.links[l] |= (can_go(figure, l, sheet, s) as Links) << s;
+            candidates.links[l] |= (links(l, s) as Links) << s;
         }
         if candidates.links[l] == 0 && !figure.is_open(l) {
             return None;
         }
     }
-    let mut narrowing = Narrowing::new(figure, sheet, &mut candidates);
-    narrowing.begin();
-    narrowing.run().then_some(candidates)
+    Some(candidates)
 }
 
 /// Same name and port count, and equal links of the figure atom are equal in the sheet atom.
@@ -58,6 +83,13 @@ pub fn choose(figure: &Network, sheet: &Network, candidates: &mut Candidates, a:
     choose_all(figure, sheet, candidates, std::iter::once((a, x)))
 }
 
+/// Takes `x` from the candidates of figure atom `a` and narrows; false where no good placing is left.
+pub fn take_out(figure: &Network, sheet: &Network, candidates: &mut Candidates, a: usize, x: usize) -> bool {
+    let mut narrowing = Narrowing::new(figure, sheet, candidates);
+    narrowing.keep_atoms(a, !(1 << x));
+    narrowing.run()
+}
+
 /// Sends the first atom of each pair to the second and narrows.
 pub fn choose_all(
     figure: &Network,
@@ -81,6 +113,8 @@ struct Narrowing<'a> {
     dropped_links: [Links; LINKS],
     pending_atoms: Atoms,
     pending_links: Links,
+    /// Links that have one candidate left, still to be taken from others.
+    pending_alone: Links,
 }
 
 impl<'a> Narrowing<'a> {
@@ -93,6 +127,7 @@ impl<'a> Narrowing<'a> {
             dropped_links: [0; LINKS],
             pending_atoms: 0,
             pending_links: 0,
+            pending_alone: 0,
         }
     }
 
@@ -105,9 +140,9 @@ impl<'a> Narrowing<'a> {
             }
         }
         self.pending_atoms = figure.all();
-        for l in (0..figure.links).filter(|&l| !figure.is_open(l)) {
+        self.pending_links = figure.bound;
+        for l in links_in(figure.bound) {
             self.dropped_links[l] = self.sheet.all_links() & !self.candidates.links[l];
-            self.pending_links |= 1 << l;
         }
     }
 
@@ -153,6 +188,10 @@ impl<'a> Narrowing<'a> {
                     return false;
                 }
                 self.follow_atom(a);
+            } else if self.pending_alone != 0 {
+                let l = self.pending_alone.trailing_zeros() as usize;
+                self.pending_alone &= self.pending_alone - 1;
+                self.follow_alone(l);
             } else {
                 return true;
             }
@@ -164,6 +203,7 @@ impl<'a> Narrowing<'a> {
         let gone = std::mem::take(&mut self.dropped_links[l]);
         let left = self.candidates.links[l];
         let few = left.count_ones() < gone.count_ones();
+        self.pending_alone |= Links::from(left.is_power_of_two()) << l;
         for a in atoms_in(self.figure.atoms_on[l]) {
             for (i, _) in self.figure.places(a).iter().enumerate().filter(|&(_, &m)| m as usize == l) {
                 let at = &self.sheet.atoms_at[i];
@@ -195,6 +235,20 @@ impl<'a> Narrowing<'a> {
             for b in atoms_in(figure.all() & !self.candidates.settled) {
                 self.keep_atoms(b, !left);
             }
+        }
+    }
+
+    /// Link `l` has one candidate: links that are not kin lose it. Nobody has it where the atoms of a link on no
+    /// context have settled, since nothing else is at it.
+    fn follow_alone(&mut self, l: usize) {
+        let figure = self.figure;
+        self.candidates.alone |= 1 << l;
+        if figure.rows[l] == 0 && figure.atoms_on[l] & !self.candidates.settled == 0 {
+            return;
+        }
+        let left = self.candidates.links[l];
+        for m in links_in(figure.bound & !figure.kin_of(l) & !self.candidates.alone) {
+            self.keep_links(m, !left);
         }
     }
 }

@@ -30,11 +30,15 @@ pub struct Network {
     pub ports: [u16; LINKS],
     /// The marks of a link, as bits in ascending order of the graph's marks.
     pub marks: [u32; LINKS],
+    /// The links that touch an atom or a mark. The others are open: only contexts hold them.
+    pub bound: Links,
     /// The contexts on a link, as bits in ascending order of their numbers.
     pub rows: [u8; LINKS],
     /// Context numbers, ascending.
     pub numbers: [u8; CONTEXTS],
     pub contexts: usize,
+    /// For each context the links that steps between links of one context lead to from its own.
+    kin: [Links; CONTEXTS],
 }
 
 impl Network {
@@ -51,9 +55,11 @@ impl Network {
             atoms_at: [[0; LINKS]; PORTS],
             ports: [0; LINKS],
             marks: [0; LINKS],
+            bound: 0,
             rows: [0; LINKS],
             numbers: [0; CONTEXTS],
             contexts: graph.contexts.len(),
+            kin: [0; CONTEXTS],
         };
         for (a, atom) in graph.atoms.iter().enumerate() {
             net.name[a] = atom.name;
@@ -65,9 +71,11 @@ impl Network {
                 net.atoms_at[i][link as usize] |= 1 << a;
                 net.ports[link as usize] += 1;
             }
+            net.bound |= net.links_of[a];
         }
         for (bit, &(_, link)) in graph.marks.iter().enumerate() {
             net.marks[link as usize] |= 1 << bit;
+            net.bound |= 1 << link;
         }
         net.take_contexts(graph);
         net
@@ -80,7 +88,24 @@ impl Network {
             self.numbers[rank] = context.number as u8;
             for &link in context.links() {
                 self.rows[link as usize] |= 1 << rank;
+                self.kin[rank] |= 1 << link;
             }
+        }
+        for step in 0..CONTEXTS {
+            let through = self.kin[step];
+            for c in 0..CONTEXTS {
+                if self.kin[c] & through != 0 {
+                    self.kin[c] |= through;
+                }
+            }
+        }
+    }
+
+    /// The links that may go to one place with a link: itself, and those that contexts lead to from it.
+    pub fn kin_of(&self, link: usize) -> Links {
+        match self.rows[link] {
+            0 => 1 << link,
+            rows => self.kin[rows.trailing_zeros() as usize],
         }
     }
 
@@ -104,9 +129,8 @@ impl Network {
         (1 << self.contexts) - 1
     }
 
-    /// A link that touches no atom and no mark, so that only contexts hold it.
     pub fn is_open(&self, link: usize) -> bool {
-        self.ports[link] == 0 && self.marks[link] == 0
+        self.bound >> link & 1 == 0
     }
 }
 

@@ -1,5 +1,6 @@
 //! Calls that are hard to answer, by families: what makes them hard is the figure, and any sheet may come with it.
 
+use super::alike::{bundles, copies, cross, cycles, loops};
 use super::damage::nudge;
 use super::lines::{text, Lines};
 use super::matching::{matching, normal_sheet, scramble, Matching};
@@ -18,7 +19,7 @@ pub struct Family {
     make: fn(&mut Rng) -> Case,
 }
 
-pub const FAMILIES: [Family; 10] = [
+pub const FAMILIES: [Family; 14] = [
     Family { name: "open", share: 20, make: |rng| placed(rng, open) },
     Family { name: "shared", share: 20, make: |rng| placed(rng, shared) },
     Family { name: "pieces", share: 10, make: |rng| placed(rng, pieces) },
@@ -29,6 +30,10 @@ pub const FAMILIES: [Family; 10] = [
     Family { name: "regular", share: 5, make: |rng| placed(rng, regular) },
     Family { name: "compared", share: 5, make: compared },
     Family { name: "claimed", share: 5, make: claimed },
+    Family { name: "loops", share: 1, make: |rng| crossed(rng, loops) },
+    Family { name: "bundles", share: 1, make: |rng| crossed(rng, bundles) },
+    Family { name: "cycles", share: 1, make: |rng| crossed(rng, cycles) },
+    Family { name: "copies", share: 2, make: |rng| crossed(rng, copies) },
 ];
 
 /// A hard call of a family, by its place in the table.
@@ -94,9 +99,20 @@ fn compared(rng: &mut Rng) -> Case {
         return case(Task::Compare, &<[Lines; 2]>::from(two_rings(rng)));
     }
     let first = sheet(rng);
+    changed(rng, first, nudge)
+}
+
+/// The same for sheets of parts that look alike, where the change is that two atoms are crossed.
+fn crossed(rng: &mut Rng, make: fn(&mut Rng) -> Lines) -> Case {
+    let first = make(rng);
+    changed(rng, first, cross)
+}
+
+/// A compare of a sheet with itself written anew, in every second call changed a little before.
+fn changed(rng: &mut Rng, first: Lines, change: fn(&mut Rng, &mut Lines)) -> Case {
     let mut second = first.clone();
     if rng.chance(1, 2) {
-        nudge(rng, &mut second);
+        change(rng, &mut second);
     }
     let graph = normal_sheet(&second);
     case(Task::Compare, &[first, scramble(rng, &graph)])

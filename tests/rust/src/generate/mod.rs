@@ -1,5 +1,6 @@
 //! Seeded texts and cases for tests: random, damaged, as large as allowed, and such that belong together.
 
+pub mod alike;
 pub mod damage;
 pub mod hard;
 pub mod limits;
