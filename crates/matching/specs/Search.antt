@@ -60,8 +60,8 @@ abbrev pub figureOf : State → List ℕ → form.Sheet
 figureOf s parts = whole (s .figure) parts
 
 -- figure atom k goes to sheet atom t
-abbrev pub withAtom : Frame → Frame → (placed : List ℕ) → (k t : ℕ) → Bool → State
-withAtom sheet figure placed k t lost = record { sheet = sheet; figure = figure; chosen = set placed k (t + 1); placed = k + 1; hopeless = lost }
+abbrev pub withAtom : Frame → Frame → (placed : List ℕ) → (k t : ℕ) → (lost asks : Bool) → State
+withAtom sheet figure placed k t lost asks = record { sheet = sheet; figure = figure; chosen = set placed k (t + 1); placed = k + 1; hopeless = lost; asks = asks }
 
 -- what is lent is that of the sheet and the figure, and the sets keep every good placing that begins so
 pub record Stands (s : State) (users owners kin atoms links laid parts : List ℕ) : Type 0 where

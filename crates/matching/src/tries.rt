@@ -26,13 +26,25 @@ ghost use Rattle.symmetry.specs.Follows.{Excuses};
 ghost use Rattle.matching.specs.Search.{KeepsIn, Kept, withAtom};
 
 // A search on its way: the sheet and the figure without their atoms, where the first `placed` figure atoms go, and
-// whether it is known that no good placing begins so.
+// whether it is known that no good placing begins so, and whether ways are looked for.
 pub(crate) struct State {
     pub(crate) sheet: Frame,
     pub(crate) figure: Frame,
     pub(crate) chosen: [u16; Sheet::ATOMS],
     pub(crate) placed: usize,
     pub(crate) hopeless: bool,
+    pub(crate) asks: bool,
+}
+
+// Tries that failed at a node before ways are looked for below it: most searches end sooner.
+const PATIENT: u32 = 8;
+
+// Whether ways are looked for, where so much work was done at a node.
+fn asks_after(asks: bool, work: u32) -> bool {
+    if asks {
+        return true;
+    }
+    PATIENT <= work
 }
 
 // Figure atom k, the next after those placed, goes to sheet atom t.
@@ -43,9 +55,11 @@ pub(crate) fn with_atom(
     k: usize,
     t: usize,
     hopeless: bool,
+    asks: bool,
+    work: u32,
 ) -> State
     requires { ⌜ (k < sheetAtoms) × (t < sheetAtoms) ⌝ }
-    ensures { λ r. ⌜ r ≡ withAtom sheet figure placed k t hopeless ⌝ }
+    ensures { λ r. ⌜ r ≡ withAtom sheet figure placed k t hopeless (r .asks) ⌝ }
 {
     let mut chosen = placed;
     chosen[k] = (t + 1) as u16;
@@ -55,6 +69,7 @@ pub(crate) fn with_atom(
         chosen,
         placed: k + 1,
         hopeless,
+        asks: asks_after(asks, work),
     }
 }
 
@@ -74,14 +89,12 @@ pub(crate) fn tally(a: u32, b: u32) -> u32
     MOST_WORK
 }
 
-// Tries that failed at a node before ways are looked for below it: most nodes have no such number.
-const PATIENT: u32 = 8;
-
 // Figure atom k goes to sheet atom t, and the sets are narrowed. Whether it is known that no good placing is left: some
 // atom may go nowhere, or, where tries have failed already, too many ways lead from context to context.
 pub(crate) fn try_atom<'a>(
     sheet: Frame,
     figure: Frame,
+    asks: bool,
     work: u32,
     users: &'a [u64; PLACES],
     owners: &'a [u64; PLACES],
@@ -116,7 +129,7 @@ pub(crate) fn try_atom<'a>(
     ) {
         return true;
     }
-    if work < PATIENT {
+    if !asks_after(asks, work) {
         return false;
     }
     crowded_at(sheet, figure, laid, parts, atoms, links)

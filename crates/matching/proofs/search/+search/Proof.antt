@@ -54,10 +54,10 @@ abbrev search-below : ℕ → In 3 search-kinds.ps
 search-below t = and 3 search-kinds.ps (falls 3 search-kinds.ps _<_ μ-search t) search′.Pre
 
 abbrev Inv-loop : search-lts.InvT-loop
-Inv-loop users owners kin atoms links laid parts lost₀ gone₀ sheet figure n m placed k failed₀ work₀ t₀ lost gone failed work t = Tries (whole sheet laid) (whole figure parts) (take k placed) failed work t
+Inv-loop state users owners kin atoms links laid parts lost₀ gone₀ sheet figure n m placed k failed₀ work₀ t₀ lost gone failed work t = Tries (whole sheet laid) (whole figure parts) (take k placed) failed work t
 
 abbrev μ-loop : search-lts.MeasureT-loop
-μ-loop users owners kin atoms links laid parts lost₀ gone₀ sheet figure n m placed k failed₀ work₀ t₀ lost gone failed work t = n - t
+μ-loop state users owners kin atoms links laid parts lost₀ gone₀ sheet figure n m placed k failed₀ work₀ t₀ lost gone failed work t = n - t
 
 abbrev claims : ℕ → search-lts.Claims
 claims n = (
@@ -168,11 +168,11 @@ module _ (n : ℕ) where
       let next = c .before .before .before .before .with-atom .ensures in
       let e = next-begin (sheet-of b) (figure-of b) (b .pre .1 .ready) (d .advance .last .1 .0) (d .advance .result) (d .advance .ensures .within) (onward d .atoms-in) u (l .loop .failed) (l .loop .work) (l .loop .t) (l .loop .inv) h in (
         omega (arith, b .pre .0, u, d .advance .ensures .after, ap (λ (s : State). s .figure .«atom_count») next, ap (λ (s : State). s .placed) next),
-        subst (λ (s : State). Stands s (b .args .users .now) (b .args .owners .now) (b .args .kin .now) (w .last .1 .1 .1 .1 .1 .1 .1 .1 .1 .1 .0) (w .last .1 .1 .1 .1 .1 .1 .1 .1 .1 .1 .1 .0) (b .args .laid .now) (b .args .parts .now)) (sym next) (record {
+        subst (λ (s : State). Stands s (b .args .users .now) (b .args .owners .now) (b .args .kin .now) (w .last .1 .1 .1 .1 .1 .1 .1 .1 .1 .1 .1 .0) (w .last .1 .1 .1 .1 .1 .1 .1 .1 .1 .1 .1 .1 .0) (b .args .laid .now) (b .args .parts .now)) (sym next) (record {
           ready = b .pre .1 .ready;
           within = omega (arith, u);
           atoms-in = next-atoms (sheet-of b) (figure-of b) (b .pre .1 .ready) (d .advance .last .1 .0) (d .advance .result) (d .advance .ensures .within) (onward d .atoms-in) u (l .loop .failed) (l .loop .work) (l .loop .t) (l .loop .inv) h;
-          kept = subst (λ (m : List ℕ). Kept (sheet-of b) (figure-of b) m (w .last .1 .1 .1 .1 .1 .1 .1 .1 .1 .1 .0) (w .last .1 .1 .1 .1 .1 .1 .1 .1 .1 .1 .1 .0) (w .result)) (sym e)
+          kept = subst (λ (m : List ℕ). Kept (sheet-of b) (figure-of b) m (w .last .1 .1 .1 .1 .1 .1 .1 .1 .1 .1 .1 .0) (w .last .1 .1 .1 .1 .1 .1 .1 .1 .1 .1 .1 .1 .0) (w .result)) (sym e)
               (w .ensures (b .pre .1 .labels) (take (d .advance .result) (d .advance .last .1 .0)) (pre-length (sheet-of b) (figure-of b) (b .pre .1 .ready) (d .advance .last .1 .0) (d .advance .result) (d .advance .ensures .within) (onward d .atoms-in)) (onward d .keeps));
           sheet-laid = b .pre .1 .sheet-laid;
           figure-laid = b .pre .1 .figure-laid;

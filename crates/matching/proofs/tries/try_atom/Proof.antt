@@ -1,4 +1,5 @@
 -- Choosing, then narrowing, keeps every good placing that begins so; an empty set, or ways, leave none.
+use borrow.Author.Needs.{needs}
 use Prim.Native.Nat.{ℕ, suc, _-_}
 use mathlib.Core.Path.{_≡_, refl}
 use mathlib.Core.List.{List, [], _∷_, _++_}
@@ -49,15 +50,18 @@ narrow-after-requires c κs = let s = c .before .before .before .before .before 
 returns : tie.Need-returns
 returns c = λ rows pre e keeps. let k = narrowed (c .before) rows pre e keeps in record { keeps = k .keeps; none = λ z. k .none (c .if1 .taken) }
 
+asks-after-requires : tie.Need-asks-after-requires
+asks-after-requires c κs = search needs
+
 returns-2 : tie.Need-returns-2
-returns-2 c = λ rows pre e keeps. record { keeps = narrowed (c .before .before) rows pre e keeps .keeps; none = λ z. both-ways z refl }
+returns-2 c = λ rows pre e keeps. record { keeps = narrowed (c .before .before .before) rows pre e keeps .keeps; none = λ z. both-ways z refl }
 
 crowded-at-requires : tie.Need-crowded-at-requires
-crowded-at-requires c κs = let p = start-of (c .before .before .before .before) .pre in
+crowded-at-requires c κs = let p = start-of (c .before .before .before .before .before) .pre in
     (p .0, p .1, p .2)
 
 returns-3 : tie.Need-returns-3
-returns-3 c = let w = c .before .before .before .before .before in
+returns-3 c = let w = c .before .before .before .before .before .before in
     λ rows pre e keeps. let k = narrowed w rows pre e keeps .keeps in record { keeps = k; none = λ z b. c .crowded-at .ensures z (b .0) (b .1) (k (b .0) (b .1) (b .2)) }
 
 pub try-atom-spec : {M : Type 1} → statement M
@@ -67,6 +71,7 @@ try-atom-spec =
     choose-requires
     narrow-after-requires
     returns
+    asks-after-requires
     returns-2
     crowded-at-requires
     returns-3)
