@@ -1,6 +1,4 @@
 use mathlib.Core.Path.{refl}
-use mathlib.Core.List.{List}
-use Prim.Native.Nat.{ℕ}
 use Rattle.rows.specs.declared.Sheet.{Sheet as NormalForm}
 use Rattle.placing.proofs.FirstLaws.{both-ways}
 use Rattle.candidates.specs.Frames.{whole}
