@@ -64,6 +64,10 @@ pub fn colours_differ<'a>(
     ensures apart { λ r. ⌜ (r ≡ true → (p : Placing) → ¬ Good (netIn (whole sheet (now (laid .entry)))) (netIn (whole figure (now (parts .entry)))) p) ⌝ }
     ensures keeps { λ r. ⌜ (r ≡ false → Keeps (netIn (whole sheet (now (laid .entry)))) (netIn (whole figure (now (parts .entry)))) [] (mayAtom (now (atoms .exit))) (mayLink (now (links .exit)))) ⌝ }
 {
+    let n = sheet.atom_count;
+    let c = sheet.class_count;
+    let m = figure.atom_count;
+    let d = figure.class_count;
     let mut sheet_atoms = [0u64; Sheet::ATOMS];
     let mut sheet_links = [0u64; Sheet::LINKS];
     first_colours(sheet, laid, users, &mut sheet_atoms, &mut sheet_links);
@@ -72,44 +76,15 @@ pub fn colours_differ<'a>(
     first_colours(figure, parts, owners, &mut figure_atoms, &mut figure_links);
     let mut rounds = 0;
     while rounds < ROUNDS {
-        if total(
-            sheet.atom_count,
-            sheet.class_count,
-            &sheet_atoms,
-            &sheet_links,
-        )
-            != total(
-                figure.atom_count,
-                figure.class_count,
-                &figure_atoms,
-                &figure_links,
-            )
-        {
+        let sum = total(n, c, &sheet_atoms, &sheet_links);
+        if sum != total(m, d, &figure_atoms, &figure_links) {
             return true;
         }
-        refine(
-            laid,
-            sheet.atom_count,
-            sheet.class_count,
-            &mut sheet_atoms,
-            &mut sheet_links,
-        );
-        refine(
-            parts,
-            figure.atom_count,
-            figure.class_count,
-            &mut figure_atoms,
-            &mut figure_links,
-        );
+        refine(laid, n, c, &mut sheet_atoms, &mut sheet_links);
+        refine(parts, m, d, &mut figure_atoms, &mut figure_links);
         rounds += 1;
     }
-    atom_sets(
-        &sheet_atoms,
-        sheet.atom_count,
-        &figure_atoms,
-        figure.atom_count,
-        atoms,
-    );
+    atom_sets(&sheet_atoms, n, &figure_atoms, m, atoms);
     link_sets(
         &sheet_links,
         sheet.class_count,

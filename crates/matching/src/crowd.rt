@@ -42,5 +42,7 @@ pub(crate) fn crowded_at<'a>(
         &words,
         atoms,
         links,
+        &figure.marked,
+        figure.mark_count,
     )
 }

@@ -1,4 +1,5 @@
 // Finding a figure in a sheet.
+mod begin;
 mod crowd;
 mod forced;
 pub mod search;

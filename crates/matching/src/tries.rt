@@ -17,13 +17,12 @@ ghost use Rattle.rows.specs.Limits.{sheetAtoms, sheetMarks};
 ghost use Rattle.rows.specs.declared.Sheet.{Sheet as NormalForm};
 ghost use Rattle.network.specs.NetIn.{netIn};
 ghost use Rattle.network.specs.Ready.{Ready};
-ghost use Rattle.candidates.specs.Frames.{whole};
 ghost use Rattle.candidates.specs.Kin.{RowLabels};
 ghost use Rattle.candidates.specs.Laid.{Rowed, LaidOut};
 ghost use Rattle.narrowing.specs.Users.{UsersIn};
 ghost use Rattle.lawful.specs.Checks.{Lent};
 ghost use Rattle.symmetry.specs.Follows.{Excuses};
-ghost use Rattle.matching.specs.Search.{KeepsIn, Kept, withAtom};
+ghost use Rattle.matching.specs.Search.{sheetOf, figureOf, KeepsIn, Kept, withAtom};
 
 // A search on its way: the sheet and the figure without their atoms, where the first `placed` figure atoms go, and
 // whether it is known that no good placing begins so, and whether ways are looked for.
@@ -49,18 +48,18 @@ fn asks_after(asks: bool, work: u32) -> bool {
 
 // Figure atom k, the next after those placed, goes to sheet atom t.
 pub(crate) fn with_atom(
-    sheet: Frame,
-    figure: Frame,
+    state: State,
     placed: [u16; Sheet::ATOMS],
     k: usize,
     t: usize,
     hopeless: bool,
-    asks: bool,
     work: u32,
 ) -> State
     requires { ⌜ (k < sheetAtoms) × (t < sheetAtoms) ⌝ }
-    ensures { λ r. ⌜ r ≡ withAtom sheet figure placed k t hopeless (r .asks) ⌝ }
+    ensures { λ r. ⌜ r ≡ withAtom (state .sheet) (state .figure) placed k t hopeless (r .asks) ⌝ }
 {
+    let sheet = state.sheet;
+    let figure = state.figure;
     let mut chosen = placed;
     chosen[k] = (t + 1) as u16;
     State {
@@ -69,7 +68,7 @@ pub(crate) fn with_atom(
         chosen,
         placed: k + 1,
         hopeless,
-        asks: asks_after(asks, work),
+        asks: asks_after(state.asks, work),
     }
 }
 
@@ -92,9 +91,7 @@ pub(crate) fn tally(a: u32, b: u32) -> u32
 // Figure atom k goes to sheet atom t, and the sets are narrowed. Whether it is known that no good placing is left: some
 // atom may go nowhere, or, where tries have failed already, too many ways lead from context to context.
 pub(crate) fn try_atom<'a>(
-    sheet: Frame,
-    figure: Frame,
-    asks: bool,
+    state: State,
     work: u32,
     users: &'a [u64; PLACES],
     owners: &'a [u64; PLACES],
@@ -108,8 +105,8 @@ pub(crate) fn try_atom<'a>(
     lost: &mut [u64; Sheet::ATOMS],
     gone: &mut [u64; LINK_SETS],
 ) -> bool
-    requires { ⌜ Ready (whole sheet (now laid)) (whole figure (now parts)) × LaidOut (whole sheet (now laid)) (now laid) (sheet .«atom_count») × LaidOut (whole figure (now parts)) (now parts) (figure .«atom_count») × UsersIn (now laid) (sheet .«atom_count») (now users) × UsersIn (now parts) (figure .«atom_count») (now owners) × (k < figure .«atom_count») × (t < sheet .«atom_count») ⌝ }
-    ensures { λ r. ⌜ (RowLabels (netIn (whole figure (now (parts .entry)))) (λ x. getD (now (kin .entry)) (x - 1) 0) → (pre : List ℕ) → length pre ≡ k → KeepsIn (whole sheet (now (laid .entry))) (whole figure (now (parts .entry))) pre (now (atoms .entry)) (now (links .entry)) → Kept (whole sheet (now (laid .entry))) (whole figure (now (parts .entry))) (pre ++ (suc t ∷ [])) (now (atoms .exit)) (now (links .exit)) r) ⌝ }
+    requires { ⌜ Ready (sheetOf state (now laid)) (figureOf state (now parts)) × LaidOut (sheetOf state (now laid)) (now laid) (state .sheet .«atom_count») × LaidOut (figureOf state (now parts)) (now parts) (state .figure .«atom_count») × UsersIn (now laid) (state .sheet .«atom_count») (now users) × UsersIn (now parts) (state .figure .«atom_count») (now owners) × (k < state .figure .«atom_count») × (t < state .sheet .«atom_count») ⌝ }
+    ensures { λ r. ⌜ (RowLabels (netIn (figureOf state (now (parts .entry)))) (λ x. getD (now (kin .entry)) (x - 1) 0) → (pre : List ℕ) → length pre ≡ k → KeepsIn (sheetOf state (now (laid .entry))) (figureOf state (now (parts .entry))) pre (now (atoms .entry)) (now (links .entry)) → Kept (sheetOf state (now (laid .entry))) (figureOf state (now (parts .entry))) (pre ++ (suc t ∷ [])) (now (atoms .exit)) (now (links .exit)) r) ⌝ }
 {
     let went = choose(k, t, atoms);
     if narrow_after(
@@ -117,9 +114,9 @@ pub(crate) fn try_atom<'a>(
         owners,
         kin,
         laid,
-        sheet.atom_count,
+        state.sheet.atom_count,
         parts,
-        figure.atom_count,
+        state.figure.atom_count,
         k,
         went,
         atoms,
@@ -129,10 +126,10 @@ pub(crate) fn try_atom<'a>(
     ) {
         return true;
     }
-    if !asks_after(asks, work) {
+    if !asks_after(state.asks, work) {
         return false;
     }
-    crowded_at(sheet, figure, laid, parts, atoms, links)
+    crowded_at(state.sheet, state.figure, laid, parts, atoms, links)
 }
 
 // Sheet atom t failed after the first k chosen, at this cost: it is marked, and those that fail as surely.

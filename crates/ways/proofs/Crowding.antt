@@ -14,8 +14,8 @@ use Rattle.placing.specs.Net.{Range}
 use Rattle.placing.specs.Placing.{Placing, atomTo, linkTo, Taken, Good}
 use Rattle.placing.proofs.Standing.{place-link}
 use Rattle.network.specs.NetIn.{netIn}
-use Rattle.network.proofs.NetIn.{atoms-length}
-use Rattle.candidates.specs.Sets.{Decided, by-atom, Obeys}
+use Rattle.network.proofs.NetIn.{atoms-length, mark-in}
+use Rattle.candidates.specs.Sets.{Decided, by-atom, by-mark, Obeys}
 use Rattle.candidates.specs.Tables.{AtomIn, LinkIn, mayAtom, mayLink}
 use Rattle.candidates.specs.Words.{In}
 use Rattle.candidates.proofs.GoodPlaces.{decided-real}
@@ -24,15 +24,15 @@ use Rattle.completing.specs.Ways.{OnHalf, OnOneHalf}
 use Rattle.stepping.specs.Standing.{digitOf, Described}
 use Rattle.ways.specs.Halves.{onFirst, halfOf}
 use Rattle.ways.specs.Agrees.{Agrees, NoneAgrees}
-use Rattle.ways.specs.Nodes.{NodeOf, NoneStays, OnRow, OnlyLink, Tells, RowOnHalf, Guarded, Guards, GuardsTo, Shut}
+use Rattle.ways.specs.Nodes.{NodeOf, NoneStays, OnRow, OnMark, OnlyLink, Tells, RowOnHalf, Guarded, Guards, GuardsTo, Shut}
 use Rattle.ways.proofs.Words.{half-one, half-two}
 use Rattle.ways.proofs.Steps.{row-touches, touches-row}
 
-module _ (sheet figure : NormalForm) (atoms links count : ℕ) (laid chains : List ℕ) (rows : ℕ) (parts words : List ℕ) (node : NodeOf sheet figure atoms links count laid chains rows parts words) where
+module _ (sheet figure : NormalForm) (atoms links count : ℕ) (laid chains : List ℕ) (rows : ℕ) (parts words marked : List ℕ) (marks : ℕ) (node : NodeOf sheet figure atoms links count laid chains rows parts words marked marks) where
   count-small : count ≤ sheetLinks
   count-small = let h = node .ready .figure-fit .class-count in let e = node .figure-links in omega arith
 
-  pub node-described : (sets to flags : List ℕ) → Tells parts rows sets (suc links) to flags → Described sheet figure atoms links count chains words to
+  pub node-described : (sets to flags : List ℕ) → Tells parts rows marked marks sets (suc links) to flags → Described sheet figure atoms links count chains words to
   node-described sets to flags t = record {
     ready = node .ready;
     sheet-atoms = node .sheet-out .count;
@@ -76,12 +76,16 @@ module _ (sheet figure : NormalForm) (atoms links count : ℕ) (laid chains : Li
   row-half side i l (inr on) = inr (λ x m. let r = row-links side 1 i l on x m in on-second side x (r .0) (r .1))
 
   module _ (places sets : List ℕ) (p : Placing) (good : Good (netIn sheet) (netIn figure) p) (stays : Obeys (netIn sheet) (netIn figure) (mayAtom places) (mayLink sets) p) where
-    -- A link of a row that has one place goes there.
-    goes-only : (x y : ℕ) → OnRow parts rows x → OnlyLink sets x y → linkTo p (suc x) ≡ y
-    goes-only x y (i, k, h, l, e) only = up ∙ only (linkTo p (suc x) - 1) (let s = node .ready .sheet-fit .class-count in omega (arith, real .0, real .1)) there
+    -- A link of a row, or with a mark, that has one place goes there.
+    goes-only : (x y : ℕ) → OnRow parts rows x ⊎ OnMark marked marks x → OnlyLink sets x y → linkTo p (suc x) ≡ y
+    goes-only x y on only = up ∙ only (linkTo p (suc x) - 1) (let s = node .ready .sheet-fit .class-count in omega (arith, real .0, real .1)) there
       where
+        by : OnRow parts rows x ⊎ OnMark marked marks x → Decided (netIn figure) (suc x)
+        by (inl (i, k, h, l, e)) = by-atom (suc i) (row-atom i h) (subst (Touches (netIn figure) (suc i)) e (row-touches figure parts rows (node .figure-out) i h k l))
+        by (inr (q, h, e)) = by-mark (getD (figure .marks) q 0) (subst (λ (z : ℕ). (z, getD (figure .marks) q 0) ∈ netIn figure .marks) (ap (λ (l : List ℕ). getD l q 0) (node .figure-marked) ∙ e) (mark-in figure (node .ready .figure-fit) q (let d = node .figure-marks in omega arith)))
+
         decided : Decided (netIn figure) (suc x)
-        decided = by-atom (suc i) (row-atom i h) (subst (Touches (netIn figure) (suc i)) e (row-touches figure parts rows (node .figure-out) i h k l))
+        decided = by on
 
         real : Range (sheet .«class_count») (linkTo p (suc x))
         real = decided-real (netIn sheet) (netIn figure) (node .ready .sheet-normal) (node .ready .figure-normal) p good (suc x) decided
@@ -92,11 +96,11 @@ module _ (sheet figure : NormalForm) (atoms links count : ℕ) (laid chains : Li
         there : LinkIn sets x (linkTo p (suc x) - 1)
         there = subst (λ (z : ℕ). LinkIn sets z (linkTo p (suc x) - 1)) (let d : suc x - 1 ≡ x = omega arith in d) (stays .links (suc x) decided)
 
-    module _ (to flags : List ℕ) (t : Tells parts rows sets (suc links) to flags) (taken : List ℕ) (side r : ℕ) (g : GuardsTo parts words places atoms side rows taken r) where
+    module _ (to flags : List ℕ) (t : Tells parts rows marked marks sets (suc links) to flags) (taken : List ℕ) (side r : ℕ) (g : GuardsTo parts words places atoms side rows taken r) where
       goes : (x : ℕ) → x < figure .«class_count» → (getD flags x 0 ≢ 1) ⊎ (getD to x 0 ≢ suc (sheet .«class_count»)) → linkTo p (suc x) ≡ getD to x 0
       goes x h w = go (t .told x (let s = count-small in let e = node .figure-links in omega arith)) w
         where
-          go : ((getD to x 0 ≡ suc links) × (getD flags x 0 ≡ 1)) ⊎ (OnRow parts rows x × OnlyLink sets x (getD to x 0)) → (getD flags x 0 ≢ 1) ⊎ (getD to x 0 ≢ suc (sheet .«class_count»)) → linkTo p (suc x) ≡ getD to x 0
+          go : ((getD to x 0 ≡ suc links) × (getD flags x 0 ≡ 1)) ⊎ ((OnRow parts rows x ⊎ OnMark marked marks x) × OnlyLink sets x (getD to x 0)) → (getD flags x 0 ≢ 1) ⊎ (getD to x 0 ≢ suc (sheet .«class_count»)) → linkTo p (suc x) ≡ getD to x 0
           go (inl u) (inl n) = absurd (n (u .1))
           go (inl u) (inr n) = absurd (n (u .0 ∙ ap suc (sym (node .sheet-links))))
           go (inr u) v = goes-only x (getD to x 0) (u .0) (u .1)
@@ -136,11 +140,11 @@ module _ (sheet figure : NormalForm) (atoms links count : ℕ) (laid chains : Li
       shut-agrees : (now : List ℕ) → Shut atoms taken now → Agrees sheet figure to flags now side [] p
       shut-agrees now shut = record { good = good; goes = goes; passed = passed-by now [] (by-row-shut now shut) }
 
-  pub none-stays : (places sets to flags taken : List ℕ) (side r : ℕ) → Tells parts rows sets (suc links) to flags → GuardsTo parts words places atoms side rows taken r
+  pub none-stays : (places sets to flags taken : List ℕ) (side r : ℕ) → Tells parts rows marked marks sets (suc links) to flags → GuardsTo parts words places atoms side rows taken r
       → (b : Bool) → NoneAgrees sheet figure to flags taken side r b → NoneStays sheet figure places sets b
   none-stays places sets to flags taken side r t g b none e p good stays = none e (g .breaking) (let n = g .number in omega arith) p (stays-agrees places sets p good stays to flags t taken side r g)
 
   -- and where no way passes what is guarded, none breaks it
-  pub none-stays-shut : (places sets to flags taken now : List ℕ) (side r : ℕ) → Tells parts rows sets (suc links) to flags → GuardsTo parts words places atoms side rows taken r → Shut atoms taken now
+  pub none-stays-shut : (places sets to flags taken now : List ℕ) (side r : ℕ) → Tells parts rows marked marks sets (suc links) to flags → GuardsTo parts words places atoms side rows taken r → Shut atoms taken now
       → (b : Bool) → NoneAgrees sheet figure to flags now side 0 b → NoneStays sheet figure places sets b
   none-stays-shut places sets to flags taken now side r t g shut b none e p good stays = none e [] (omega arith) p (shut-agrees places sets p good stays to flags t taken side r g now shut)

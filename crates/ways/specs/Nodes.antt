@@ -22,9 +22,9 @@ use Rattle.stepping.specs.Chains.{ChainsIn}
 use Rattle.stepping.specs.Standing.{Standing}
 use Rattle.ways.specs.Halves.{halfOf}
 
--- the counts are those of this sheet and this figure; their atoms are laid out, the chains are the sheet's, the words the
--- figure's
-pub record NodeOf (sheet figure : NormalForm) (atoms links count : ℕ) (laid chains : List ℕ) (rows : ℕ) (parts words : List ℕ) : Type 0 where
+-- the counts are those of this sheet and this figure; their atoms are laid out, the chains are the sheet's, the words and the
+-- marked links the figure's
+pub record NodeOf (sheet figure : NormalForm) (atoms links count : ℕ) (laid chains : List ℕ) (rows : ℕ) (parts words marked : List ℕ) (marks : ℕ) : Type 0 where
   pub ready : Ready sheet figure
   pub sheet-links : sheet .«class_count» ≡ links
   pub figure-links : figure .«class_count» ≡ count
@@ -32,6 +32,8 @@ pub record NodeOf (sheet figure : NormalForm) (atoms links count : ℕ) (laid ch
   pub chains-in : ChainsIn sheet chains
   pub figure-out : LaidOut figure parts rows
   pub standing : Standing figure words
+  pub figure-marked : figure .marked ≡ marked
+  pub figure-marks : figure .«mark_count» ≡ marks
 
 -- r says that no good placing stays in the sets
 abbrev pub NoneStays : NormalForm → NormalForm → List ℕ → List ℕ → Bool → Type 0
@@ -43,16 +45,20 @@ NoneStays sheet figure atoms links r = r ≡ true → (p : Placing) → Good (ne
 abbrev pub OnRow : List ℕ → ℕ → ℕ → Type 0
 OnRow parts n x = (i : ℕ) × (k : ℕ) × (i < n) × (k < laidAt parts i 1) × (laidAt parts i (2 + k) ≡ suc x)
 
+-- one of the first m marks is on link x
+abbrev pub OnMark : List ℕ → ℕ → ℕ → Type 0
+OnMark marked m x = (p : ℕ) × (p < m) × (getD marked p 0 ≡ suc x)
+
 -- the set of link x has no link but y, from 1
 abbrev pub OnlyLink : List ℕ → ℕ → ℕ → Type 0
 OnlyLink sets x y = (z : ℕ) → z < sheetLinks → LinkIn sets x z → suc z ≡ y
 
--- `to` has none for a link and it has a flag, or one of the rows has it, and it has only that place
-pub record Tells (parts : List ℕ) (n : ℕ) (sets : List ℕ) (none : ℕ) (to flags : List ℕ) : Type 0 where
+-- `to` has none for a link and it has a flag, or one of the rows has it, or a mark is on it, and it has only that place
+pub record Tells (parts : List ℕ) (n : ℕ) (marked : List ℕ) (m : ℕ) (sets : List ℕ) (none : ℕ) (to flags : List ℕ) : Type 0 where
   pub room : length to ≡ sheetLinks
   pub flag-room : length flags ≡ sheetLinks
   pub within : (x : ℕ) → x < sheetLinks → Range none (getD to x 0)
-  pub told : (x : ℕ) → x < sheetLinks → ((getD to x 0 ≡ none) × (getD flags x 0 ≡ 1)) ⊎ (OnRow parts n x × OnlyLink sets x (getD to x 0))
+  pub told : (x : ℕ) → x < sheetLinks → ((getD to x 0 ≡ none) × (getD flags x 0 ≡ 1)) ⊎ ((OnRow parts n x ⊎ OnMark marked m x) × OnlyLink sets x (getD to x 0))
 
 -- ---- atoms
 

@@ -5,6 +5,7 @@ use crate::guarded::shut;
 use crate::outnumbered::contexts;
 use crate::outnumbered::outnumbered_by;
 use crate::told::tell_links;
+use crate::told::tell_marks;
 use candidates::LAID;
 use candidates::LINK_SETS;
 use rows::Sheet;
@@ -25,12 +26,14 @@ fn crowded_by(
     standing: &[u16; Sheet::LINKS],
     places: &[u64; Sheet::ATOMS],
     sets: &[u64; LINK_SETS],
+    marked: &[u16; Sheet::MARK_ROOM],
+    marks: usize,
     to: &[u16; Sheet::LINKS],
     flags: &[u8; Sheet::LINKS],
     side: u16,
 ) -> bool
-    requires { ⌜ ((sheet : NormalForm) × (figure : NormalForm) × NodeOf sheet figure atoms links count (now laid) (now chains) rows (now parts) (now standing) × Tells (now parts) rows (now sets) (suc links) (now to) (now flags)) ⌝ }
-    ensures { λ r. ⌜ ((sheet figure : NormalForm) → NodeOf sheet figure atoms links count (now (laid .entry)) (now (chains .entry)) rows (now (parts .entry)) (now (standing .entry)) → NoneStays sheet figure (now (places .entry)) (now (sets .entry)) r) ⌝ }
+    requires { ⌜ ((sheet : NormalForm) × (figure : NormalForm) × NodeOf sheet figure atoms links count (now laid) (now chains) rows (now parts) (now standing) (now marked) marks × Tells (now parts) rows (now marked) marks (now sets) (suc links) (now to) (now flags)) ⌝ }
+    ensures { λ r. ⌜ ((sheet figure : NormalForm) → NodeOf sheet figure atoms links count (now (laid .entry)) (now (chains .entry)) rows (now (parts .entry)) (now (standing .entry)) (now (marked .entry)) marks → NoneStays sheet figure (now (places .entry)) (now (sets .entry)) r) ⌝ }
 {
     let mut taken = [0u8; Sheet::ATOMS];
     let breaking = guard_rows(&mut taken, parts, rows, standing, side, places, atoms);
@@ -81,9 +84,11 @@ pub fn crowded(
     standing: &[u16; Sheet::LINKS],
     places: &[u64; Sheet::ATOMS],
     sets: &[u64; LINK_SETS],
+    marked: &[u16; Sheet::MARK_ROOM],
+    marks: usize,
 ) -> bool
-    requires { ⌜ ((sheet : NormalForm) × (figure : NormalForm) × NodeOf sheet figure atoms links count (now laid) (now chains) rows (now parts) (now standing)) ⌝ }
-    ensures { λ r. ⌜ ((sheet figure : NormalForm) → NodeOf sheet figure atoms links count (now (laid .entry)) (now (chains .entry)) rows (now (parts .entry)) (now (standing .entry)) → NoneStays sheet figure (now (places .entry)) (now (sets .entry)) r) ⌝ }
+    requires { ⌜ ((sheet : NormalForm) × (figure : NormalForm) × NodeOf sheet figure atoms links count (now laid) (now chains) rows (now parts) (now standing) (now marked) marks) ⌝ }
+    ensures { λ r. ⌜ ((sheet figure : NormalForm) → NodeOf sheet figure atoms links count (now (laid .entry)) (now (chains .entry)) rows (now (parts .entry)) (now (standing .entry)) (now (marked .entry)) marks → NoneStays sheet figure (now (places .entry)) (now (sets .entry)) r) ⌝ }
 {
     let all = contexts(standing, count);
     if all == 0 {
@@ -92,6 +97,7 @@ pub fn crowded(
     let mut to = [(links + 1) as u16; Sheet::LINKS];
     let mut flags = [1u8; Sheet::LINKS];
     tell_links(&mut to, &mut flags, sets, links, parts, rows);
+    tell_marks(&mut to, &mut flags, sets, links, marked, marks);
     let rest = all & (all - 1);
     let mut side = rest;
     while side != 0 {
@@ -106,6 +112,8 @@ pub fn crowded(
             standing,
             places,
             sets,
+            marked,
+            marks,
             &to,
             &flags,
             side,

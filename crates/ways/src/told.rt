@@ -1,4 +1,4 @@
-// Where figure links surely go at a search node: a link of a figure atom that has one place only.
+// Where figure links surely go at a search node: a link of a figure atom, or with a mark, that has one place only.
 use crate::row::link;
 use crate::row::width;
 use candidates::LAID;
@@ -10,12 +10,13 @@ use candidates::pairs::without_link;
 use rows::Sheet;
 ghost use Prim.Native.Nat.{ℕ, suc, _<_, _≤_};
 ghost use mathlib.Core.Path.{_≡_};
-ghost use mathlib.Core.Logic.{_≢_};
+ghost use mathlib.Core.Logic.{_⊎_, _≢_};
 ghost use mathlib.Core.List.{List};
 ghost use lib.ListN.{length};
 ghost use Rattle.rows.specs.Limits.{sheetLinks};
 ghost use Rattle.candidates.specs.Laid.{Rowed};
-ghost use Rattle.ways.specs.Nodes.{OnRow, OnlyLink, Tells};
+ghost use Rattle.candidates.specs.Marks.{MarkLinks};
+ghost use Rattle.ways.specs.Nodes.{OnRow, OnMark, OnlyLink, Tells};
 
 // The only link of the set of link x, from 1; 0 where there is none, or more than one.
 fn only_link(sets: &[u64; LINK_SETS], x: usize) -> usize
@@ -34,7 +35,7 @@ fn only_link(sets: &[u64; LINK_SETS], x: usize) -> usize
     y + 1
 }
 
-// Link x of a row is told, if it has one place only.
+// Link x, of a row or with a mark, is told, if it has one place only.
 fn tell(
     to: &mut [u16; Sheet::LINKS],
     flags: &mut [u8; Sheet::LINKS],
@@ -43,7 +44,7 @@ fn tell(
     x: usize,
 )
     requires { ⌜ (x < sheetLinks) × (links ≤ sheetLinks) × (length (now to) ≡ sheetLinks) × (length (now flags) ≡ sheetLinks) ⌝ }
-    ensures { λ _. ⌜ (length (now (to .exit)) ≡ sheetLinks) × (length (now (flags .exit)) ≡ sheetLinks) × ((parts : List ℕ) (n : ℕ) → OnRow parts n x → Tells parts n (now (sets .entry)) (suc links) (now (to .entry)) (now (flags .entry)) → Tells parts n (now (sets .entry)) (suc links) (now (to .exit)) (now (flags .exit))) ⌝ }
+    ensures { λ _. ⌜ (length (now (to .exit)) ≡ sheetLinks) × (length (now (flags .exit)) ≡ sheetLinks) × ((parts : List ℕ) (n : ℕ) (marked : List ℕ) (m : ℕ) → OnRow parts n x ⊎ OnMark marked m x → Tells parts n marked m (now (sets .entry)) (suc links) (now (to .entry)) (now (flags .entry)) → Tells parts n marked m (now (sets .entry)) (suc links) (now (to .exit)) (now (flags .exit))) ⌝ }
 {
     let y = only_link(sets, x);
     if y == 0 {
@@ -67,7 +68,7 @@ fn tell_row(
     row: usize,
 )
     requires { ⌜ Rowed (now parts) n × (row < n) × (links ≤ sheetLinks) × (length (now to) ≡ sheetLinks) × (length (now flags) ≡ sheetLinks) ⌝ }
-    ensures { λ _. ⌜ (length (now (to .exit)) ≡ sheetLinks) × (length (now (flags .exit)) ≡ sheetLinks) × (Tells (now (parts .entry)) n (now (sets .entry)) (suc links) (now (to .entry)) (now (flags .entry)) → Tells (now (parts .entry)) n (now (sets .entry)) (suc links) (now (to .exit)) (now (flags .exit))) ⌝ }
+    ensures { λ _. ⌜ (length (now (to .exit)) ≡ sheetLinks) × (length (now (flags .exit)) ≡ sheetLinks) × ((marked : List ℕ) (m : ℕ) → Tells (now (parts .entry)) n marked m (now (sets .entry)) (suc links) (now (to .entry)) (now (flags .entry)) → Tells (now (parts .entry)) n marked m (now (sets .entry)) (suc links) (now (to .exit)) (now (flags .exit))) ⌝ }
 {
     let most = width(parts, n, row);
     let mut k = 0;
@@ -88,11 +89,31 @@ pub(crate) fn tell_links(
     n: usize,
 )
     requires { ⌜ Rowed (now parts) n × (links ≤ sheetLinks) × (length (now to) ≡ sheetLinks) × (length (now flags) ≡ sheetLinks) ⌝ }
-    ensures { λ _. ⌜ (Tells (now (parts .entry)) n (now (sets .entry)) (suc links) (now (to .entry)) (now (flags .entry)) → Tells (now (parts .entry)) n (now (sets .entry)) (suc links) (now (to .exit)) (now (flags .exit))) ⌝ }
+    ensures { λ _. ⌜ (length (now (to .exit)) ≡ sheetLinks) × (length (now (flags .exit)) ≡ sheetLinks) × ((marked : List ℕ) (m : ℕ) → Tells (now (parts .entry)) n marked m (now (sets .entry)) (suc links) (now (to .entry)) (now (flags .entry)) → Tells (now (parts .entry)) n marked m (now (sets .entry)) (suc links) (now (to .exit)) (now (flags .exit))) ⌝ }
 {
     let mut row = 0;
     while row < n {
         tell_row(to, flags, sets, links, parts, n, row);
         row += 1;
+    }
+}
+
+// The links of n marks.
+pub(crate) fn tell_marks(
+    to: &mut [u16; Sheet::LINKS],
+    flags: &mut [u8; Sheet::LINKS],
+    sets: &[u64; LINK_SETS],
+    links: usize,
+    marked: &[u16; Sheet::MARK_ROOM],
+    n: usize,
+)
+    requires { ⌜ MarkLinks (now marked) n × (links ≤ sheetLinks) × (length (now to) ≡ sheetLinks) × (length (now flags) ≡ sheetLinks) ⌝ }
+    ensures { λ _. ⌜ ((parts : List ℕ) (m : ℕ) → Tells parts m (now (marked .entry)) n (now (sets .entry)) (suc links) (now (to .entry)) (now (flags .entry)) → Tells parts m (now (marked .entry)) n (now (sets .entry)) (suc links) (now (to .exit)) (now (flags .exit))) ⌝ }
+{
+    let mut p = 0;
+    while p < n {
+        let x = marked[p] as usize;
+        tell(to, flags, sets, links, x - 1);
+        p += 1;
     }
 }

@@ -17,10 +17,10 @@ use Rattle.colours.proofs.colour.colours_differ.Statement.{statement}
 use Rattle.colours.proofs.colour.colours_differ.Tie as tie
 
 abbrev Inv-loop : tie.InvT-loop
-Inv-loop sheet figure laid parts users owners atoms links sheet-atoms₀ sheet-links₀ figure-atoms₀ figure-links₀ rounds₀ sheet-atoms sheet-links figure-atoms figure-links rounds = (length sheet-atoms ≡ sheetAtoms) × (length sheet-links ≡ sheetLinks) × (length figure-atoms ≡ sheetAtoms) × (length figure-links ≡ sheetLinks) × KeptIn (whole sheet laid) (whole figure parts) figure-atoms figure-links sheet-atoms sheet-links
+Inv-loop sheet figure laid parts users owners atoms links n c m d sheet-atoms₀ sheet-links₀ figure-atoms₀ figure-links₀ rounds₀ sheet-atoms sheet-links figure-atoms figure-links rounds = (length sheet-atoms ≡ sheetAtoms) × (length sheet-links ≡ sheetLinks) × (length figure-atoms ≡ sheetAtoms) × (length figure-links ≡ sheetLinks) × KeptIn (whole sheet laid) (whole figure parts) figure-atoms figure-links sheet-atoms sheet-links
 
 abbrev μ-loop : tie.MeasureT-loop
-μ-loop sheet figure laid parts users owners atoms links sheet-atoms₀ sheet-links₀ figure-atoms₀ figure-links₀ rounds₀ sheet-atoms sheet-links figure-atoms figure-links rounds = 3 - rounds
+μ-loop sheet figure laid parts users owners atoms links n c m d sheet-atoms₀ sheet-links₀ figure-atoms₀ figure-links₀ rounds₀ sheet-atoms sheet-links figure-atoms figure-links rounds = 3 - rounds
 
 abbrev start-of : tie.At-loop Inv-loop μ-loop → tie.Start Inv-loop μ-loop
 start-of l = l .before .before .before .before .before .before .before

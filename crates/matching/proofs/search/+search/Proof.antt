@@ -11,7 +11,6 @@ use borrow.Fn.Kinds.{In}
 use borrow.Fn.PlainCycle.{Measures, is, falls, and}
 use Rattle.network.specs.NetIn.{netIn}
 use Rattle.network.specs.Ready.{AtomsIn}
-use Rattle.candidates.specs.Frames.{whole}
 use Rattle.matching.specs.Search.{sheetOf, figureOf, Kept, Stands, FoundFrom, searchFrom, Onward}
 use Rattle.matching.specs.declared.search.Found.{Found}
 use Rattle.matching.specs.declared.tries.State.{State}
@@ -54,10 +53,10 @@ abbrev search-below : ℕ → In 3 search-kinds.ps
 search-below t = and 3 search-kinds.ps (falls 3 search-kinds.ps _<_ μ-search t) search′.Pre
 
 abbrev Inv-loop : search-lts.InvT-loop
-Inv-loop state users owners kin atoms links laid parts lost₀ gone₀ sheet figure n m placed k failed₀ work₀ t₀ lost gone failed work t = Tries (whole sheet laid) (whole figure parts) (take k placed) failed work t
+Inv-loop state uses owns kin atoms links laid parts lost₀ gone₀ n m placed k failed₀ work₀ t₀ lost gone failed work t = Tries (sheetOf state laid) (figureOf state parts) (take k placed) failed work t
 
 abbrev μ-loop : search-lts.MeasureT-loop
-μ-loop state users owners kin atoms links laid parts lost₀ gone₀ sheet figure n m placed k failed₀ work₀ t₀ lost gone failed work t = n - t
+μ-loop state uses owns kin atoms links laid parts lost₀ gone₀ n m placed k failed₀ work₀ t₀ lost gone failed work t = n - t
 
 abbrev claims : ℕ → search-lts.Claims
 claims n = (
@@ -91,11 +90,11 @@ module _ (n : ℕ) where
 
   -- what is placed where the search begins to try
   onward : (d : search-lts.After-advance (claims n) (search-at n) search′.Post Inv-loop μ-loop)
-      → let b = d .before .before .before .before .before .before in Onward (sheet-of b) (figure-of b) (b .args .atoms .now) (b .args .links .now) (b .args .state .placed) (b .args .state .chosen) (d .advance .result) (d .advance .last .1 .0)
-  onward d = let b = d .before .before .before .before .before .before in d .advance .ensures .onward (sheet-of b) (figure-of b) (b .args .links .now) (b .pre .1 .ready) refl refl (b .pre .1 .atoms-in) (b .pre .1 .kept .keeps)
+      → let b = d .before .before .before .before in Onward (sheet-of b) (figure-of b) (b .args .atoms .now) (b .args .links .now) (b .args .state .placed) (b .args .state .chosen) (d .advance .result) (d .advance .last .1 .0)
+  onward d = let b = d .before .before .before .before in d .advance .ensures .onward (sheet-of b) (figure-of b) (b .args .links .now) (b .pre .1 .ready) refl refl (b .pre .1 .atoms-in) (b .pre .1 .kept .keeps)
 
   -- some figure atom is left
-  unfinished : (c : search-lts.Else2 (claims n) (search-at n) search′.Post Inv-loop μ-loop) → c .before .advance .result < c .before .before .before .before .before .before .before .args .state .figure .«atom_count»
+  unfinished : (c : search-lts.Else2 (claims n) (search-at n) search′.Post Inv-loop μ-loop) → c .before .advance .result < c .before .before .before .before .before .args .state .figure .«atom_count»
   unfinished c = omega (arith, c .before .advance .ensures .within, c .if2 .left)
 
   nothing-requires : search-lts.Need-nothing-requires (claims n) (search-at n) search′.Post Inv-loop μ-loop
@@ -108,29 +107,29 @@ module _ (n : ℕ) where
 
   advance-requires : search-lts.Need-advance-requires (claims n) (search-at n) search′.Post Inv-loop μ-loop
   advance-requires c κs =
-      let b = c .before .before .before .before .before in (b .pre .1 .within, b .pre .1 .ready .figure-fit .atom-count, b .pre .1 .ready .sheet-fit .atom-count)
+      let b = c .before .before .before in (b .pre .1 .within, b .pre .1 .ready .figure-fit .atom-count, b .pre .1 .ready .sheet-fit .atom-count)
 
   leaf-requires : search-lts.Need-leaf-requires (claims n) (search-at n) search′.Post Inv-loop μ-loop
   leaf-requires c κs =
       let d = c .before in
-      let b = d .before .before .before .before .before .before in
+      let b = d .before .before .before .before in
       (b .pre .1 .ready, subst (λ (i : ℕ). AtomsIn (sheet-of b) i (d .advance .last .1 .0)) (c .if2 .taken) (onward d .atoms-in), b .pre .1 .sheet-laid, b .pre .1 .figure-laid)
 
   returns-2 : search-lts.Need-returns-2 (claims n) (search-at n) search′.Post Inv-loop μ-loop
   returns-2 c =
       let d = c .before .before in
-      let b = d .before .before .before .before .before .before in
+      let b = d .before .before .before .before in
       c .leaf .ensures ∙ ap (λ (i : ℕ). searchFrom (netIn (sheet-of b)) (netIn (figure-of b)) (take i (d .advance .last .1 .0))) (sym (c .before .if2 .taken)) ∙ onward d .same
 
   next-from-requires : search-lts.Need-next-from-requires (claims n) (search-at n) search′.Post Inv-loop μ-loop
   next-from-requires c κs =
-      let b = c .before .before .before .before .before .before .before in
+      let b = c .before .before .before .before .before in
       (omega (arith, unfinished c, b .pre .1 .ready .figure-fit .atom-count), omega (arith, unfinished c, b .pre .1 .ready .figure-fit .atom-count))
 
   loop-holds : search-lts.Need-loop-holds (claims n) (search-at n) search′.Post Inv-loop μ-loop
   loop-holds c =
       let d = c .before .before in
-      let b = d .before .before .before .before .before .before in
+      let b = d .before .before .before .before in
       let f = c .next-from in
       tries-skip (sheet-of b) (figure-of b) (b .pre .1 .ready) (d .advance .last .1 .0) (d .advance .result) (d .advance .ensures .within) (onward d .atoms-in) (unfinished (c .before)) _ _ 0
       (tries-start (sheet-of b) (figure-of b) (b .pre .1 .ready) (d .advance .last .1 .0) (d .advance .result) (d .advance .ensures .within) (onward d .atoms-in) (unfinished (c .before)) _ refl)
@@ -140,39 +139,39 @@ module _ (n : ℕ) where
   array-read-if3 c =
       let l = c .before in
       let d = l .before .before .before in
-      let b = d .before .before .before .before .before .before in
+      let b = d .before .before .before .before in
       omega (arith, c .loop-test .taken, b .pre .1 .ready .sheet-fit .atom-count)
 
   try-atom-requires : search-lts.Need-try-atom-requires (claims n) (search-at n) search′.Post Inv-loop μ-loop
   try-atom-requires c κs =
       let l = c .before .before .before .before .before .before .before .before in
       let d = l .before .before .before in
-      let b = d .before .before .before .before .before .before in
+      let b = d .before .before .before .before in
       (b .pre .1 .ready, b .pre .1 .sheet-laid, b .pre .1 .figure-laid, b .pre .1 .users-in, b .pre .1 .owners-in, unfinished (l .before .before), c .before .before .before .before .before .before .before .loop-test .taken)
 
   with-atom-requires : search-lts.Need-with-atom-requires (claims n) (search-at n) search′.Post Inv-loop μ-loop
   with-atom-requires c κs =
       let l = c .before .before .before .before .before .before .before .before .before in
       let d = l .before .before .before in
-      let b = d .before .before .before .before .before .before in
+      let b = d .before .before .before .before in
       (omega (arith, unfinished (l .before .before), b .pre .1 .ready .figure-fit .atom-count), omega (arith, c .before .before .before .before .before .before .before .before .loop-test .taken, b .pre .1 .ready .sheet-fit .atom-count))
 
   search-requires : search-lts.Need-search-requires (claims n) (search-at n) search′.Post Inv-loop μ-loop
   search-requires c κs =
       let l = c .before .before .before .before .before .before .before .before .before .before .before .before .before .before in
       let d = l .before .before .before in
-      let b = d .before .before .before .before .before .before in
+      let b = d .before .before .before .before in
       let u = unfinished (l .before .before) in
       let h = c .before .before .before .before .before .before .before .before .before .before .before .before .before .loop-test .taken in
       let w = c .before .before .before .before .before .try-atom in
       let next = c .before .before .before .before .with-atom .ensures in
       let e = next-begin (sheet-of b) (figure-of b) (b .pre .1 .ready) (d .advance .last .1 .0) (d .advance .result) (d .advance .ensures .within) (onward d .atoms-in) u (l .loop .failed) (l .loop .work) (l .loop .t) (l .loop .inv) h in (
         omega (arith, b .pre .0, u, d .advance .ensures .after, ap (λ (s : State). s .figure .«atom_count») next, ap (λ (s : State). s .placed) next),
-        subst (λ (s : State). Stands s (b .args .users .now) (b .args .owners .now) (b .args .kin .now) (w .last .1 .1 .1 .1 .1 .1 .1 .1 .1 .1 .1 .0) (w .last .1 .1 .1 .1 .1 .1 .1 .1 .1 .1 .1 .1 .0) (b .args .laid .now) (b .args .parts .now)) (sym next) (record {
+        subst (λ (s : State). Stands s (b .args .uses .now) (b .args .owns .now) (b .args .kin .now) (w .last .1 .1 .1 .1 .1 .1 .1 .1 .1 .0) (w .last .1 .1 .1 .1 .1 .1 .1 .1 .1 .1 .0) (b .args .laid .now) (b .args .parts .now)) (sym next) (record {
           ready = b .pre .1 .ready;
           within = omega (arith, u);
           atoms-in = next-atoms (sheet-of b) (figure-of b) (b .pre .1 .ready) (d .advance .last .1 .0) (d .advance .result) (d .advance .ensures .within) (onward d .atoms-in) u (l .loop .failed) (l .loop .work) (l .loop .t) (l .loop .inv) h;
-          kept = subst (λ (m : List ℕ). Kept (sheet-of b) (figure-of b) m (w .last .1 .1 .1 .1 .1 .1 .1 .1 .1 .1 .1 .0) (w .last .1 .1 .1 .1 .1 .1 .1 .1 .1 .1 .1 .1 .0) (w .result)) (sym e)
+          kept = subst (λ (m : List ℕ). Kept (sheet-of b) (figure-of b) m (w .last .1 .1 .1 .1 .1 .1 .1 .1 .1 .0) (w .last .1 .1 .1 .1 .1 .1 .1 .1 .1 .1 .0) (w .result)) (sym e)
               (w .ensures (b .pre .1 .labels) (take (d .advance .result) (d .advance .last .1 .0)) (pre-length (sheet-of b) (figure-of b) (b .pre .1 .ready) (d .advance .last .1 .0) (d .advance .result) (d .advance .ensures .within) (onward d .atoms-in)) (onward d .keeps));
           sheet-laid = b .pre .1 .sheet-laid;
           figure-laid = b .pre .1 .figure-laid;
@@ -186,7 +185,7 @@ module _ (n : ℕ) where
   returns-3 c =
       let l = c .before .before .before .before .before .before .before .before .before .before .before .before .before .before .before .before in
       let d = l .before .before .before in
-      let b = d .before .before .before .before .before .before in
+      let b = d .before .before .before .before in
       tries-hit (sheet-of b) (figure-of b) (b .pre .1 .ready) (d .advance .last .1 .0) (d .advance .result) (d .advance .ensures .within) (onward d .atoms-in) (unfinished (l .before .before)) (l .loop .failed) (l .loop .work) (l .loop .t) (l .loop .inv) (c .before .before .before .before .before .before .before .before .before .before .before .before .before .before .before .loop-test .taken) (c .before .search .result)
       (moved _ _ (b .args .laid .now) (b .args .parts .now) (c .before .search .result) (c .before .before .before .before .before .before .with-atom .ensures) (c .before .search .ensures)) (c .if4 .taken) ∙ onward d .same
 
@@ -197,7 +196,7 @@ module _ (n : ℕ) where
   excuse-failed-requires c κs =
       let l = c .before .before .before .before .before .before .before .before .before .before .before .before .before .before .before .before .before .before .before in
       let d = l .before .before .before in
-      let b = d .before .before .before .before .before .before in
+      let b = d .before .before .before .before in
       (laid-rowed (sheet-of b) (b .args .laid .now) _ (b .pre .1 .sheet-laid), b .pre .1 .ready .sheet-fit .mark-count, omega (arith, unfinished (l .before .before), b .pre .1 .ready .figure-fit .atom-count), c .before .before .before .before .before .before .before .before .before .before .before .before .before .before .before .before .before .before .loop-test .taken)
 
   tally-requires-2 : search-lts.Need-tally-requires-2 (claims n) (search-at n) search′.Post Inv-loop μ-loop
@@ -207,14 +206,14 @@ module _ (n : ℕ) where
   add-next-from c =
       let l = c .before .before in
       let d = l .before .before .before in
-      let b = d .before .before .before .before .before .before in
+      let b = d .before .before .before .before in
       omega (arith, c .before .loop-test .taken, b .pre .1 .ready .sheet-fit .atom-count)
 
   next-from-requires-2 : search-lts.Need-next-from-requires-2 (claims n) (search-at n) search′.Post Inv-loop μ-loop
   next-from-requires-2 c κs =
       let l = c .before .before in
       let d = l .before .before .before in
-      let b = d .before .before .before .before .before .before in
+      let b = d .before .before .before .before in
       (omega (arith, unfinished (l .before .before), b .pre .1 .ready .figure-fit .atom-count), omega (arith, c .before .loop-test .taken, b .pre .1 .ready .sheet-fit .atom-count))
 
   loop-less : search-lts.Need-loop-less (claims n) (search-at n) search′.Post Inv-loop μ-loop
@@ -224,7 +223,7 @@ module _ (n : ℕ) where
   loop-again c =
       let l = c .before .before .before in
       let d = l .before .before .before in
-      let b = d .before .before .before .before .before .before in
+      let b = d .before .before .before .before in
       let u = unfinished (l .before .before) in
       let h = c .before .before .loop-test .taken in
       let f = c .next-from2 in
@@ -243,7 +242,7 @@ module _ (n : ℕ) where
   returns-4 c =
       let l = c .before .before in
       let d = l .before .before .before in
-      let b = d .before .before .before .before .before .before in
+      let b = d .before .before .before .before in
       tries-end (sheet-of b) (figure-of b) (b .pre .1 .ready) (d .advance .last .1 .0) (d .advance .result) (d .advance .ensures .within) (onward d .atoms-in) (unfinished (l .before .before)) (l .loop .failed) (l .loop .work) (l .loop .t) (l .loop .inv) (omega arith) (c .nothing2 .result) (c .nothing2 .ensures) ∙ onward d .same
 
 pub +search-spec : {M : Type 1} → statement M

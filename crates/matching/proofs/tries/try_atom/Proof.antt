@@ -8,21 +8,20 @@ use lib.ListN.{length, getD}
 use Rattle.rows.specs.declared.Sheet.{Sheet as NormalForm}
 use Rattle.placing.proofs.FirstLaws.{both-ways}
 use Rattle.network.specs.NetIn.{netIn}
-use Rattle.candidates.specs.Frames.{whole}
 use Rattle.candidates.specs.Kin.{RowLabels}
 use Rattle.candidates.proofs.Laying.{laid-rowed}
 use Rattle.narrowing.proofs.Choice.{choose-keeps}
-use Rattle.matching.specs.Search.{KeepsIn, Kept}
+use Rattle.matching.specs.Search.{sheetOf, figureOf, KeepsIn, Kept}
 use Rattle.matching.proofs.SearchTurns.{choice-kept, narrow-kept}
 use Rattle.matching.proofs.tries.try_atom.Statement.{statement}
 use Rattle.matching.proofs.tries.try_atom.Tie as tie
 
 -- the sheet and the figure
 abbrev sheet-of : tie.Start → NormalForm
-sheet-of s = whole (s .args .sheet) (s .args .laid .now)
+sheet-of s = sheetOf (s .args .state) (s .args .laid .now)
 
 abbrev figure-of : tie.Start → NormalForm
-figure-of s = whole (s .args .figure) (s .args .parts .now)
+figure-of s = figureOf (s .args .state) (s .args .parts .now)
 
 abbrev start-of : tie.After-narrow-after → tie.Start
 start-of c = c .before .before .before .before .before .before .before

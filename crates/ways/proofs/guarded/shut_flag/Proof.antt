@@ -1,5 +1,4 @@
 use borrow.Author.Needs.{needs}
-use mathlib.Core.Path.{_≡_}
 use mathlib.Core.Logic.{⊎-elim}
 use Rattle.ways.proofs.guarded.shut_flag.Statement.{statement}
 use Rattle.ways.proofs.guarded.shut_flag.Tie as tie

@@ -11,10 +11,10 @@ only-link-requires : tie.Need-only-link-requires
 only-link-requires c κs = search needs
 
 returns : tie.Need-returns
-returns c = let s = c .before .before in (s .pre .2, s .pre .3, λ parts n on t. t)
+returns c = let s = c .before .before in (s .pre .2, s .pre .3, λ parts n marked m on t. t)
 
 returns-2 : tie.Need-returns-2
-returns-2 c = let s = c .before .before .before in (s .pre .2, s .pre .3, λ parts n on t. t)
+returns-2 c = let s = c .before .before .before in (s .pre .2, s .pre .3, λ parts n marked m on t. t)
 
 cast-to : tie.Need-cast-to
 cast-to c = search needs
@@ -34,7 +34,7 @@ returns-3 c = let s = c .before .before .before in
     let y = c .before .before .only-link in
     let some = c .before .if1 .left in
     let few = c .if2 .left in
-    (simp length-set (s .pre .2), simp length-set (s .pre .3), λ parts n on t. tells-more parts n (a .sets .now) (suc (a .links)) (a .to .now) (a .flags .now) (a .x) (y .result) (s .pre .0) (y .ensures some) (omega arith, omega arith) on t)
+    (simp length-set (s .pre .2), simp length-set (s .pre .3), λ parts n marked m on t. tells-more parts n marked m (a .sets .now) (suc (a .links)) (a .to .now) (a .flags .now) (a .x) (y .result) (s .pre .0) (y .ensures some) (omega arith, omega arith) on t)
 
 pub tell-spec : {M : Type 1} → statement M
 tell-spec =

@@ -1,6 +1,7 @@
 -- Invariant: what was told stays told.
 use borrow.Author.Needs.{needs}
-use Prim.Native.Nat.{suc, _-_, _≤_}
+use Prim.Native.Nat.{ℕ, suc, _-_, _≤_}
+use mathlib.Core.List.{List}
 use mathlib.Core.Path.{_≡_}
 use native.Mathlib.Omega.{arith}
 use lib.ListN.{length}
@@ -11,13 +12,13 @@ use Rattle.ways.proofs.told.tell_links.Tie as tie
 
 abbrev Inv-loop : tie.InvT-loop
 Inv-loop to₀ flags₀ sets links parts n row₀ to flags row =
-    (row ≤ n) × (length to ≡ sheetLinks) × (length flags ≡ sheetLinks) × (Tells parts n sets (suc links) to₀ flags₀ → Tells parts n sets (suc links) to flags)
+    (row ≤ n) × (length to ≡ sheetLinks) × (length flags ≡ sheetLinks) × ((marked : List ℕ) (m : ℕ) → Tells parts n marked m sets (suc links) to₀ flags₀ → Tells parts n marked m sets (suc links) to flags)
 
 abbrev μ-loop : tie.MeasureT-loop
 μ-loop to₀ flags₀ sets links parts n row₀ to flags row = n - row
 
 loop-holds : tie.Need-loop-holds Inv-loop μ-loop
-loop-holds c = (omega arith, c .pre .2, c .pre .3, λ t. t)
+loop-holds c = (omega arith, c .pre .2, c .pre .3, λ marked m t. t)
 
 tell-row-requires : tie.Need-tell-row-requires Inv-loop μ-loop
 tell-row-requires c κs = let s = c .before .before .before .before in let l = c .before .before .before .loop in (s .pre .0, c .before .before .loop-test .taken, s .pre .1, l .inv .1, l .inv .2)
@@ -29,10 +30,10 @@ loop-less : tie.Need-loop-less Inv-loop μ-loop
 loop-less c = search needs
 
 loop-again : tie.Need-loop-again Inv-loop μ-loop
-loop-again c = let l = c .before .before .before .before .loop in (let h = c .before .before .before .loop-test .taken in omega arith, c .tell-row .ensures .0, c .tell-row .ensures .1, λ t. c .tell-row .ensures .2 (l .inv .3 t))
+loop-again c = let l = c .before .before .before .before .loop in (let h = c .before .before .before .loop-test .taken in omega arith, c .tell-row .ensures .0, c .tell-row .ensures .1, λ marked m t. c .tell-row .ensures .2 marked m (l .inv .3 marked m t))
 
 returns : tie.Need-returns Inv-loop μ-loop
-returns c = c .before .loop .inv .3
+returns c = let l = c .before .loop in (l .inv .1, l .inv .2, l .inv .3)
 
 pub tell-links-spec : {M : Type 1} → statement M
 tell-links-spec =

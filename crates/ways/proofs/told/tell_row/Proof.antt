@@ -1,6 +1,8 @@
 -- Invariant: what was told stays told.
 use borrow.Author.Needs.{needs}
-use Prim.Native.Nat.{suc, _-_, _≤_, _<_}
+use Prim.Native.Nat.{ℕ, suc, _-_, _≤_, _<_}
+use mathlib.Core.List.{List}
+use mathlib.Core.Logic.{inl}
 use mathlib.Core.Path.{_≡_}
 use native.Mathlib.Omega.{arith}
 use lib.ListN.{length}
@@ -12,7 +14,7 @@ use Rattle.ways.proofs.told.tell_row.Tie as tie
 
 abbrev Inv-loop : tie.InvT-loop
 Inv-loop to₀ flags₀ sets links parts n row most k₀ to flags k =
-    (k ≤ most) × (length to ≡ sheetLinks) × (length flags ≡ sheetLinks) × (Tells parts n sets (suc links) to₀ flags₀ → Tells parts n sets (suc links) to flags)
+    (k ≤ most) × (length to ≡ sheetLinks) × (length flags ≡ sheetLinks) × ((marked : List ℕ) (m : ℕ) → Tells parts n marked m sets (suc links) to₀ flags₀ → Tells parts n marked m sets (suc links) to flags)
 
 abbrev μ-loop : tie.MeasureT-loop
 μ-loop to₀ flags₀ sets links parts n row most k₀ to flags k = most - k
@@ -25,7 +27,7 @@ width-requires : tie.Need-width-requires Inv-loop μ-loop
 width-requires c κs = search needs
 
 loop-holds : tie.Need-loop-holds Inv-loop μ-loop
-loop-holds c = let s = c .before in (omega arith, s .pre .3, s .pre .4, λ t. t)
+loop-holds c = let s = c .before in (omega arith, s .pre .3, s .pre .4, λ marked m t. t)
 
 link-requires : tie.Need-link-requires Inv-loop μ-loop
 link-requires c κs = let s = c .before .before .before in (s .pre .0, s .pre .1, place c)
@@ -43,7 +45,7 @@ loop-again : tie.Need-loop-again Inv-loop μ-loop
 loop-again c = let s = c .before .before .before .before .before .before .before in
     let a = s .args in
     let l = c .before .before .before .before .before .loop in
-    (let h = c .before .before .before .before .loop-test .taken in omega arith, c .tell .ensures .0, c .tell .ensures .1, λ t. c .tell .ensures .2 (a .parts .now) (a .n) (a .row, l .k, s .pre .1, place (c .before .before .before .before), c .before .before .before .link .ensures .0) (l .inv .3 t))
+    (let h = c .before .before .before .before .loop-test .taken in omega arith, c .tell .ensures .0, c .tell .ensures .1, λ marked m t. c .tell .ensures .2 (a .parts .now) (a .n) marked m (inl (a .row, l .k, s .pre .1, place (c .before .before .before .before), c .before .before .before .link .ensures .0)) (l .inv .3 marked m t))
 
 returns : tie.Need-returns Inv-loop μ-loop
 returns c = let l = c .before .loop in (l .inv .1, l .inv .2, l .inv .3)
