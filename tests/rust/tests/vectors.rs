@@ -10,7 +10,7 @@ use plain::stored::{printed, stored};
 #[test]
 fn every_stored_case() {
     let cases = stored();
-    assert_eq!(cases.len(), 307);
+    assert_eq!(cases.len(), 301);
     for stored in &cases {
         let got = printed(&PLAIN, &stored.case);
         let show = |bytes: &[u8]| String::from_utf8_lossy(bytes).into_owned();
