@@ -39,7 +39,7 @@ impl Report {
             let title = format!("{:.2} ms, {}, seed {seed}, call {index}", millis(*taken), FAMILIES[*family].name);
             show_case(&title, case);
         }
-        println!("milliseconds    calls    mean    99 %  99.9 %    most");
+        println!("milliseconds    calls    mean    99 %  99.9 % 99.99 %    most");
         for (family, times) in FAMILIES.iter().zip(&mut self.times) {
             show_times(family.name, times);
         }
@@ -54,7 +54,9 @@ fn show_times(name: &str, times: &mut [f32]) {
     times.sort_unstable_by(f32::total_cmp);
     let at = |part: f64| times[((times.len() - 1) as f64 * part) as usize];
     let mean = times.iter().sum::<f32>() / times.len() as f32;
-    println!("  {name:10} {:8} {mean:7.2} {:7.2} {:7.2} {:7.2}", times.len(), at(0.99), at(0.999), at(1.0));
+    let [most, parts @ ..] = [1.0, 0.99, 0.999, 0.9999].map(at);
+    let parts = parts.map(|part| format!("{part:7.2}")).join(" ");
+    println!("  {name:10} {:8} {mean:7.2} {parts} {most:7.2}", times.len());
 }
 
 fn millis(taken: Duration) -> f64 {
