@@ -1,4 +1,5 @@
 pub mod SearchLaws
+pub mod Pruning
 pub mod SearchTurns
 pub mod SearchWhole
 mod Forcing

@@ -15,19 +15,14 @@ use Rattle.rows.specs.declared.Sheet as form
 use Rattle.placing.specs.Net.{Net, Range}
 use Rattle.placing.specs.Placing.{atomTo, numberAt}
 use Rattle.placing.proofs.FirstLaws.{Tried}
-use Rattle.network.specs.NetIn.{netIn, Fit}
+use Rattle.network.specs.NetIn.{netIn}
 use Rattle.network.specs.Begun.{Begun, testAfter, leastAfter}
 use Rattle.network.proofs.NetIn.{atoms-length}
 use Rattle.network.specs.Ready.{Ready, AtomsIn}
-use Rattle.matching.specs.Search.{KeepsIn, Kept, behind, searchFrom, foundList, foundIn, Onward}
-use Rattle.candidates.specs.Sets.{Keeps}
-use Rattle.candidates.specs.Kin.{RowLabels}
+use Rattle.matching.specs.Search.{KeepsIn, behind, searchFrom, foundList, foundIn, Onward}
 use Rattle.candidates.specs.Words.{digit}
-use Rattle.candidates.specs.Tables.{AtomIn, mayAtom, mayLink, NoAtom}
+use Rattle.candidates.specs.Tables.{AtomIn, mayAtom}
 use Rattle.candidates.specs.Forced.{Only}
-use Rattle.candidates.specs.Laid.{LaidOut}
-use Rattle.narrowing.specs.Steps.{NarrowedBy}
-use Rattle.candidates.proofs.Hopeless.{atom-hopeless}
 use Rattle.symmetry.specs.Follows.{Follows, Excuses}
 use Rattle.matching.specs.declared.search.Found.{Found}
 use Rattle.matching.proofs.SearchLaws.{nothing-found, none-found, some-found, none-begun, begun-none, restBounds, tried-start, tried-next, tried-end, tried-found}
@@ -186,21 +181,3 @@ module _ (sheet figure : form.Sheet) (ready : Ready sheet figure) (chosen : List
             go : (v : ℕ) → (getD failed v 0 ≡ 1) ⊎ Follows S pre (suc t) (suc v) → ¬ Begun S F (pre ++ (suc v ∷ []))
             go v (inl c) = u .failures v c
             go v (inr f) = λ b. n (f (ready .sheet-normal) F (ready .figure-normal) b)
-
--- What choosing promises, for the sheet and figure at hand.
-pub choice-kept : (sheet figure : form.Sheet) → Fit figure → (k t : ℕ) → k < figure .«atom_count» → (a b l : List ℕ)
-    → ((S F : Net) (pre l : List ℕ) → length pre ≡ k → k < length (F .atoms) → Keeps S F pre (mayAtom a) (mayLink l) → Keeps S F (pre ++ ((t + 1) ∷ [])) (mayAtom b) (mayLink l))
-    → (pre : List ℕ) → length pre ≡ k → KeepsIn sheet figure pre a l → KeepsIn sheet figure (pre ++ (suc t ∷ [])) b l
-choice-kept sheet figure fit k t h a b l promise pre e keeps =
-    subst (λ (i : ℕ). KeepsIn sheet figure (pre ++ (i ∷ [])) b l) (add-one t) (promise (netIn sheet) (netIn figure) pre l e (omega (arith, atoms-length figure fit)) keeps)
-
--- What narrowing promises, for a sheet and a figure that are laid out.
-pub narrow-kept : (sheet figure : form.Sheet) (laid : List ℕ) (n : ℕ) (parts : List ℕ) (m : ℕ) → LaidOut sheet laid n → LaidOut figure parts m → (kin : List ℕ) → RowLabels (netIn figure) (λ x. getD kin (x - 1) 0)
-    → (pre a l b k : List ℕ) (r : Bool) → NarrowedBy kin laid n parts m a l b k → (r ≡ true → (i : ℕ) × (i < m) × NoAtom b i) → KeepsIn sheet figure pre a l → Kept sheet figure pre b k r
-narrow-kept sheet figure laid n parts m os of kin rows pre a l b k r narrowed empty keeps = record { keeps = still; none = lost }
-  where
-    still : KeepsIn sheet figure pre b k
-    still p g s = narrowed sheet figure os of rows p g (keeps p g s)
-
-    lost : r ≡ true → ¬ Begun (netIn sheet) (netIn figure) pre
-    lost e = let w = empty e in atom-hopeless sheet figure (os .fit) (of .fit) (os .normal) (of .normal) pre b k still (w .0) (omega (arith, w .1, of .count)) (w .2)

@@ -3,4 +3,7 @@ mod begin;
 mod crowd;
 mod forced;
 pub mod search;
+mod send;
+mod singly;
+mod state;
 mod tries;

@@ -6,7 +6,7 @@ use Rattle.candidates.specs.Frames.{whole}
 use Rattle.candidates.proofs.Hopeless.{lost-hopeless}
 use Rattle.candidates.proofs.Laying.{laid-rowed}
 use Rattle.candidates.proofs.Marks.{own-marks, mark-links}
-use Rattle.matching.proofs.SearchTurns.{narrow-kept}
+use Rattle.matching.proofs.Pruning.{pruned-kept, narrow-pruned}
 use Rattle.matching.proofs.begin.begin.Statement.{statement}
 use Rattle.matching.proofs.begin.begin.Tie as tie
 
@@ -58,7 +58,8 @@ returns-3 c = let e = c .before .before .before .before .before .before .before 
     let f = e .before in
     let s = start-of f in
     let w = c .narrow-all in
-    λ rows. narrow-kept (sheet-of s) (figure-of s) (s .args .laid .now) _ (s .args .parts .now) _ (s .pre .1) (s .pre .2) (s .args .kin .now) rows [] (atoms-of f) (links-of f) _ _ (w .result) (w .ensures .0) (w .ensures .1) (f .first-sets .ensures .1 (e .if1 .left))
+    λ rows. pruned-kept (sheet-of s) (figure-of s) [] (atoms-of f) (links-of f) _ _ (w .result) (f .first-sets .ensures .1 (e .if1 .left))
+    (narrow-pruned (sheet-of s) (figure-of s) (s .args .laid .now) _ (s .args .parts .now) _ (s .pre .1) (s .pre .2) (s .args .kin .now) rows (atoms-of f) (links-of f) _ _ (w .result) (w .ensures .0) (w .ensures .1))
 
 pub begin-spec : {M : Type 1} → statement M
 begin-spec =

@@ -39,15 +39,17 @@ search-requires c κs = let w = c .before .before .before .before .before .befor
     let o = k .before in
     let u = o .before .before in
     let s = u .before .before in record {
-      ready = s .pre .0;
+      lends = record {
+        ready = s .pre .0;
+        sheet-laid = s .pre .1;
+        figure-laid = s .pre .2;
+        users-in = u .users-of .ensures;
+        owners-in = o .users-of2 .ensures;
+        labels = k .kin-in .ensures;
+      };
       within = omega arith;
       atoms-in = no-atoms (sheet-of s) _ refl;
       kept = w .begin .ensures (k .kin-in .ensures);
-      sheet-laid = s .pre .1;
-      figure-laid = s .pre .2;
-      users-in = u .users-of .ensures;
-      owners-in = o .users-of2 .ensures;
-      labels = k .kin-in .ensures;
     }
 
 returns : tie.Need-returns
