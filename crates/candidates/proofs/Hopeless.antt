@@ -1,5 +1,5 @@
--- An empty set leaves no good placing.
-use Prim.Native.Nat.{ℕ, suc, _+_, _-_, _<_}
+-- A marked link that may go nowhere leaves no good placing.
+use Prim.Native.Nat.{ℕ, _+_, _-_, _<_}
 use mathlib.Core.Path.{_≡_, sym, _∙_, ap, subst}
 use mathlib.Core.Bool.{false}
 use mathlib.Core.List.{List}
@@ -8,25 +8,18 @@ use native.Mathlib.Omega.{arith}
 use lib.ListN.{getD}
 use Rattle.rows.specs.declared.Sheet.{Sheet as NormalForm}
 use Rattle.placing.specs.Net.{Normal}
-use Rattle.placing.specs.Placing.{atomTo, linkTo}
+use Rattle.placing.specs.Placing.{linkTo}
 use Rattle.placing.proofs.FirstLaws.{both-ways}
 use Rattle.network.specs.Begun.{Begun}
 use Rattle.network.specs.NetIn.{netIn, Fit}
 use Rattle.network.proofs.NetIn.{mark-in}
 use Rattle.candidates.specs.Sets.{Decided, by-mark, Keeps}
 use Rattle.candidates.specs.Marks.{MarksIn, lostAt, MarkLost}
-use Rattle.candidates.specs.Tables.{AtomIn, NoAtom, NoLink, mayAtom, mayLink}
+use Rattle.candidates.specs.Tables.{NoLink, mayAtom, mayLink}
 use Rattle.candidates.proofs.Halves.{in-pair, pair-in, none-in-pair}
-use Rattle.candidates.proofs.Sending.{row-range, row-place, link-place}
+use Rattle.candidates.proofs.Sending.{link-place}
 
 module _ (sheet figure : NormalForm) (fs : Fit sheet) (ff : Fit figure) (NS : Normal (netIn sheet)) (NF : Normal (netIn figure)) (pre : List ℕ) (a l : List ℕ) (h : Keeps (netIn sheet) (netIn figure) pre (mayAtom a) (mayLink l)) where
-  pub atom-hopeless : (i : ℕ) → i < figure .«atom_count» → NoAtom a i → ¬ Begun (netIn sheet) (netIn figure) pre
-  atom-hopeless i r none s =
-      let p = s .0 in
-      let g = s .1 in
-      let t = atomTo p (suc i) - 1 in
-      none t (subst (λ (j : ℕ). AtomIn a j t) (row-place sheet figure fs ff NS NF p g i) (h p g (s .2) .atoms (suc i) (row-range sheet figure fs ff NS NF p g i r)))
-
   link-hopeless : (x : ℕ) → NoLink l (x - 1) → (s : Begun (netIn sheet) (netIn figure) pre) → Decided (netIn figure) x → ⊥
   link-hopeless x none s d = none (linkTo (s .0) x - 1) (omega (arith, link-place sheet figure fs ff NS NF (s .0) (s .1) x d, fs .class-count)) (h (s .0) (s .1) (s .2) .links x d)
 
