@@ -36,7 +36,7 @@ pub(crate) fn tally(a: u32, b: u32) -> u32
 }
 
 // Work at a node, each try and what it cost, before each candidate is tried by itself below it.
-const COSTLY: u32 = 500;
+const SINGLY: u32 = 500;
 
 // Figure atom k goes to sheet atom t; where tries have cost much already, each candidate is tried by itself then.
 // Whether it is known that no good placing is left.
@@ -75,7 +75,7 @@ pub(crate) fn try_atom<'a>(
     ) {
         return true;
     }
-    if work < COSTLY {
+    if work < SINGLY {
         return false;
     }
     if state.figure.context_count == 0 {
