@@ -1,7 +1,7 @@
 // Is a search node crowded: do more ways lead from one half of the contexts to the other than can be broken by what
 // is not placed yet?
 use crate::guarded::guard_rows;
-use crate::guarded::shut;
+use crate::guards::guard_links;
 use crate::outnumbered::contexts;
 use crate::outnumbered::outnumbered_by;
 use crate::told::tell_links;
@@ -14,7 +14,7 @@ ghost use Prim.Native.Nat.{suc};
 ghost use Rattle.rows.specs.declared.Sheet.{Sheet as NormalForm};
 ghost use Rattle.ways.specs.Nodes.{NodeOf, NoneStays, Tells};
 
-// For these two halves: ways that a figure atom may break are counted with it, and then not taken at all.
+// For these two halves.
 fn crowded_by(
     atoms: usize,
     links: usize,
@@ -30,32 +30,15 @@ fn crowded_by(
     marks: usize,
     to: &[u16; Sheet::LINKS],
     flags: &[u8; Sheet::LINKS],
+    opens: &[u8; Sheet::LINKS],
     side: u16,
 ) -> bool
-    requires { ⌜ ((sheet : NormalForm) × (figure : NormalForm) × NodeOf sheet figure atoms links count (now laid) (now chains) rows (now parts) (now standing) (now marked) marks × Tells (now parts) rows (now marked) marks (now sets) (suc links) (now to) (now flags)) ⌝ }
+    requires { ⌜ ((sheet : NormalForm) × (figure : NormalForm) × NodeOf sheet figure atoms links count (now laid) (now chains) rows (now parts) (now standing) (now marked) marks × Tells (now parts) rows (now marked) marks (now sets) (suc links) (now to) (now flags) (now opens)) ⌝ }
     ensures { λ r. ⌜ ((sheet figure : NormalForm) → NodeOf sheet figure atoms links count (now (laid .entry)) (now (chains .entry)) rows (now (parts .entry)) (now (standing .entry)) (now (marked .entry)) marks → NoneStays sheet figure (now (places .entry)) (now (sets .entry)) r) ⌝ }
 {
     let mut taken = [0u8; Sheet::ATOMS];
     let breaking = guard_rows(&mut taken, parts, rows, standing, side, places, atoms);
-    if outnumbered_by(
-        atoms,
-        links,
-        count,
-        laid,
-        chains,
-        &taken,
-        standing,
-        to,
-        flags,
-        breaking,
-        side,
-    ) {
-        return true;
-    }
-    if breaking == 0 {
-        return false;
-    }
-    shut(&mut taken, atoms);
+    let guarded = guard_links(sets, opens, count, standing, flags, side);
     outnumbered_by(
         atoms,
         links,
@@ -66,7 +49,8 @@ fn crowded_by(
         standing,
         to,
         flags,
-        0,
+        guarded,
+        breaking,
         side,
     )
 }
@@ -96,8 +80,9 @@ pub fn crowded(
     }
     let mut to = [(links + 1) as u16; Sheet::LINKS];
     let mut flags = [1u8; Sheet::LINKS];
-    tell_links(&mut to, &mut flags, sets, links, parts, rows);
-    tell_marks(&mut to, &mut flags, sets, links, marked, marks);
+    let mut opens = [1u8; Sheet::LINKS];
+    tell_links(&mut to, &mut flags, &mut opens, sets, links, parts, rows);
+    tell_marks(&mut to, &mut flags, &mut opens, sets, links, marked, marks);
     let rest = all & (all - 1);
     let mut side = rest;
     while side != 0 {
@@ -116,6 +101,7 @@ pub fn crowded(
             marks,
             &to,
             &flags,
+            &opens,
             side,
         ) {
             return true;

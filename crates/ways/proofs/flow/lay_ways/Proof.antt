@@ -1,17 +1,16 @@
--- As many turns as ways.
+-- No index leaves its array.
 use borrow.Author.Needs.{needs}
-use Prim.Native.Nat.{_-_, _≤_}
+use Prim.Native.Nat.{_-_}
 use mathlib.Core.Path.{_≡_}
 use lib.ListN.{length}
-use Rattle.rows.specs.Limits.{sheetLinks}
 use Rattle.ways.proofs.flow.lay_ways.Statement.{statement}
 use Rattle.ways.proofs.flow.lay_ways.Tie as tie
 
 abbrev Inv-loop : tie.InvT-loop
-Inv-loop marks₀ laid chains atoms links taken sorted most n₀ marks n = (n ≤ most) × (length marks ≡ sheetLinks)
+Inv-loop trails laid chains atoms links taken guards sorted most flow₀ n₀ flow n = length trails ≡ 512
 
 abbrev μ-loop : tie.MeasureT-loop
-μ-loop marks₀ laid chains atoms links taken sorted most n₀ marks n = most - n
+μ-loop trails laid chains atoms links taken guards sorted most flow₀ n₀ flow n = most - n
 
 loop-holds : tie.Need-loop-holds Inv-loop μ-loop
 loop-holds c = search needs
@@ -37,6 +36,9 @@ loop-less c = search needs
 loop-again : tie.Need-loop-again Inv-loop μ-loop
 loop-again c = search needs
 
+lay-requires : tie.Need-lay-requires Inv-loop μ-loop
+lay-requires c κs = search needs
+
 returns-2 : tie.Need-returns-2 Inv-loop μ-loop
 returns-2 c = search needs
 
@@ -54,4 +56,5 @@ lay-ways-spec =
     add-n
     loop-less
     loop-again
+    lay-requires
     returns-2)
