@@ -2,7 +2,7 @@
 use Prim.Native.Nat.{ℕ, suc, _-_, _≤_, _<_}
 use mathlib.Core.Path.{_≡_, sym, _∙_, ap, subst}
 use mathlib.Core.Logic.{_⊎_, inl, inr, _≢_}
-use mathlib.Core.List.{List}
+use mathlib.Core.List.{List, []}
 use mathlib.Core.Bool.{Bool, true, false}
 use native.Mathlib.Omega.{arith}
 use lib.ListN.{length, getD}
@@ -24,7 +24,7 @@ use Rattle.completing.specs.Ways.{OnHalf, OnBoth, OnOneHalf}
 use Rattle.stepping.specs.Standing.{digitOf, Described}
 use Rattle.ways.specs.Halves.{onFirst, halfOf}
 use Rattle.ways.specs.Agrees.{Among, Agrees, NoneAgrees}
-use Rattle.ways.specs.Nodes.{NodeOf, NoneStays, OnRow, OnMark, OnlyLink, Tells, GuardsLinksTo, RowOnHalf, Guarded, Guards, GuardsTo}
+use Rattle.ways.specs.Nodes.{NodeOf, NoneStays, OnRow, OnMark, OnlyLink, Tells, GuardsLinksTo, RowOnHalf, Guarded, Guards, GuardsTo, Shut}
 use Rattle.ways.proofs.Words.{half-one, half-two}
 use Rattle.ways.proofs.Steps.{row-touches, touches-row}
 use Rattle.ways.proofs.Refusing.{both-half}
@@ -128,9 +128,17 @@ module _ (sheet figure : NormalForm) (atoms links count : ℕ) (laid chains : Li
           second (inl e) = absurd (n e)
           second (inr e) = e
 
-      passed : (row : ℕ) → row < sheet .«atom_count» → getD taken row 0 ≢ 1 → (k : Taken (netIn sheet) (netIn figure) p (suc row)) → ((k .by ∈ g .breaking) × (getD taken row 0 ≡ 2)) ⊎ OnOneHalf (netIn figure) (onFirst side) (k .by)
-      passed row h n k = subst (λ (b : ℕ). ((b ∈ g .breaking) × (getD taken row 0 ≡ 2)) ⊎ OnOneHalf (netIn figure) (onFirst side) b) up
-          (by-row row (k .by - 1) (let d = node .sheet-out .count in omega arith) there n (subst (AtomIn places (k .by - 1)) (let e : atomTo p (k .by) - 1 ≡ row = omega (arith, k .there) in e) (stays .atoms (k .by) (k .of-figure))) (g .each (k .by - 1) there))
+      -- the same where what is guarded is shut
+      by-row-shut : (now : List ℕ) → Shut atoms taken now → (row i : ℕ) → row < atoms → i < rows → getD now row 0 ≢ 1 → AtomIn places i row → Guards parts words places atoms side taken (g .breaking) i
+          → ((suc i ∈ []) × (getD now row 0 ≡ 2)) ⊎ OnOneHalf (netIn figure) (onFirst side) (suc i)
+      by-row-shut now shut row i h l n m (inl u) = absurd (n (shut row h (inl (ap (λ (k : ℕ). getD taken k 0) (u .1 .2 row m) ∙ u .2))))
+      by-row-shut now shut row i h l n m (inr (inl u)) = inr (row-half side i l u)
+      by-row-shut now shut row i h l n m (inr (inr u)) = absurd (n (shut row h (u .1 row h m)))
+
+      passed-by : (table list : List ℕ) → ((row i : ℕ) → row < atoms → i < rows → getD table row 0 ≢ 1 → AtomIn places i row → Guards parts words places atoms side taken (g .breaking) i → ((suc i ∈ list) × (getD table row 0 ≡ 2)) ⊎ OnOneHalf (netIn figure) (onFirst side) (suc i))
+          → (row : ℕ) → row < sheet .«atom_count» → getD table row 0 ≢ 1 → (k : Taken (netIn sheet) (netIn figure) p (suc row)) → ((k .by ∈ list) × (getD table row 0 ≡ 2)) ⊎ OnOneHalf (netIn figure) (onFirst side) (k .by)
+      passed-by table list by row h n k = subst (λ (b : ℕ). ((b ∈ list) × (getD table row 0 ≡ 2)) ⊎ OnOneHalf (netIn figure) (onFirst side) b) up
+          (by row (k .by - 1) (let d = node .sheet-out .count in omega arith) there n (subst (AtomIn places (k .by - 1)) (let e : atomTo p (k .by) - 1 ≡ row = omega (arith, k .there) in e) (stays .atoms (k .by) (k .of-figure))) (g .each (k .by - 1) there))
         where
           up : suc (k .by - 1) ≡ k .by
           up = omega (arith, k .of-figure .0)
@@ -139,8 +147,16 @@ module _ (sheet figure : NormalForm) (atoms links count : ℕ) (laid chains : Li
           there = let e = atoms-length figure (node .ready .figure-fit) in let d = node .figure-out .count in omega (arith, k .of-figure .0, k .of-figure .1)
 
       stays-agrees : Agrees sheet figure to flags taken guarded side (g .breaking) p
-      stays-agrees = record { good = good; goes = goes; held = held; passed = passed }
+      stays-agrees = record { good = good; goes = goes; held = held; passed = passed-by taken (g .breaking) by-row }
+
+      shut-agrees : (now : List ℕ) → Shut atoms taken now → Agrees sheet figure to flags now guarded side [] p
+      shut-agrees now shut = record { good = good; goes = goes; held = held; passed = passed-by now [] (by-row-shut now shut) }
 
   pub none-stays : (places sets to flags opens taken guarded : List ℕ) (side r : ℕ) → Tells parts rows marked marks sets (suc links) to flags opens → GuardsTo parts words places atoms side rows taken r
       → GuardsLinksTo sets opens words flags side count guarded → (b : Bool) → NoneAgrees sheet figure to flags taken guarded side r b → NoneStays sheet figure places sets b
   none-stays places sets to flags opens taken guarded side r t g k b none e p good stays = none e (g .breaking) (let n = g .number in omega arith) p (stays-agrees places sets p good stays to flags opens t taken guarded side r g k)
+
+  -- and where no way passes what is guarded, none breaks it
+  pub none-stays-shut : (places sets to flags opens taken now guarded : List ℕ) (side r : ℕ) → Tells parts rows marked marks sets (suc links) to flags opens → GuardsTo parts words places atoms side rows taken r
+      → GuardsLinksTo sets opens words flags side count guarded → Shut atoms taken now → (b : Bool) → NoneAgrees sheet figure to flags now guarded side 0 b → NoneStays sheet figure places sets b
+  none-stays-shut places sets to flags opens taken now guarded side r t g k shut b none e p good stays = none e [] (omega arith) p (shut-agrees places sets p good stays to flags opens t taken guarded side r g k now shut)

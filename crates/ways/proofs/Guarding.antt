@@ -10,7 +10,7 @@ use lib.Seq.{getD-set-same, getD-set-other}
 use Rattle.hyperlmntal.specs.Link.{_∈_}
 use Rattle.rows.specs.Limits.{sheetAtoms}
 use Rattle.candidates.specs.Forced.{FirstFrom, Only}
-use Rattle.ways.specs.Nodes.{RowOnOneHalf, Guarded, StaysGuarded, GuardedTo, Guards, GuardsTo}
+use Rattle.ways.specs.Nodes.{RowOnOneHalf, Guarded, StaysGuarded, GuardedTo, Guards, GuardsTo, Shut}
 
 -- A flag is stored, and what was taken stays so.
 pub stays-stored : (was now : List ℕ) (t v : ℕ) → t < length now → (getD now t 0 ≡ 1 → v ≡ 1) → Guarded v → StaysGuarded was now → StaysGuarded was (set now t v)
@@ -74,3 +74,21 @@ module _ (parts words atoms : List ℕ) (n side : ℕ) where
     -- A breaking row.
     pub guards-breaking : (now : List ℕ) → length now ≡ sheetAtoms → StaysGuarded taken now → GuardedTo atoms c now n → GuardsTo parts words atoms n side (c + 1) now (r + 1)
     guards-breaking now room s o = guards-more now (suc c ∷ g .breaking) (r + 1) room (let e = g .number in omega arith) s (λ i m. List·Memᴰ·tail m) (inr (inr (List·Memᴰ·head refl, o)))
+
+-- The first t flags are shut, the others are as they were.
+pub record ShutTo (was now : List ℕ) (t : ℕ) : Type 0 where
+  pub shut : Shut t was now
+  pub same : (u : ℕ) → t ≤ u → getD now u 0 ≡ getD was u 0
+
+pub shut-none : (was : List ℕ) → ShutTo was was 0
+shut-none was = record { shut = λ u h. absurd (omega arith); same = λ u h. refl }
+
+pub shut-next : (was now : List ℕ) (t v : ℕ) → ShutTo was now t → t < length now → (Guarded (getD now t 0) → v ≡ 1) → ShutTo was (set now t v) (t + 1)
+shut-next was now t v s h one = record { shut = shut; same = λ u l. getD-set-other now t u v 0 (λ e. absurd (omega arith)) ∙ s .same u (omega arith) }
+  where
+    shut : Shut (t + 1) was (set now t v)
+    shut u l g = go (ℕ-discrete u t)
+      where
+        go : Dec (u ≡ t) → getD (set now t v) u 0 ≡ 1
+        go (yes e) = ap (λ (k : ℕ). getD (set now t v) k 0) e ∙ getD-set-same now t v 0 h ∙ one (subst Guarded (sym (s .same t (omega arith))) (subst (λ (k : ℕ). Guarded (getD was k 0)) e g))
+        go (no d) = getD-set-other now t u v 0 d ∙ s .shut u (omega arith) g

@@ -9,7 +9,7 @@ use lib.Seq.{getD-set-same, getD-set-other}
 use Rattle.hyperlmntal.specs.Link.{_∈_}
 use Rattle.rows.specs.Limits.{sheetAtoms, sheetLinks}
 use Rattle.completing.specs.Ways.{Route, afterward, linksOf, atomsOf, lastLink, Walk, Way, Ways}
-use Rattle.ways.specs.Trails.{LaidStep, Unflagged, Has, Fresh, AllSeen, Trail, Found, FoundIn, TrailIn, Follows, PassesBack}
+use Rattle.ways.specs.Trails.{trailRoom, LaidStep, Unflagged, Has, Fresh, AllSeen, Trail, Found, FoundIn, TrailIn, Follows, PassesBack}
 
 -- ---- what was seen
 
@@ -169,7 +169,7 @@ module _ (laid taken : List ℕ) (atoms : ℕ) (guards : List ℕ) (links : ℕ)
               (λ g. has-not 1 1 now z in-room new) stored kept y (s .0) (Has 2 after) (s .1) (s .2) (s .3) (b .kept),
         )
 
-    pub laid-found : (r : ℕ) → r ≤ 512 → length passed ≡ sheetAtoms → getD table (1 * sheetLinks + z) 0 ≡ 1 → Follows laid taken atoms guards links table was passed₀ (set now z (getD guards z 0)) passed r
+    pub laid-found : (r : ℕ) → r ≤ trailRoom → length passed ≡ sheetAtoms → getD table (1 * sheetLinks + z) 0 ≡ 1 → Follows laid taken atoms guards links table was passed₀ (set now z (getD guards z 0)) passed r
     laid-found r small atom-room e = record {
       room = simp length-set room;
       atom-room = atom-room;

@@ -104,3 +104,7 @@ pub record GuardsTo (parts words atoms : List ℕ) (n side c : ℕ) (taken : Lis
   pub breaking : List ℕ
   pub number : length breaking ≡ r
   pub each : (i : ℕ) → i < c → Guards parts words atoms n side taken breaking i
+
+-- what is guarded in the first table is taken in the second
+abbrev pub Shut : ℕ → List ℕ → List ℕ → Type 0
+Shut n was now = (t : ℕ) → t < n → Guarded (getD was t 0) → getD now t 0 ≡ 1

@@ -10,6 +10,10 @@ use Rattle.rows.specs.Limits.{sheetAtoms, sheetLinks}
 use Rattle.candidates.specs.Laid.{laidAt}
 use Rattle.completing.specs.Ways.{afterward, linksOf, atomsOf, lastLink, Walk, Ways}
 
+-- the room for ways that are laid out
+abbrev pub trailRoom : ℕ
+trailRoom = 512
+
 -- atom j, from 1, may be passed
 abbrev pub Passable : List ℕ → ℕ → ℕ → Type 0
 Passable taken atoms j = (row : ℕ) × (j ≡ suc row) × (row < atoms) × (getD taken row 0 ≢ 1)
@@ -89,7 +93,7 @@ module _ (laid taken : List ℕ) (atoms : ℕ) (guards : List ℕ) (links : ℕ)
   pub record Follows (was passed₀ now passed : List ℕ) (r : ℕ) : Type 0 where
     pub room : length now ≡ sheetLinks
     pub atom-room : length passed ≡ sheetAtoms
-    pub few : r ≤ 512
+    pub few : r ≤ trailRoom
     pub more : r ≢ 0 → (n : ℕ) → FoundIn was passed₀ n → FoundIn now passed (suc n)
 
 -- The row, from 0, of the atom of a step with this mark.

@@ -1,6 +1,7 @@
 // Is a search node crowded: do more ways lead from one half of the contexts to the other than can be broken by what
 // is not placed yet?
 use crate::guarded::guard_rows;
+use crate::guarded::shut;
 use crate::guards::guard_links;
 use crate::outnumbered::contexts;
 use crate::outnumbered::outnumbered_by;
@@ -14,7 +15,7 @@ ghost use Prim.Native.Nat.{suc};
 ghost use Rattle.rows.specs.declared.Sheet.{Sheet as NormalForm};
 ghost use Rattle.ways.specs.Nodes.{NodeOf, NoneStays, Tells};
 
-// For these two halves.
+// For these two halves: ways that a figure atom may break are counted with it, and then not taken at all.
 fn crowded_by(
     atoms: usize,
     links: usize,
@@ -39,7 +40,7 @@ fn crowded_by(
     let mut taken = [0u8; Sheet::ATOMS];
     let breaking = guard_rows(&mut taken, parts, rows, standing, side, places, atoms);
     let guarded = guard_links(sets, opens, count, standing, flags, side);
-    outnumbered_by(
+    if outnumbered_by(
         atoms,
         links,
         count,
@@ -51,6 +52,26 @@ fn crowded_by(
         flags,
         guarded,
         breaking,
+        side,
+    ) {
+        return true;
+    }
+    if breaking == 0 {
+        return false;
+    }
+    shut(&mut taken, atoms);
+    outnumbered_by(
+        atoms,
+        links,
+        count,
+        laid,
+        chains,
+        &taken,
+        standing,
+        to,
+        flags,
+        guarded,
+        0,
         side,
     )
 }

@@ -1,6 +1,7 @@
-// As many ways as there are, up to a number, found by augmenting, and laid out. They are a guess, which `trail` checks.
+// So many ways, if there are as many, found by augmenting, and laid out. They are a guess, which `trail` checks.
 use crate::SORTED;
 use crate::TRAILS;
+use crate::row::link_at;
 use crate::search::ENDED;
 use crate::search::FLOW;
 use crate::search::LOOK;
@@ -10,34 +11,34 @@ use crate::search::START;
 use crate::search::STATES;
 use crate::search::USES;
 use crate::search::VERTICES;
-use crate::search::link_at;
 use crate::search::search;
 use crate::trail::wide;
 use candidates::LAID;
 use rows::Sheet;
 use stepping::CHAINS;
-ghost use Prim.Native.Nat.{_+_, _*_, _<_, _≤_};
+ghost use Prim.Native.Nat.{_<_, _≤_};
 ghost use mathlib.Core.Path.{_≡_};
 ghost use lib.ListN.{length};
-ghost use Rattle.rows.specs.Format.{mostLinks};
 ghost use Rattle.rows.specs.Limits.{sheetAtoms, sheetLinks};
 ghost use Rattle.stepping.specs.Chains.{nodeOf, Falls};
+ghost use Rattle.ways.specs.Flow.{placeCount, flowRoom, stateCount};
+ghost use Rattle.ways.specs.Trails.{trailRoom};
 
 fn more(flow: &mut [u8; FLOW], at: usize)
-    requires { ⌜ at < 640 ⌝ }
+    requires { ⌜ at < flowRoom ⌝ }
 {
     flow[at] = std::num::wrapping_add_u8(flow[at], 1);
 }
 
 fn less(flow: &mut [u8; FLOW], at: usize)
-    requires { ⌜ at < 640 ⌝ }
+    requires { ⌜ at < flowRoom ⌝ }
 {
     flow[at] = std::num::wrapping_sub_u8(flow[at], 1);
 }
 
 // One way more leads over a place to its atom, or one less back from it.
 fn lead_in(flow: &mut [u8; FLOW], laid: &[u16; LAID], place: usize)
-    requires { ⌜ place < sheetAtoms * mostLinks ⌝ }
+    requires { ⌜ place < placeCount ⌝ }
 {
     if OUTWARD <= flow[place] {
         less(flow, USES + link_at(laid, place));
@@ -49,7 +50,7 @@ fn lead_in(flow: &mut [u8; FLOW], laid: &[u16; LAID], place: usize)
 
 // One way more leads over a place to its link, or one less from it.
 fn lead_out(flow: &mut [u8; FLOW], laid: &[u16; LAID], place: usize)
-    requires { ⌜ place < sheetAtoms * mostLinks ⌝ }
+    requires { ⌜ place < placeCount ⌝ }
 {
     let over = flow[place];
     if over == 0 {
@@ -64,8 +65,8 @@ fn lead_out(flow: &mut [u8; FLOW], laid: &[u16; LAID], place: usize)
 
 // The step by which the search came to this state; the state before.
 fn before(flow: &mut [u8; FLOW], laid: &[u16; LAID], from: usize, state: usize) -> usize
-    requires { ⌜ (from < 65536) × (state < 2 * (sheetLinks + sheetAtoms)) ⌝ }
-    ensures { λ r. ⌜ r < 2 * (sheetLinks + sheetAtoms) ⌝ }
+    requires { ⌜ (from < 65536) × (state < stateCount) ⌝ }
+    ensures { λ r. ⌜ r < stateCount ⌝ }
 {
     let place = from / 2 % PLACES;
     let second = from % 2 * VERTICES;
@@ -101,7 +102,7 @@ fn augment(flow: &mut [u8; FLOW], look: &[u16; LOOK], laid: &[u16; LAID], end: u
 // The place over which a way leads to link z.
 fn arrival(flow: &[u8; FLOW], chains: &[u16; CHAINS], atoms: usize, z: usize) -> usize
     requires { ⌜ (atoms ≤ sheetAtoms) × Falls (nodeOf atoms 0) (now chains) × (z < sheetLinks) ⌝ }
-    ensures { λ r. ⌜ r < sheetAtoms * mostLinks ⌝ }
+    ensures { λ r. ⌜ r < placeCount ⌝ }
 {
     let mut v = wide(chains[z]);
     while Sheet::LINKS <= v {
@@ -115,8 +116,8 @@ fn arrival(flow: &[u8; FLOW], chains: &[u16; CHAINS], atoms: usize, z: usize) ->
 
 // The place of an atom, of the one at this place, over which a way leads to the atom.
 fn departure(flow: &[u8; FLOW], place: usize) -> usize
-    requires { ⌜ place < sheetAtoms * mostLinks ⌝ }
-    ensures { λ r. ⌜ r < sheetAtoms * mostLinks ⌝ }
+    requires { ⌜ place < placeCount ⌝ }
+    ensures { λ r. ⌜ r < placeCount ⌝ }
 {
     let first = place / Sheet::MOST_LINKS * Sheet::MOST_LINKS;
     let mut k = 0;
@@ -143,8 +144,8 @@ fn lay_way(
     sorted: &[u8; SORTED],
     end: usize,
 ) -> usize
-    requires { ⌜ (at < 512) × (atoms ≤ sheetAtoms) × Falls (nodeOf atoms 0) (now chains) × (end < sheetLinks) × (length (now trails) ≡ 512) ⌝ }
-    ensures { λ r. ⌜ (at < r) × (r ≤ 512) × (length (now (trails .exit)) ≡ 512) ⌝ }
+    requires { ⌜ (at < trailRoom) × (atoms ≤ sheetAtoms) × Falls (nodeOf atoms 0) (now chains) × (end < sheetLinks) × (length (now trails) ≡ trailRoom) ⌝ }
+    ensures { λ r. ⌜ (at < r) × (r ≤ trailRoom) × (length (now (trails .exit)) ≡ trailRoom) ⌝ }
 {
     trails[at] = (end + 1) as u16;
     let mut next = at + 1;
@@ -165,7 +166,7 @@ fn lay_way(
 }
 
 // All ways of the flow are laid out, as far as there is room.
-fn lay(
+pub(crate) fn lay(
     trails: &mut [u16; TRAILS],
     flow: &mut [u8; FLOW],
     laid: &[u16; LAID],
@@ -174,8 +175,8 @@ fn lay(
     links: usize,
     sorted: &[u8; SORTED],
 )
-    requires { ⌜ (atoms ≤ sheetAtoms) × Falls (nodeOf atoms 0) (now chains) × (links ≤ sheetLinks) × (length (now trails) ≡ 512) ⌝ }
-    ensures { λ _. ⌜ length (now (trails .exit)) ≡ 512 ⌝ }
+    requires { ⌜ (atoms ≤ sheetAtoms) × Falls (nodeOf atoms 0) (now chains) × (links ≤ sheetLinks) × (length (now trails) ≡ trailRoom) ⌝ }
+    ensures { λ _. ⌜ length (now (trails .exit)) ≡ trailRoom ⌝ }
 {
     let mut at = 0;
     let mut z = 0;
@@ -192,9 +193,9 @@ fn lay(
     }
 }
 
-// So many ways, laid out, if there are as many.
-pub(crate) fn lay_ways(
-    trails: &mut [u16; TRAILS],
+// Are there so many ways? Then they are in the flow.
+pub(crate) fn find_ways(
+    flow: &mut [u8; FLOW],
     laid: &[u16; LAID],
     chains: &[u16; CHAINS],
     atoms: usize,
@@ -204,16 +205,14 @@ pub(crate) fn lay_ways(
     sorted: &[u8; SORTED],
     most: usize,
 ) -> bool
-    requires { ⌜ (atoms ≤ sheetAtoms) × Falls (nodeOf atoms 0) (now chains) × (links ≤ sheetLinks) × (length (now trails) ≡ 512) ⌝ }
-    ensures { λ _. ⌜ length (now (trails .exit)) ≡ 512 ⌝ }
+    requires { ⌜ (atoms ≤ sheetAtoms) × Falls (nodeOf atoms 0) (now chains) × (links ≤ sheetLinks) ⌝ }
 {
-    let mut flow = [0u8; FLOW];
     let mut n = 0;
     while n < most {
         let mut look = [0u16; LOOK];
         let end = search(
             &mut look,
-            &flow,
+            flow,
             laid,
             chains,
             atoms,
@@ -225,9 +224,8 @@ pub(crate) fn lay_ways(
         if end == 0 {
             return false;
         }
-        augment(&mut flow, &look, laid, end - 1);
+        augment(flow, &look, laid, end - 1);
         n += 1;
     }
-    lay(trails, &mut flow, laid, chains, atoms, links, sorted);
     true
 }

@@ -13,7 +13,7 @@ ghost use mathlib.Core.Bool.{true};
 ghost use lib.ListN.{length};
 ghost use Rattle.rows.specs.Limits.{sheetAtoms};
 ghost use Rattle.candidates.specs.Laid.{Rowed};
-ghost use Rattle.ways.specs.Nodes.{RowOnOneHalf, Guarded, StaysGuarded, GuardedTo, GuardsTo};
+ghost use Rattle.ways.specs.Nodes.{RowOnOneHalf, Guarded, StaysGuarded, GuardedTo, GuardsTo, Shut};
 
 // Whether all links of a row are on one half.
 fn on_one_half(
@@ -106,4 +106,26 @@ pub(crate) fn guard_rows(
         row += 1;
     }
     breaking
+}
+
+// What an atom has that no way may pass where it is guarded.
+fn shut_flag(flag: u8) -> u8
+    ensures { λ r. ⌜ (Guarded flag → r ≡ 1) ⌝ }
+{
+    if flag == 2 {
+        return 1;
+    }
+    flag
+}
+
+// What is guarded is shut.
+pub(crate) fn shut(taken: &mut [u8; Sheet::ATOMS], n: usize)
+    requires { ⌜ (n ≤ sheetAtoms) × (length (now taken) ≡ sheetAtoms) ⌝ }
+    ensures { λ _. ⌜ Shut n (now (taken .entry)) (now (taken .exit)) ⌝ }
+{
+    let mut t = 0;
+    while t < n {
+        taken[t] = shut_flag(taken[t]);
+        t += 1;
+    }
 }

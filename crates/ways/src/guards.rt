@@ -14,7 +14,7 @@ ghost use Rattle.candidates.specs.Words.{InPair};
 ghost use Rattle.ways.specs.Nodes.{GuardsLink, GuardsLinksTo};
 
 // 1 for a link of the set.
-fn flag_of(pair: [u64; 2], y: usize) -> u8
+pub(crate) fn flag_of(pair: [u64; 2], y: usize) -> u8
     requires { ⌜ y < sheetLinks ⌝ }
     ensures { λ r. ⌜ (InPair pair y → r ≡ 1) ⌝ }
 {

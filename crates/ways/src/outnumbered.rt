@@ -1,10 +1,13 @@
 // Do more ways lead from one half of the contexts to the other than can be broken?
 use crate::SORTED;
 use crate::TRAILS;
-use crate::flow::lay_ways;
+use crate::flow::find_ways;
+use crate::flow::lay;
+use crate::guards::flag_of;
 use crate::guards::spread;
 use crate::halves::crossing;
 use crate::halves::sorted;
+use crate::search::FLOW;
 use crate::trail::ways;
 use candidates::LAID;
 use candidates::words::ALL;
@@ -24,7 +27,7 @@ const MANY: usize = 2 * Sheet::LINKS;
 
 // How many ways can have their ends at the links of half h that have no flag of both: one at each guarded link, many at
 // another.
-fn ends(sorted: &[u8; SORTED], guards: &[u8; Sheet::LINKS], links: usize, h: usize) -> usize
+fn ends(sorted: &[u8; SORTED], guarded: [u64; 2], links: usize, h: usize) -> usize
     requires { ⌜ (links ≤ sheetLinks) × (h < 4) ⌝ }
 {
     let mut n = 0;
@@ -32,7 +35,7 @@ fn ends(sorted: &[u8; SORTED], guards: &[u8; Sheet::LINKS], links: usize, h: usi
     while y < links {
         if sorted[h * Sheet::LINKS + y] == 1 {
             if sorted[3 * Sheet::LINKS + y] != 1 {
-                if guards[y] != 1 {
+                if flag_of(guarded, y) != 1 {
                     return MANY;
                 }
                 n += 1;
@@ -65,16 +68,16 @@ pub fn outnumbered_by(
 {
     let table = sorted(count, standing, to, (links + 1) as u16, side);
     let most = crossing(count, standing, flags, side) + breaking;
+    if ends(&table, guarded, links, 1) <= most {
+        return false;
+    }
+    if ends(&table, guarded, links, 2) <= most {
+        return false;
+    }
     let guards = spread(guarded, links);
-    if ends(&table, &guards, links, 1) <= most {
-        return false;
-    }
-    if ends(&table, &guards, links, 2) <= most {
-        return false;
-    }
-    let mut trails = [0u16; TRAILS];
-    if !lay_ways(
-        &mut trails,
+    let mut flow = [0u8; FLOW];
+    if !find_ways(
+        &mut flow,
         laid,
         chains,
         atoms,
@@ -86,6 +89,8 @@ pub fn outnumbered_by(
     ) {
         return false;
     }
+    let mut trails = [0u16; TRAILS];
+    lay(&mut trails, &mut flow, laid, chains, atoms, links, &table);
     most < ways(laid, atoms, links, taken, &guards, &table, &trails)
 }
 

@@ -8,14 +8,15 @@
 // where it was entered from: START, or 1 more than twice the place, with 1 more where that was left in the second state;
 // from STATES on, the states from which the search goes on, in order.
 use crate::SORTED;
+use crate::row::link_at;
 use crate::trail::wide;
 use candidates::LAID;
 use rows::Sheet;
 use stepping::CHAINS;
-ghost use Prim.Native.Nat.{_+_, _*_, _<_, _≤_};
-ghost use Rattle.rows.specs.Format.{mostLinks};
+ghost use Prim.Native.Nat.{_<_, _≤_};
 ghost use Rattle.rows.specs.Limits.{sheetAtoms, sheetLinks};
 ghost use Rattle.stepping.specs.Chains.{nodeOf, Falls};
+ghost use Rattle.ways.specs.Flow.{placeCount, stateCount};
 
 pub(crate) const START: u16 = 65535;
 
@@ -36,27 +37,10 @@ pub(crate) const LOOK: usize = 2 * STATES;
 // A number from here on stands for ways that lead from the atom to the link.
 pub(crate) const OUTWARD: u8 = 128;
 
-// The number from 0 of a link from 1.
-pub(crate) fn below(y: usize) -> usize
-    requires { ⌜ y < 65536 ⌝ }
-    ensures { λ r. ⌜ r < sheetLinks ⌝ }
-{
-    (y + (Sheet::LINKS - 1)) % Sheet::LINKS
-}
-
-// The link of a place.
-pub(crate) fn link_at(laid: &[u16; LAID], place: usize) -> usize
-    requires { ⌜ place < sheetAtoms * mostLinks ⌝ }
-    ensures { λ r. ⌜ r < sheetLinks ⌝ }
-{
-    let row = place / Sheet::MOST_LINKS;
-    below(wide(laid[row * Sheet::FIELDS + (2 + place % Sheet::MOST_LINKS)]))
-}
-
 // The search is to go on from this state, if it did not yet.
 fn reach(look: &mut [u16; LOOK], tail: usize, state: usize, from: u16) -> usize
-    requires { ⌜ (state < 2 * (sheetLinks + sheetAtoms)) × (tail ≤ 2 * (sheetLinks + sheetAtoms)) ⌝ }
-    ensures { λ r. ⌜ r ≤ 2 * (sheetLinks + sheetAtoms) ⌝ }
+    requires { ⌜ (state < stateCount) × (tail ≤ stateCount) ⌝ }
+    ensures { λ r. ⌜ r ≤ stateCount ⌝ }
 {
     if look[state] != 0 {
         return tail;
@@ -88,8 +72,8 @@ fn start(
     sorted: &[u8; SORTED],
     y: usize,
 ) -> usize
-    requires { ⌜ (y < sheetLinks) × (tail ≤ 2 * (sheetLinks + sheetAtoms)) ⌝ }
-    ensures { λ r. ⌜ r ≤ 2 * (sheetLinks + sheetAtoms) ⌝ }
+    requires { ⌜ (y < sheetLinks) × (tail ≤ stateCount) ⌝ }
+    ensures { λ r. ⌜ r ≤ stateCount ⌝ }
 {
     if sorted[Sheet::LINKS + y] != 1 {
         return tail;
@@ -112,8 +96,8 @@ fn to_atom(
     place: usize,
     second: usize,
 ) -> usize
-    requires { ⌜ (place < sheetAtoms * mostLinks) × (second < 2) × (tail ≤ 2 * (sheetLinks + sheetAtoms)) ⌝ }
-    ensures { λ r. ⌜ r ≤ 2 * (sheetLinks + sheetAtoms) ⌝ }
+    requires { ⌜ (place < placeCount) × (second < 2) × (tail ≤ stateCount) ⌝ }
+    ensures { λ r. ⌜ r ≤ stateCount ⌝ }
 {
     let row = place / Sheet::MOST_LINKS;
     let from = (2 * place + second + 1) as u16;
@@ -147,8 +131,8 @@ fn to_link(
     place: usize,
     second: usize,
 ) -> usize
-    requires { ⌜ (place < sheetAtoms * mostLinks) × (second < 2) × (tail ≤ 2 * (sheetLinks + sheetAtoms)) ⌝ }
-    ensures { λ r. ⌜ r ≤ 2 * (sheetLinks + sheetAtoms) ⌝ }
+    requires { ⌜ (place < placeCount) × (second < 2) × (tail ≤ stateCount) ⌝ }
+    ensures { λ r. ⌜ r ≤ stateCount ⌝ }
 {
     let z = link_at(laid, place);
     let from = (2 * place + second + 1) as u16;
@@ -184,8 +168,8 @@ fn from_link(
     y: usize,
     second: usize,
 ) -> usize
-    requires { ⌜ (atoms ≤ sheetAtoms) × Falls (nodeOf atoms 0) (now chains) × (y < sheetLinks) × (second < 2) × (tail ≤ 2 * (sheetLinks + sheetAtoms)) ⌝ }
-    ensures { λ r. ⌜ r ≤ 2 * (sheetLinks + sheetAtoms) ⌝ }
+    requires { ⌜ (atoms ≤ sheetAtoms) × Falls (nodeOf atoms 0) (now chains) × (y < sheetLinks) × (second < 2) × (tail ≤ stateCount) ⌝ }
+    ensures { λ r. ⌜ r ≤ stateCount ⌝ }
 {
     let mut next = tail;
     let mut v = wide(chains[y]);
@@ -207,8 +191,8 @@ fn from_atom(
     row: usize,
     second: usize,
 ) -> usize
-    requires { ⌜ (row < sheetAtoms) × (second < 2) × (tail ≤ 2 * (sheetLinks + sheetAtoms)) ⌝ }
-    ensures { λ r. ⌜ r ≤ 2 * (sheetLinks + sheetAtoms) ⌝ }
+    requires { ⌜ (row < sheetAtoms) × (second < 2) × (tail ≤ stateCount) ⌝ }
+    ensures { λ r. ⌜ r ≤ stateCount ⌝ }
 {
     let width = wide(laid[row * Sheet::FIELDS + 1]);
     let mut next = tail;
@@ -237,8 +221,8 @@ fn onward(
     sorted: &[u8; SORTED],
     state: usize,
 ) -> usize
-    requires { ⌜ (atoms ≤ sheetAtoms) × Falls (nodeOf atoms 0) (now chains) × (state < 2 * (sheetLinks + sheetAtoms)) × (tail ≤ 2 * (sheetLinks + sheetAtoms)) ⌝ }
-    ensures { λ r. ⌜ r ≤ 2 * (sheetLinks + sheetAtoms) ⌝ }
+    requires { ⌜ (atoms ≤ sheetAtoms) × Falls (nodeOf atoms 0) (now chains) × (state < stateCount) × (tail ≤ stateCount) ⌝ }
+    ensures { λ r. ⌜ r ≤ stateCount ⌝ }
 {
     let second = state / VERTICES;
     let v = state % VERTICES;

@@ -1,15 +1,15 @@
 -- No index leaves its array.
 use borrow.Author.Needs.{needs}
-use Prim.Native.Nat.{_+_, _*_, _-_, _≤_, _<_}
-use Rattle.rows.specs.Limits.{sheetAtoms, sheetLinks}
+use Prim.Native.Nat.{_-_, _≤_, _<_}
+use Rattle.ways.specs.Flow.{stateCount}
 use Rattle.ways.proofs.flow.augment.Statement.{statement}
 use Rattle.ways.proofs.flow.augment.Tie as tie
 
 abbrev Inv-loop : tie.InvT-loop
-Inv-loop flow₀ look laid end state₀ n₀ flow state n = (state < 2 * (sheetLinks + sheetAtoms)) × (n ≤ 2 * (sheetLinks + sheetAtoms))
+Inv-loop flow₀ look laid end state₀ n₀ flow state n = (state < stateCount) × (n ≤ stateCount)
 
 abbrev μ-loop : tie.MeasureT-loop
-μ-loop flow₀ look laid end state₀ n₀ flow state n = 2 * (sheetLinks + sheetAtoms) - n
+μ-loop flow₀ look laid end state₀ n₀ flow state n = stateCount - n
 
 add-more : tie.Need-add-more Inv-loop μ-loop
 add-more c = search needs

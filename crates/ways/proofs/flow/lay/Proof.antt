@@ -3,17 +3,18 @@ use borrow.Author.Needs.{needs}
 use Prim.Native.Nat.{_-_, _≤_}
 use mathlib.Core.Path.{_≡_}
 use lib.ListN.{length}
+use Rattle.ways.specs.Trails.{trailRoom}
 use Rattle.ways.proofs.flow.lay.Statement.{statement}
 use Rattle.ways.proofs.flow.lay.Tie as tie
 
 abbrev Inv-loop2 : tie.InvT-loop2
-Inv-loop2 trails₀ flow₀ laid chains atoms links sorted at₀ z left₀ trails flow at left = (at ≤ 512) × (length trails ≡ 512)
+Inv-loop2 trails₀ flow₀ laid chains atoms links sorted at₀ z left₀ trails flow at left = (at ≤ trailRoom) × (length trails ≡ trailRoom)
 
 abbrev μ-loop2 : tie.MeasureT-loop2
 μ-loop2 trails₀ flow₀ laid chains atoms links sorted at₀ z left₀ trails flow at left = left
 
 abbrev Inv-loop : tie.InvT-loop
-Inv-loop trails₀ flow₀ laid chains atoms links sorted at₀ z₀ trails flow at z = (at ≤ 512) × (z ≤ links) × (length trails ≡ 512)
+Inv-loop trails₀ flow₀ laid chains atoms links sorted at₀ z₀ trails flow at z = (at ≤ trailRoom) × (z ≤ links) × (length trails ≡ trailRoom)
 
 abbrev μ-loop : tie.MeasureT-loop
 μ-loop trails₀ flow₀ laid chains atoms links sorted at₀ z₀ trails flow at z = links - z

@@ -4,14 +4,15 @@ use Prim.Native.Nat.{_-_, _≤_, _<_}
 use mathlib.Core.Path.{_≡_}
 use lib.ListN.{length}
 use Rattle.rows.specs.Limits.{sheetLinks}
+use Rattle.ways.specs.Trails.{trailRoom}
 use Rattle.ways.proofs.flow.lay_way.Statement.{statement}
 use Rattle.ways.proofs.flow.lay_way.Tie as tie
 
 abbrev Inv-loop : tie.InvT-loop
-Inv-loop trails₀ at flow₀ laid chains atoms sorted end next₀ z₀ trails flow next z = (z < sheetLinks) × (at < next) × (next ≤ 512) × (length trails ≡ 512)
+Inv-loop trails₀ at flow₀ laid chains atoms sorted end next₀ z₀ trails flow next z = (z < sheetLinks) × (at < next) × (next ≤ trailRoom) × (length trails ≡ trailRoom)
 
 abbrev μ-loop : tie.MeasureT-loop
-μ-loop trails₀ at flow₀ laid chains atoms sorted end next₀ z₀ trails flow next z = 512 - next
+μ-loop trails₀ at flow₀ laid chains atoms sorted end next₀ z₀ trails flow next z = trailRoom - next
 
 add-trails : tie.Need-add-trails Inv-loop μ-loop
 add-trails c = search needs

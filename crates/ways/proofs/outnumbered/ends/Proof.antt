@@ -7,10 +7,10 @@ use Rattle.ways.proofs.outnumbered.ends.Statement.{statement}
 use Rattle.ways.proofs.outnumbered.ends.Tie as tie
 
 abbrev Inv-loop : tie.InvT-loop
-Inv-loop sorted guards links h n₀ y₀ n y = (n ≤ y) × (y ≤ links)
+Inv-loop sorted guarded links h n₀ y₀ n y = (n ≤ y) × (y ≤ links)
 
 abbrev μ-loop : tie.MeasureT-loop
-μ-loop sorted guards links h n₀ y₀ n y = links - y
+μ-loop sorted guarded links h n₀ y₀ n y = links - y
 
 loop-holds : tie.Need-loop-holds Inv-loop μ-loop
 loop-holds c = search needs
@@ -33,8 +33,8 @@ add-if2 c = search needs
 element-copy-out-if2 : tie.Need-element-copy-out-if2 Inv-loop μ-loop
 element-copy-out-if2 c = search needs
 
-element-copy-out-if3 : tie.Need-element-copy-out-if3 Inv-loop μ-loop
-element-copy-out-if3 c = search needs
+flag-of-requires : tie.Need-flag-of-requires Inv-loop μ-loop
+flag-of-requires c κs = search needs
 
 returns : tie.Need-returns Inv-loop μ-loop
 returns c = search needs
@@ -67,7 +67,7 @@ ends-spec =
     mul-if2
     add-if2
     element-copy-out-if2
-    element-copy-out-if3
+    flag-of-requires
     returns
     add-n
     add-y

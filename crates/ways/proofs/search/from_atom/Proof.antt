@@ -1,13 +1,13 @@
 -- No index leaves its array.
 use borrow.Author.Needs.{needs}
-use Prim.Native.Nat.{_+_, _*_, _-_, _≤_}
+use Prim.Native.Nat.{_-_, _≤_}
 use Rattle.rows.specs.Format.{mostLinks}
-use Rattle.rows.specs.Limits.{sheetAtoms, sheetLinks}
+use Rattle.ways.specs.Flow.{stateCount}
 use Rattle.ways.proofs.search.from_atom.Statement.{statement}
 use Rattle.ways.proofs.search.from_atom.Tie as tie
 
 abbrev Inv-loop : tie.InvT-loop
-Inv-loop look₀ tail flow laid guards sorted row second width next₀ k₀ look next k = (k ≤ mostLinks) × (next ≤ 2 * (sheetLinks + sheetAtoms))
+Inv-loop look₀ tail flow laid guards sorted row second width next₀ k₀ look next k = (k ≤ mostLinks) × (next ≤ stateCount)
 
 abbrev μ-loop : tie.MeasureT-loop
 μ-loop look₀ tail flow laid guards sorted row second width next₀ k₀ look next k = mostLinks - k

@@ -1,14 +1,14 @@
 -- No index leaves its array.
 use borrow.Author.Needs.{needs}
 use native.Mathlib.Omega.{arith}
-use Prim.Native.Nat.{_+_, _*_, _-_, _≤_, _<_}
-use Rattle.rows.specs.Limits.{sheetAtoms, sheetLinks}
+use Prim.Native.Nat.{_-_, _≤_, _<_}
 use Rattle.stepping.specs.Chains.{nodeOf}
+use Rattle.ways.specs.Flow.{stateCount}
 use Rattle.ways.proofs.search.from_link.Statement.{statement}
 use Rattle.ways.proofs.search.from_link.Tie as tie
 
 abbrev Inv-loop : tie.InvT-loop
-Inv-loop look₀ tail flow chains atoms taken y second next₀ v₀ look next v = (v < nodeOf atoms 0) × (next ≤ 2 * (sheetLinks + sheetAtoms))
+Inv-loop look₀ tail flow chains atoms taken y second next₀ v₀ look next v = (v < nodeOf atoms 0) × (next ≤ stateCount)
 
 abbrev μ-loop : tie.MeasureT-loop
 μ-loop look₀ tail flow chains atoms taken y second next₀ v₀ look next v = v

@@ -1,21 +1,21 @@
 -- No index leaves its array.
 use borrow.Author.Needs.{needs}
-use Prim.Native.Nat.{_+_, _*_, _-_, _≤_}
-use Rattle.rows.specs.Limits.{sheetAtoms, sheetLinks}
+use Prim.Native.Nat.{_-_, _≤_}
+use Rattle.ways.specs.Flow.{stateCount}
 use Rattle.ways.proofs.search.search.Statement.{statement}
 use Rattle.ways.proofs.search.search.Tie as tie
 
 abbrev Inv-loop : tie.InvT-loop
-Inv-loop look₀ flow laid chains atoms links taken guards sorted tail₀ s₀ look tail s = (tail ≤ 2 * (sheetLinks + sheetAtoms)) × (s ≤ links)
+Inv-loop look₀ flow laid chains atoms links taken guards sorted tail₀ s₀ look tail s = (tail ≤ stateCount) × (s ≤ links)
 
 abbrev μ-loop : tie.MeasureT-loop
 μ-loop look₀ flow laid chains atoms links taken guards sorted tail₀ s₀ look tail s = links - s
 
 abbrev Inv-loop2 : tie.InvT-loop2
-Inv-loop2 look₀ flow laid chains atoms links taken guards sorted tail₀ s head₀ look tail head = (tail ≤ 2 * (sheetLinks + sheetAtoms)) × (head ≤ 2 * (sheetLinks + sheetAtoms))
+Inv-loop2 look₀ flow laid chains atoms links taken guards sorted tail₀ s head₀ look tail head = (tail ≤ stateCount) × (head ≤ stateCount)
 
 abbrev μ-loop2 : tie.MeasureT-loop2
-μ-loop2 look₀ flow laid chains atoms links taken guards sorted tail₀ s head₀ look tail head = 2 * (sheetLinks + sheetAtoms) - head
+μ-loop2 look₀ flow laid chains atoms links taken guards sorted tail₀ s head₀ look tail head = stateCount - head
 
 loop-holds : tie.Need-loop-holds Inv-loop μ-loop Inv-loop2 μ-loop2
 loop-holds c = search needs

@@ -5,7 +5,7 @@ use mathlib.Core.Path.{_≡_}
 use native.Mathlib.Omega.{arith}
 use lib.ListN.{length, length-set}
 use Rattle.rows.specs.Limits.{sheetAtoms, sheetLinks}
-use Rattle.ways.specs.Trails.{TrailIn}
+use Rattle.ways.specs.Trails.{trailRoom, TrailIn}
 use Rattle.ways.proofs.Trails.{laid-end, laid-left, laid-found, laid-again}
 use Rattle.ways.proofs.trail.follow.Statement.{statement}
 use Rattle.ways.proofs.trail.follow.Tie as tie
@@ -15,7 +15,7 @@ Inv-loop seen₀ passed₀ laid atoms links taken guards sorted trails from end 
     (z < sheetLinks) × (length seen ≡ sheetLinks) × (length passed ≡ sheetAtoms) × TrailIn laid taken atoms guards links sorted seen₀ passed₀ seen passed (suc z)
 
 abbrev μ-loop : tie.MeasureT-loop
-μ-loop seen₀ passed₀ laid atoms links taken guards sorted trails from end z₀ at₀ seen passed z at = 512 - at
+μ-loop seen₀ passed₀ laid atoms links taken guards sorted trails from end z₀ at₀ seen passed z at = trailRoom - at
 
 loop-holds : tie.Need-loop-holds Inv-loop μ-loop
 loop-holds c = (omega arith, c .pre .3, c .pre .4, laid-end (c .args .laid .now) (c .args .taken .now) (c .args .atoms) (c .args .guards .now) (c .args .links) (c .args .sorted .now) (c .args .seen .now) (c .args .passed .now) (c .args .end) (c .pre .2) (c .pre .5))

@@ -6,16 +6,16 @@ use native.Mathlib.Numerals.{add-one}
 use native.Mathlib.Omega.{arith}
 use lib.ListN.{length, replicate}
 use Rattle.rows.specs.Limits.{sheetAtoms, sheetLinks}
-use Rattle.ways.specs.Trails.{FoundIn}
+use Rattle.ways.specs.Trails.{trailRoom, FoundIn}
 use Rattle.ways.proofs.Trails.{laid-none}
 use Rattle.ways.proofs.trail.ways.Statement.{statement}
 use Rattle.ways.proofs.trail.ways.Tie as tie
 
 abbrev Inv-loop : tie.InvT-loop
-Inv-loop laid atoms links taken guards sorted trails seen₀ passed₀ n₀ at₀ seen passed n at = (n ≤ at) × (at ≤ 512) × (length seen ≡ sheetLinks) × (length passed ≡ sheetAtoms) × FoundIn laid taken atoms guards links sorted seen passed n
+Inv-loop laid atoms links taken guards sorted trails seen₀ passed₀ n₀ at₀ seen passed n at = (n ≤ at) × (at ≤ trailRoom) × (length seen ≡ sheetLinks) × (length passed ≡ sheetAtoms) × FoundIn laid taken atoms guards links sorted seen passed n
 
 abbrev μ-loop : tie.MeasureT-loop
-μ-loop laid atoms links taken guards sorted trails seen₀ passed₀ n₀ at₀ seen passed n at = 512 - at
+μ-loop laid atoms links taken guards sorted trails seen₀ passed₀ n₀ at₀ seen passed n at = trailRoom - at
 
 loop-holds : tie.Need-loop-holds Inv-loop μ-loop
 loop-holds c = let a = c .args in (omega arith, omega arith, refl, refl, laid-none (a .laid .now) (a .taken .now) (a .atoms) (a .guards .now) (a .links) (a .sorted .now) (replicate sheetLinks 0) (replicate sheetAtoms 0))

@@ -1,16 +1,14 @@
--- No index leaves its array.
+-- As many turns as ways.
 use borrow.Author.Needs.{needs}
 use Prim.Native.Nat.{_-_}
-use mathlib.Core.Path.{_≡_}
-use lib.ListN.{length}
-use Rattle.ways.proofs.flow.lay_ways.Statement.{statement}
-use Rattle.ways.proofs.flow.lay_ways.Tie as tie
+use Rattle.ways.proofs.flow.find_ways.Statement.{statement}
+use Rattle.ways.proofs.flow.find_ways.Tie as tie
 
 abbrev Inv-loop : tie.InvT-loop
-Inv-loop trails laid chains atoms links taken guards sorted most flow₀ n₀ flow n = length trails ≡ 512
+Inv-loop flow₀ laid chains atoms links taken guards sorted most n₀ flow n = Unit {0}
 
 abbrev μ-loop : tie.MeasureT-loop
-μ-loop trails laid chains atoms links taken guards sorted most flow₀ n₀ flow n = most - n
+μ-loop flow₀ laid chains atoms links taken guards sorted most n₀ flow n = most - n
 
 loop-holds : tie.Need-loop-holds Inv-loop μ-loop
 loop-holds c = search needs
@@ -36,14 +34,11 @@ loop-less c = search needs
 loop-again : tie.Need-loop-again Inv-loop μ-loop
 loop-again c = search needs
 
-lay-requires : tie.Need-lay-requires Inv-loop μ-loop
-lay-requires c κs = search needs
-
 returns-2 : tie.Need-returns-2 Inv-loop μ-loop
 returns-2 c = search needs
 
-pub lay-ways-spec : {M : Type 1} → statement M
-lay-ways-spec =
+pub find-ways-spec : {M : Type 1} → statement M
+find-ways-spec =
     tie.close
     (tie.spec
     Inv-loop
@@ -56,5 +51,4 @@ lay-ways-spec =
     add-n
     loop-less
     loop-again
-    lay-requires
     returns-2)
