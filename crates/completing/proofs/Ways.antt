@@ -1,5 +1,5 @@
 -- Each way from one half of the contexts to the other needs a link of its own that stands on both, or a figure atom of its own
--- that stands on no one half.
+-- that stands on no one half: where they go is guarded, and ways have nothing guarded in common.
 use Prim.Native.Nat.{ℕ, suc, _+_, _≤_, _<_}
 use mathlib.Core.Path.{_≡_, refl, sym, _∙_, ap, subst}
 use mathlib.Core.Logic.{_⊎_, inl, inr}
@@ -12,43 +12,41 @@ use Rattle.placing.specs.Net.{Net, Range, Normal}
 use Rattle.placing.specs.Placing.{Placing, cellAt, atomTo, linkTo, givenTo, Taken, At, PortAt, Inside}
 use Rattle.placing.proofs.FirstLaws.{both-ways}
 use Rattle.placing.proofs.Standing.{context-link, place-link}
-use Rattle.completing.specs.Completion.{Partial, Completion, Completable, remove}
-use Rattle.completing.specs.Fault.{Other}
-use Rattle.completing.specs.Known.{Touches, Known, MayGo}
-use Rattle.completing.specs.Ways.{OnHalf, AtomOnHalf, OnOneHalf, Halved, Route, linksOf, atomsOf, lastLink, Disjoint, Every, Walk, Way, Ways, Passes, SomeAt, OnlyAcross}
+use Rattle.completing.specs.Completion.{remove}
+use Rattle.completing.specs.Known.{Touches, Known}
+use Rattle.completing.specs.Ways.{OnHalf, AtomOnHalf, OnOneHalf, Halved, Route, linksOf, atomsOf, lastLink, Disjoint, Walk, Way, Ways, Passes, SomeAt, OnlyAcross}
 use Rattle.completing.proofs.Lists.{in-remove, remove-shorter}
 use Rattle.completing.proofs.Decide.{taken-dec}
-use Rattle.completing.proofs.Known.{completions-known, no-bars}
 use Rattle.completing.proofs.Halves.{on-half-dec, Crossed, half-crossed, linked-half}
 
 -- Links go by f, atoms by g.
-module _ (f g : ℕ → ℕ) (Guarded : ℕ → Type 0) where
-  -- one of the links goes to a link of the route, or one of the atoms to a guarded atom of it
+module _ (f g : ℕ → ℕ) (GuardedLink GuardedAtom : ℕ → Type 0) where
+  -- one of the links goes to a guarded link of the route, or one of the atoms to a guarded atom of it
   abbrev Broken : List ℕ → List ℕ → Route → Type 0
-  Broken links atoms w = ((x : ℕ) × (x ∈ links) × (f x ∈ linksOf w)) ⊎ ((i : ℕ) × (i ∈ atoms) × Guarded (g i) × (g i ∈ atomsOf w))
+  Broken links atoms w = ((x : ℕ) × (x ∈ links) × GuardedLink (f x) × (f x ∈ linksOf w)) ⊎ ((i : ℕ) × (i ∈ atoms) × GuardedAtom (g i) × (g i ∈ atomsOf w))
 
   -- Each breaks one route.
-  routes-few : (ws : List Route) (links atoms : List ℕ) → Disjoint Every (map linksOf ws) → Disjoint Guarded (map atomsOf ws) → ((w : Route) → w ∈ ws → Broken links atoms w)
+  routes-few : (ws : List Route) (links atoms : List ℕ) → Disjoint GuardedLink (map linksOf ws) → Disjoint GuardedAtom (map atomsOf ws) → ((w : Route) → w ∈ ws → Broken links atoms w)
       → length ws ≤ length links + length atoms
   routes-few [] links atoms d e h = omega arith
   routes-few (w ∷ ws) links atoms d e h = go (h w (List·Memᴰ·head refl)) (λ l a r. routes-few ws l a (d .1) (e .1) r)
     where
-      no-link : (x : ℕ) → f x ∈ linksOf w → (v : Route) → v ∈ ws → Broken links atoms v → Broken (remove x links) atoms v
-      no-link x k v m (inl t) = inl (t .0, in-remove (t .0) x links (t .1) (λ q. d .0 (linksOf v) (Memᴰ·map linksOf m) (f x) tt k (subst (λ (z : ℕ). f z ∈ linksOf v) q (t .2))), t .2)
-      no-link x k v m (inr t) = inr t
+      no-link : (x : ℕ) → GuardedLink (f x) → f x ∈ linksOf w → (v : Route) → v ∈ ws → Broken links atoms v → Broken (remove x links) atoms v
+      no-link x s k v m (inl t) = inl (t .0, in-remove (t .0) x links (t .1) (λ q. d .0 (linksOf v) (Memᴰ·map linksOf m) (f x) s k (subst (λ (z : ℕ). f z ∈ linksOf v) q (t .3))), t .2, t .3)
+      no-link x s k v m (inr t) = inr t
 
-      no-atom : (i : ℕ) → Guarded (g i) → g i ∈ atomsOf w → (v : Route) → v ∈ ws → Broken links atoms v → Broken links (remove i atoms) v
+      no-atom : (i : ℕ) → GuardedAtom (g i) → g i ∈ atomsOf w → (v : Route) → v ∈ ws → Broken links atoms v → Broken links (remove i atoms) v
       no-atom i s k v m (inl t) = inl t
       no-atom i s k v m (inr t) = inr (t .0, in-remove (t .0) i atoms (t .1) (λ q. e .0 (atomsOf v) (Memᴰ·map atomsOf m) (g i) s k (subst (λ (z : ℕ). g z ∈ atomsOf v) q (t .3))), t .2, t .3)
 
       go : Broken links atoms w → ((l a : List ℕ) → ((v : Route) → v ∈ ws → Broken l a v) → length ws ≤ length l + length a) → suc (length ws) ≤ length links + length atoms
-      go (inl t) r = let s = remove-shorter (t .0) links (t .1) in let u = r (remove (t .0) links) atoms (λ v m. no-link (t .0) (t .2) v m (h v (List·Memᴰ·tail m))) in omega arith
+      go (inl t) r = let s = remove-shorter (t .0) links (t .1) in let u = r (remove (t .0) links) atoms (λ v m. no-link (t .0) (t .2) (t .3) v m (h v (List·Memᴰ·tail m))) in omega arith
       go (inr t) r = let s = remove-shorter (t .0) atoms (t .1) in let u = r links (remove (t .0) atoms) (λ v m. no-atom (t .0) (t .2) (t .3) v m (h v (List·Memᴰ·tail m))) in omega arith
 
 module _ (S F : Net) (NS : Normal S) (NF : Normal F) (P : Placing → Type 0) (may sure : ℕ → ℕ → Type 0) (other : ℕ → Type 0) (known : Known S F P may sure other)
     (X : ℕ → Bool) (first second : ℕ → Type 0) (halved : Halved F X first second)
-    (pass : ℕ → Type 0) (pass-atom : (j : ℕ) → pass j → Range (length (S .atoms)) j) (Guarded : ℕ → Type 0) (breaking : List ℕ)
-    (taken-by : (p : Placing) → P p → (j : ℕ) → pass j → (t : Taken S F p j) → ((t .by ∈ breaking) × Guarded j) ⊎ OnOneHalf F X (t .by)) where
+    (pass : ℕ → Type 0) (pass-atom : (j : ℕ) → pass j → Range (length (S .atoms)) j) (GuardedLink GuardedAtom : ℕ → Type 0) (breaking : List ℕ)
+    (taken-by : (p : Placing) → P p → (j : ℕ) → pass j → (t : Taken S F p j) → ((t .by ∈ breaking) × GuardedAtom j) ⊎ OnOneHalf F X (t .by)) where
   module _ (p : Placing) (c : P p) where
     abbrev Cross : ℕ → Type 0
     Cross y = Crossed F X S p y
@@ -83,12 +81,12 @@ module _ (S F : Net) (NS : Normal S) (NF : Normal F) (P : Placing → Type 0) (m
 
     -- a figure atom of the list goes to j, which is guarded
     abbrev Breaks : ℕ → Type 0
-    Breaks j = (t : Taken S F p j) × (t .by ∈ breaking) × Guarded j
+    Breaks j = (t : Taken S F p j) × (t .by ∈ breaking) × GuardedAtom j
 
     sided : (j : ℕ) → pass j → Breaks j ⊎ ((b : Bool) × ((y : ℕ) → Touches S j y → Faces b y))
     sided j r = go (taken-dec S F p j)
       where
-        by : (t : Taken S F p j) → ((t .by ∈ breaking) × Guarded j) ⊎ OnOneHalf F X (t .by) → Breaks j ⊎ ((b : Bool) × ((y : ℕ) → Touches S j y → Faces b y))
+        by : (t : Taken S F p j) → ((t .by ∈ breaking) × GuardedAtom j) ⊎ OnOneHalf F X (t .by) → Breaks j ⊎ ((b : Bool) × ((y : ℕ) → Touches S j y → Faces b y))
         by t (inl s) = inl (t, s .0, s .1)
         by t (inr (inl a)) = inr (true, taken-faces true j r t a)
         by t (inr (inr a)) = inr (false, taken-faces false j r t a)
@@ -152,29 +150,20 @@ module _ (S F : Net) (NS : Normal S) (NF : Normal F) (P : Placing → Type 0) (m
         go (inr (true, g)) = later y s l (walk-on l (s .1) (g (s .1) (w .0 .2)) (w .1) v)
         go (inr (false, g)) = inl (y, List·Memᴰ·head refl, at-end false (u .0) y (u .1) (halved .not-second (u .0) (u .2)) (g y (w .0 .1)))
 
-    way-broken : (across : List ℕ) (w : Route) → Way (Passes S pass) (SomeAt sure first) (SomeAt sure second) (OnlyAcross F X may across) w → Broken (linkTo p) (atomTo p) Guarded across breaking w
+    way-broken : (across : List ℕ) (w : Route) → Way (Passes S pass) (SomeAt sure first) (SomeAt sure second) (OnlyAcross F X may across GuardedLink) w
+        → Broken (linkTo p) (atomTo p) GuardedLink GuardedAtom across breaking w
     way-broken across w g = go (way-met (w .0) (w .1) (g .walk) (g .start) (g .end))
       where
-        go : Met w → Broken (linkTo p) (atomTo p) Guarded across breaking w
-        go (inl t) = inl (t .2 .link, g .free (t .0) (t .1) (t .2 .link) (known .may-go p c (t .2 .link) (t .0) (t .2 .at)) (t .2 .both), Memᴰ·cast (t .2 .at .there) (t .1))
-        go (inr t) = let e : atomTo p (t .2 .0 .by) ≡ t .0 = t .2 .0 .there in inr (t .2 .0 .by, t .2 .1, subst Guarded (sym e) (t .2 .2), Memᴰ·cast e (t .1))
+        go : Met w → Broken (linkTo p) (atomTo p) GuardedLink GuardedAtom across breaking w
+        go (inl t) = let e : linkTo p (t .2 .link) ≡ t .0 = t .2 .at .there in
+            let s = g .free (t .0) (t .1) (t .2 .link) (known .may-go p c (t .2 .link) (t .0) (t .2 .at)) (t .2 .both) in
+            inl (t .2 .link, s .0, subst GuardedLink (sym e) (s .1), Memᴰ·cast e (t .1))
+        go (inr t) = let e : atomTo p (t .2 .0 .by) ≡ t .0 = t .2 .0 .there in inr (t .2 .0 .by, t .2 .1, subst GuardedAtom (sym e) (t .2 .2), Memᴰ·cast e (t .1))
 
   -- More ways than links on both halves that may go to them, and figure atoms that break them: no placing of the family is left.
-  pub ways-outnumber : (across : List ℕ) (n : ℕ) → Ways (Passes S pass) (SomeAt sure first) (SomeAt sure second) (OnlyAcross F X may across) Guarded n → length across + length breaking < n
-      → (p : Placing) → ¬ P p
+  pub ways-outnumber : (across : List ℕ) (n : ℕ) → Ways (Passes S pass) (SomeAt sure first) (SomeAt sure second) (OnlyAcross F X may across GuardedLink) GuardedLink GuardedAtom n
+      → length across + length breaking < n → (p : Placing) → ¬ P p
   ways-outnumber across n ways more p c =
-      let m = routes-few (linkTo p) (atomTo p) Guarded (ways .routes) across breaking (ways .disjoint) (ways .apart) (λ w i. way-broken p c across w (ways .all-ways w i)) in
+      let m = routes-few (linkTo p) (atomTo p) GuardedLink GuardedAtom (ways .routes) across breaking (ways .disjoint) (ways .apart) (λ w i. way-broken p c across w (ways .all-ways w i)) in
       let e = ways .count in
       omega arith
-
--- The same for completions: the list has the unsettled links on both halves, and no settled one goes to a link of a way.
-pub ways-not-completable : (S F : Net) → Normal S → Normal F → (q : Placing) (un : List ℕ) → Partial S F q un
-    → (X : ℕ → Bool) (first second : ℕ → Type 0) → Halved F X first second → (across : List ℕ) (n : ℕ)
-    → Ways (Passes S (Other S F q)) (SomeAt (At S F q) first) (SomeAt (At S F q) second) (OnlyAcross F X (MayGo q un (λ x y. ⊥)) across) (λ j. ⊥) n → length across < n
-    → ¬ Completable S F q un
-ways-not-completable S F NS NF q un a X first second halved across n ways more t =
-    ways-outnumber S F NS NF (Completion S F q un) (MayGo q un (λ x y. ⊥)) (At S F q) (Other S F q) known
-    X first second halved (Other S F q) (λ j o. o .0) (λ j. ⊥) [] (λ p c j o k. absurd (known .not-taken p c j o k)) across n ways (omega arith) (t .0) (t .1)
-  where
-    known : Known S F (Completion S F q un) (MayGo q un (λ x y. ⊥)) (At S F q) (Other S F q)
-    known = completions-known S F q un a (λ x y. ⊥) (no-bars S F q un)

@@ -54,9 +54,6 @@ abbrev pub Disjoint : (ℕ → Type 0) → List (List ℕ) → Type 0
 Disjoint P [] = Unit {0}
 Disjoint P (k ∷ ls) = ((l : List ℕ) → l ∈ ls → (y : ℕ) → P y → y ∈ k → ¬ (y ∈ l)) × Disjoint P ls
 
-abbrev pub Every : ℕ → Type 0
-Every y = Unit {0}
-
 -- Step y j z: a step leads from link y through atom j to link z.
 module _ (Step : ℕ → ℕ → ℕ → Type 0) where
   abbrev pub Walk : ℕ → List (ℕ × ℕ) → Type 0
@@ -71,13 +68,13 @@ module _ (Step : ℕ → ℕ → ℕ → Type 0) where
       pub end : Ends (lastLink (w .0) (w .1))
       pub free : (y : ℕ) → y ∈ linksOf w → Free y
 
-    -- n ways, no two of them with a link or a guarded atom in common
-    pub record Ways (Guarded : ℕ → Type 0) (n : ℕ) : Type 0 where
+    -- n ways, no two of them with a guarded link or a guarded atom in common
+    pub record Ways (GuardedLink GuardedAtom : ℕ → Type 0) (n : ℕ) : Type 0 where
       pub routes : List Route
       pub count : length routes ≡ n
       pub all-ways : (w : Route) → w ∈ routes → Way w
-      pub disjoint : Disjoint Every (map linksOf routes)
-      pub apart : Disjoint Guarded (map atomsOf routes)
+      pub disjoint : Disjoint GuardedLink (map linksOf routes)
+      pub apart : Disjoint GuardedAtom (map atomsOf routes)
 
 -- through an atom that may be passed
 abbrev pub Passes : Net → (ℕ → Type 0) → ℕ → ℕ → ℕ → Type 0
@@ -87,6 +84,6 @@ Passes S pass y j z = pass j × Touches S j y × Touches S j z
 abbrev pub SomeAt : (ℕ → ℕ → Type 0) → (ℕ → Type 0) → ℕ → Type 0
 SomeAt sure these y = (x : ℕ) × sure x y × these x
 
--- the links on both halves that may go to y are in this list
-abbrev pub OnlyAcross : Net → (ℕ → Bool) → (ℕ → ℕ → Type 0) → List ℕ → ℕ → Type 0
-OnlyAcross F X may across y = (x : ℕ) → may x y → OnBoth F X x → x ∈ across
+-- the links on both halves that may go to y are in this list, and y is guarded if there are any
+abbrev pub OnlyAcross : Net → (ℕ → Bool) → (ℕ → ℕ → Type 0) → List ℕ → (ℕ → Type 0) → ℕ → Type 0
+OnlyAcross F X may across GuardedLink y = (x : ℕ) → may x y → OnBoth F X x → (x ∈ across) × GuardedLink y

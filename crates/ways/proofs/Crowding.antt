@@ -20,20 +20,21 @@ use Rattle.candidates.specs.Tables.{AtomIn, LinkIn, mayAtom, mayLink}
 use Rattle.candidates.specs.Words.{In}
 use Rattle.candidates.proofs.GoodPlaces.{decided-real}
 use Rattle.completing.specs.Known.{Stands, Touches}
-use Rattle.completing.specs.Ways.{OnHalf, OnOneHalf}
+use Rattle.completing.specs.Ways.{OnHalf, OnBoth, OnOneHalf}
 use Rattle.stepping.specs.Standing.{digitOf, Described}
 use Rattle.ways.specs.Halves.{onFirst, halfOf}
-use Rattle.ways.specs.Agrees.{Agrees, NoneAgrees}
-use Rattle.ways.specs.Nodes.{NodeOf, NoneStays, OnRow, OnMark, OnlyLink, Tells, RowOnHalf, Guarded, Guards, GuardsTo, Shut}
+use Rattle.ways.specs.Agrees.{Among, Agrees, NoneAgrees}
+use Rattle.ways.specs.Nodes.{NodeOf, NoneStays, OnRow, OnMark, OnlyLink, Tells, GuardsLinksTo, RowOnHalf, Guarded, Guards, GuardsTo, Shut}
 use Rattle.ways.proofs.Words.{half-one, half-two}
 use Rattle.ways.proofs.Steps.{row-touches, touches-row}
+use Rattle.ways.proofs.Refusing.{both-half}
 
 module _ (sheet figure : NormalForm) (atoms links count : ℕ) (laid chains : List ℕ) (rows : ℕ) (parts words marked : List ℕ) (marks : ℕ) (node : NodeOf sheet figure atoms links count laid chains rows parts words marked marks) where
   count-small : count ≤ sheetLinks
   count-small = let h = node .ready .figure-fit .class-count in let e = node .figure-links in omega arith
 
-  pub node-described : (sets to flags : List ℕ) → Tells parts rows marked marks sets (suc links) to flags → Described sheet figure atoms links count chains words to
-  node-described sets to flags t = record {
+  pub node-described : (sets to flags opens : List ℕ) → Tells parts rows marked marks sets (suc links) to flags opens → Described sheet figure atoms links count chains words to
+  node-described sets to flags opens t = record {
     ready = node .ready;
     sheet-atoms = node .sheet-out .count;
     sheet-links = node .sheet-links;
@@ -76,27 +77,26 @@ module _ (sheet figure : NormalForm) (atoms links count : ℕ) (laid chains : Li
   row-half side i l (inr on) = inr (λ x m. let r = row-links side 1 i l on x m in on-second side x (r .0) (r .1))
 
   module _ (places sets : List ℕ) (p : Placing) (good : Good (netIn sheet) (netIn figure) p) (stays : Obeys (netIn sheet) (netIn figure) (mayAtom places) (mayLink sets) p) where
-    -- A link of a row, or with a mark, that has one place goes there.
+    by : (x : ℕ) → OnRow parts rows x ⊎ OnMark marked marks x → Decided (netIn figure) (suc x)
+    by x (inl (i, k, h, l, e)) = by-atom (suc i) (row-atom i h) (subst (Touches (netIn figure) (suc i)) e (row-touches figure parts rows (node .figure-out) i h k l))
+    by x (inr (q, h, e)) = by-mark (getD (figure .marks) q 0) (subst (λ (z : ℕ). (z, getD (figure .marks) q 0) ∈ netIn figure .marks) (ap (λ (l : List ℕ). getD l q 0) (node .figure-marked) ∙ e) (mark-in figure (node .ready .figure-fit) q (let d = node .figure-marks in omega arith)))
+
+    -- A link of a row, or with a mark, goes to a link of its set.
+    in-set : (x : ℕ) → OnRow parts rows x ⊎ OnMark marked marks x → LinkIn sets x (linkTo p (suc x) - 1)
+    in-set x on = subst (λ (z : ℕ). LinkIn sets z (linkTo p (suc x) - 1)) (let d : suc x - 1 ≡ x = omega arith in d) (stays .links (suc x) (by x on))
+
+    -- One that has one place goes there.
     goes-only : (x y : ℕ) → OnRow parts rows x ⊎ OnMark marked marks x → OnlyLink sets x y → linkTo p (suc x) ≡ y
-    goes-only x y on only = up ∙ only (linkTo p (suc x) - 1) (let s = node .ready .sheet-fit .class-count in omega (arith, real .0, real .1)) there
+    goes-only x y on only = up ∙ only (linkTo p (suc x) - 1) (let s = node .ready .sheet-fit .class-count in omega (arith, real .0, real .1)) (in-set x on)
       where
-        by : OnRow parts rows x ⊎ OnMark marked marks x → Decided (netIn figure) (suc x)
-        by (inl (i, k, h, l, e)) = by-atom (suc i) (row-atom i h) (subst (Touches (netIn figure) (suc i)) e (row-touches figure parts rows (node .figure-out) i h k l))
-        by (inr (q, h, e)) = by-mark (getD (figure .marks) q 0) (subst (λ (z : ℕ). (z, getD (figure .marks) q 0) ∈ netIn figure .marks) (ap (λ (l : List ℕ). getD l q 0) (node .figure-marked) ∙ e) (mark-in figure (node .ready .figure-fit) q (let d = node .figure-marks in omega arith)))
-
-        decided : Decided (netIn figure) (suc x)
-        decided = by on
-
         real : Range (sheet .«class_count») (linkTo p (suc x))
-        real = decided-real (netIn sheet) (netIn figure) (node .ready .sheet-normal) (node .ready .figure-normal) p good (suc x) decided
+        real = decided-real (netIn sheet) (netIn figure) (node .ready .sheet-normal) (node .ready .figure-normal) p good (suc x) (by x on)
 
         up : linkTo p (suc x) ≡ suc (linkTo p (suc x) - 1)
         up = omega (arith, real .0)
 
-        there : LinkIn sets x (linkTo p (suc x) - 1)
-        there = subst (λ (z : ℕ). LinkIn sets z (linkTo p (suc x) - 1)) (let d : suc x - 1 ≡ x = omega arith in d) (stays .links (suc x) decided)
-
-    module _ (to flags : List ℕ) (t : Tells parts rows marked marks sets (suc links) to flags) (taken : List ℕ) (side r : ℕ) (g : GuardsTo parts words places atoms side rows taken r) where
+    module _ (to flags opens : List ℕ) (t : Tells parts rows marked marks sets (suc links) to flags opens) (taken guarded : List ℕ) (side r : ℕ) (g : GuardsTo parts words places atoms side rows taken r)
+        (k : GuardsLinksTo sets opens words flags side count guarded) where
       goes : (x : ℕ) → x < figure .«class_count» → (getD flags x 0 ≢ 1) ⊎ (getD to x 0 ≢ suc (sheet .«class_count»)) → linkTo p (suc x) ≡ getD to x 0
       goes x h w = go (t .told x (let s = count-small in let e = node .figure-links in omega arith)) w
         where
@@ -104,6 +104,18 @@ module _ (sheet figure : NormalForm) (atoms links count : ℕ) (laid chains : Li
           go (inl u) (inl n) = absurd (n (u .1))
           go (inl u) (inr n) = absurd (n (u .0 ∙ ap suc (sym (node .sheet-links))))
           go (inr u) v = goes-only x (getD to x 0) (u .0) (u .1)
+
+      -- Where a link goes that has a flag and stands on both halves is guarded.
+      held : (x : ℕ) → x < figure .«class_count» → getD flags x 0 ≡ 1 → OnBoth (netIn figure) (onFirst side) (suc x) → Range (sheet .«class_count») (linkTo p (suc x)) → Among guarded (linkTo p (suc x))
+      held x h f o l = (
+        linkTo p (suc x) - 1,
+        omega (arith, l .0),
+        k x (let e = node .figure-links in omega arith) f both (linkTo p (suc x) - 1) (let s = node .ready .sheet-fit .class-count in omega (arith, l .0, l .1)) (λ n. in-set x (t .decided x (let s = count-small in let e = node .figure-links in omega arith) n)),
+      )
+        where
+          both : halfOf (getD words x 0) side ≡ 3
+          both = ap (λ (i : ℕ). halfOf (getD words i 0) side) (let d : x ≡ suc x - 1 = omega arith in d)
+              ∙ both-half sheet figure atoms links count chains words to (node-described sets to flags opens t) side (suc x) o .1
 
       -- row i goes to an atom that is not taken
       by-row : (row i : ℕ) → row < atoms → i < rows → getD taken row 0 ≢ 1 → AtomIn places i row → Guards parts words places atoms side taken (g .breaking) i
@@ -134,17 +146,17 @@ module _ (sheet figure : NormalForm) (atoms links count : ℕ) (laid chains : Li
           there : k .by - 1 < rows
           there = let e = atoms-length figure (node .ready .figure-fit) in let d = node .figure-out .count in omega (arith, k .of-figure .0, k .of-figure .1)
 
-      stays-agrees : Agrees sheet figure to flags taken side (g .breaking) p
-      stays-agrees = record { good = good; goes = goes; passed = passed-by taken (g .breaking) by-row }
+      stays-agrees : Agrees sheet figure to flags taken guarded side (g .breaking) p
+      stays-agrees = record { good = good; goes = goes; held = held; passed = passed-by taken (g .breaking) by-row }
 
-      shut-agrees : (now : List ℕ) → Shut atoms taken now → Agrees sheet figure to flags now side [] p
-      shut-agrees now shut = record { good = good; goes = goes; passed = passed-by now [] (by-row-shut now shut) }
+      shut-agrees : (now : List ℕ) → Shut atoms taken now → Agrees sheet figure to flags now guarded side [] p
+      shut-agrees now shut = record { good = good; goes = goes; held = held; passed = passed-by now [] (by-row-shut now shut) }
 
-  pub none-stays : (places sets to flags taken : List ℕ) (side r : ℕ) → Tells parts rows marked marks sets (suc links) to flags → GuardsTo parts words places atoms side rows taken r
-      → (b : Bool) → NoneAgrees sheet figure to flags taken side r b → NoneStays sheet figure places sets b
-  none-stays places sets to flags taken side r t g b none e p good stays = none e (g .breaking) (let n = g .number in omega arith) p (stays-agrees places sets p good stays to flags t taken side r g)
+  pub none-stays : (places sets to flags opens taken guarded : List ℕ) (side r : ℕ) → Tells parts rows marked marks sets (suc links) to flags opens → GuardsTo parts words places atoms side rows taken r
+      → GuardsLinksTo sets opens words flags side count guarded → (b : Bool) → NoneAgrees sheet figure to flags taken guarded side r b → NoneStays sheet figure places sets b
+  none-stays places sets to flags opens taken guarded side r t g k b none e p good stays = none e (g .breaking) (let n = g .number in omega arith) p (stays-agrees places sets p good stays to flags opens t taken guarded side r g k)
 
   -- and where no way passes what is guarded, none breaks it
-  pub none-stays-shut : (places sets to flags taken now : List ℕ) (side r : ℕ) → Tells parts rows marked marks sets (suc links) to flags → GuardsTo parts words places atoms side rows taken r → Shut atoms taken now
-      → (b : Bool) → NoneAgrees sheet figure to flags now side 0 b → NoneStays sheet figure places sets b
-  none-stays-shut places sets to flags taken now side r t g shut b none e p good stays = none e [] (omega arith) p (shut-agrees places sets p good stays to flags t taken side r g now shut)
+  pub none-stays-shut : (places sets to flags opens taken now guarded : List ℕ) (side r : ℕ) → Tells parts rows marked marks sets (suc links) to flags opens → GuardsTo parts words places atoms side rows taken r
+      → GuardsLinksTo sets opens words flags side count guarded → Shut atoms taken now → (b : Bool) → NoneAgrees sheet figure to flags now guarded side 0 b → NoneStays sheet figure places sets b
+  none-stays-shut places sets to flags opens taken now guarded side r t g k shut b none e p good stays = none e [] (omega arith) p (shut-agrees places sets p good stays to flags opens t taken guarded side r g k now shut)

@@ -8,4 +8,5 @@ pub mod Refusing
 -- Tables of a search node.
 pub mod Telling
 pub mod Guarding
+pub mod GuardedLinks
 pub mod Crowding

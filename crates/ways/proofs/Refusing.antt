@@ -19,7 +19,7 @@ use Rattle.network.specs.NetIn.{netIn}
 use Rattle.network.specs.Ready.{Ready, TakenIn, stateIn}
 use Rattle.network.proofs.NetIn.{atoms-length}
 use Rattle.candidates.specs.Laid.{LaidOut}
-use Rattle.candidates.specs.Words.{In}
+use Rattle.candidates.specs.Words.{In, InPair}
 use Rattle.completing.specs.Completion.{Partial, Completion}
 use Rattle.completing.specs.Known.{Stands, Known}
 use Rattle.completing.specs.Ways.{OnBoth, OnOneHalf, Halved, SomeAt, OnlyAcross}
@@ -30,11 +30,12 @@ use Rattle.stepping.specs.Flags.{Within}
 use Rattle.stepping.specs.Standing.{digitOf, Described}
 use Rattle.stepping.proofs.Reading.{link-at}
 use Rattle.ways.specs.Halves.{onFirst, halfOf, sortedTo, Sorts, Crossing}
-use Rattle.ways.specs.Agrees.{Agrees, NoneAgrees}
+use Rattle.ways.specs.Agrees.{Among, Agrees, NoneAgrees}
 use Rattle.ways.specs.Trails.{Passable, Flagged, Unflagged, Has, WaysIn}
 use Rattle.ways.proofs.Words.{half-first, half-second, half-both}
 use Rattle.ways.proofs.Steps.{laid-passes}
 use Rattle.ways.proofs.Trails.{ways-as}
+use Rattle.ways.proofs.GuardedLinks.{allLinks, all-links}
 
 module _ (sheet figure : NormalForm) (atoms links count : ℕ) (chains words to : List ℕ) (d : Described sheet figure atoms links count chains words to) where
   pub links-few : links ≤ sheetLinks
@@ -53,10 +54,11 @@ module _ (sheet figure : NormalForm) (atoms links count : ℕ) (chains words to 
   abbrev Surely : ℕ → ℕ → Type 0
   Surely x y = Range count x × Range links y × (getD to (x - 1) 0 ≡ y)
 
-  abbrev Maybe : List ℕ → ℕ → ℕ → Type 0
-  Maybe flags x y = (getD to (x - 1) 0 ≡ y) ⊎ (getD flags (x - 1) 0 ≡ 1)
-
   module _ (side : ℕ) where
+    -- where it has a flag and stands on both halves, to a guarded link
+    abbrev Maybe : List ℕ → List ℕ → ℕ → ℕ → Type 0
+    Maybe flags guarded x y = (getD to (x - 1) 0 ≡ y) ⊎ ((getD flags (x - 1) 0 ≡ 1) × (OnBoth (netIn figure) (onFirst side) x → Among guarded y))
+
     -- figure link x, from 1, is of half h
     Half : ℕ → ℕ → Type 0
     Half h x = halfOf (getD words (x - 1) 0) side ≡ h
@@ -83,7 +85,7 @@ module _ (sheet figure : NormalForm) (atoms links count : ℕ) (chains words to 
       apart = λ x g h. omega arith;
     }
 
-    both-half : (x : ℕ) → OnBoth (netIn figure) (onFirst side) x → Range count x × Half 3 x
+    pub both-half : (x : ℕ) → OnBoth (netIn figure) (onFirst side) x → Range count x × (halfOf (getD words (x - 1) 0) side ≡ 3)
     unfolding Half
     both-half x t =
         let u = stands-in x (t .0 .0) (t .0 .1) in
@@ -91,23 +93,28 @@ module _ (sheet figure : NormalForm) (atoms links count : ℕ) (chains words to 
         (u .0, half-both (getD words (x - 1) 0) side (digitOf (t .0 .0)) (digitOf (t .1 .0)) (u .1) (on-first (t .0 .0) (t .0 .2)) (v .1) (not-first (t .1 .0) (t .1 .2)))
 
     -- What the tables say of the placings that agree with them.
-    module _ (flags taken breaking : List ℕ) where
+    module _ (flags taken guarded breaking : List ℕ) where
       abbrev Agreeing : Placing → Type 0
-      Agreeing p = Agrees sheet figure to flags taken side breaking p
+      Agreeing p = Agrees sheet figure to flags taken guarded side breaking p
 
       goes-at : (p : Placing) → Agreeing p → (x : ℕ) → Range count x → (getD flags (x - 1) 0 ≢ 1) ⊎ (getD to (x - 1) 0 ≢ suc (sheet .«class_count»)) → linkTo p x ≡ getD to (x - 1) 0
       goes-at p a x r s =
           let up : x ≡ suc (x - 1) = omega (arith, r .0) in
           ap (linkTo p) up ∙ a .goes (x - 1) (let e = d .figure-links in omega (arith, r .0, r .1)) s
 
-      agreeing-known : Known (netIn sheet) (netIn figure) Agreeing (Maybe flags) Surely (λ j. ⊥)
+      agreeing-known : Known (netIn sheet) (netIn figure) Agreeing (Maybe flags guarded) Surely (λ j. ⊥)
       agreeing-known = record { good = λ p a. a .good; may-go = may; surely = sure; is-atom = λ j o. absurd o; not-taken = λ p a j o. absurd o }
         where
-          may : (p : Placing) → Agreeing p → (x y : ℕ) → At (netIn sheet) (netIn figure) p x y → Maybe flags x y
+          held : (p : Placing) → Agreeing p → (x y : ℕ) → At (netIn sheet) (netIn figure) p x y → getD flags (x - 1) 0 ≡ 1 → OnBoth (netIn figure) (onFirst side) x → Among guarded y
+          held p a x y t e o =
+              let up : x ≡ suc (x - 1) = omega (arith, t .figure-link .0) in
+              subst (Among guarded) (ap (linkTo p) (sym up) ∙ t .there) (a .held (x - 1) (omega (arith, t .figure-link .0, t .figure-link .1)) e (subst (OnBoth (netIn figure) (onFirst side)) up o) (subst (Range (sheet .«class_count»)) (sym (t .there) ∙ ap (linkTo p) up) (t .sheet-link)))
+
+          may : (p : Placing) → Agreeing p → (x y : ℕ) → At (netIn sheet) (netIn figure) p x y → Maybe flags guarded x y
           may p a x y t = go (ℕ-discrete (getD flags (x - 1) 0) 1)
             where
-              go : Dec (getD flags (x - 1) 0 ≡ 1) → Maybe flags x y
-              go (yes e) = inr e
+              go : Dec (getD flags (x - 1) 0 ≡ 1) → Maybe flags guarded x y
+              go (yes e) = inr (e, held p a x y t e)
               go (no n) = inl (sym (goes-at p a x (t .figure-link .0, let e = d .figure-links in omega (arith, t .figure-link .1)) (inl n)) ∙ t .there)
 
           sure : (p : Placing) → Agreeing p → (x y : ℕ) → Surely x y → At (netIn sheet) (netIn figure) p x y
@@ -153,37 +160,43 @@ module _ (sheet figure : NormalForm) (atoms links count : ℕ) (chains words to 
               let i : halfOf (getD words x 0) side ≡ h = omega (arith, r .0, r .1) in
               (omega (arith, r .0, r .1, i, g .link), i)
 
-      -- Where there is no flag of both, only links on both that have a flag may go.
-      unflagged-only : (flags : List ℕ) (m : ℕ) (c : Crossing words flags side count m) → (y : ℕ) → Unflagged table 3 links y → OnlyAcross (netIn figure) (onFirst side) (Maybe flags) (c .across) y
-      unfolding Half
-      unflagged-only flags m c y g x (inl e) t =
-          let b = both-half x t in
-          let l = g .place-in in
-          let k = g .link in
-          absurd (g .no-flag (sorts (3 * sheetLinks + g .place) .1 (x - 1, omega (arith, b .0 .0, b .0 .1), ((λ n. omega arith), omega (arith, b .1)))))
-      unflagged-only flags m c y g x (inr u) t =
-          let b = both-half x t in
-          let up : x ≡ suc (x - 1) = omega (arith, b .0 .0) in
-          subst (λ (z : ℕ). z ∈ c .across) (sym up) (c .all (x - 1) (omega (arith, b .0 .0, b .0 .1)) u (b .1))
+      -- Where there is no flag of both, only links on both that have a flag may go, and what they may go to is guarded.
+      module _ (guarded guards : List ℕ) (spread : (y : ℕ) → y < links → InPair guarded y → getD guards y 0 ≡ 1) where
+        unflagged-only : (flags : List ℕ) (m : ℕ) (c : Crossing words flags side count m) → (y : ℕ) → Unflagged table 3 links y → OnlyAcross (netIn figure) (onFirst side) (Maybe flags guarded) (c .across) (Has 1 guards) y
+        unfolding Half
+        unflagged-only flags m c y g x (inl e) t =
+            let b = both-half x t in
+            let l = g .place-in in
+            let k = g .link in
+            absurd (g .no-flag (sorts (3 * sheetLinks + g .place) .1 (x - 1, omega (arith, b .0 .0, b .0 .1), ((λ n. omega arith), omega (arith, b .1)))))
+        unflagged-only flags m c y g x (inr u) t =
+            let b = both-half x t in
+            let up : x ≡ suc (x - 1) = omega (arith, b .0 .0) in
+            let i = u .1 t in
+            let l = g .place-in in
+            let k = g .link in
+            let e : y ≡ suc (i .0) = i .1 in
+            (subst (λ (z : ℕ). z ∈ c .across) (sym up) (c .all (x - 1) (omega (arith, b .0 .0, b .0 .1)) (u .0) (b .1)), (i .0, e, spread (i .0) (omega arith) (i .2)))
 
     -- More ways than links across and atoms that break ways.
-    pub ways-none-agree : (laid taken flags table : List ℕ) (m n k : ℕ) → LaidOut sheet laid atoms → Sorts words to (links + 1) side count table → Crossing words flags side count m
-        → WaysIn laid taken atoms links table n → m + k < n → (r : Bool) → NoneAgrees sheet figure to flags taken side k r
+    pub ways-none-agree : (laid taken flags guarded guards table : List ℕ) (m n k : ℕ) → LaidOut sheet laid atoms → Sorts words to (links + 1) side count table → Crossing words flags side count m
+        → ((y : ℕ) → y < links → InPair guarded y → getD guards y 0 ≡ 1) → WaysIn laid taken atoms guards links table n → m + k < n → (r : Bool) → NoneAgrees sheet figure to flags taken guarded side k r
     unfolding Half
-    ways-none-agree laid taken flags table m n k out sorts c ways more r e breaking few =
-        ways-outnumber (netIn sheet) (netIn figure) (d .ready .sheet-normal) (d .ready .figure-normal) (Agrees sheet figure to flags taken side breaking) (Maybe flags) Surely (λ j. ⊥)
-        (agreeing-known flags taken breaking) (onFirst side) (Half 1) (Half 2) halved (Passable taken atoms) (passable-atom taken) (Has 2 taken) breaking (agreeing-taken flags taken breaking) (c .across) n
-        (ways-as (laid-passes sheet laid taken atoms out) (flagged-at table sorts 1) (flagged-at table sorts 2) (unflagged-only table sorts flags m c) n ways)
+    ways-none-agree laid taken flags guarded guards table m n k out sorts c spread ways more r e breaking few =
+        ways-outnumber (netIn sheet) (netIn figure) (d .ready .sheet-normal) (d .ready .figure-normal) (Agrees sheet figure to flags taken guarded side breaking) (Maybe flags guarded) Surely (λ j. ⊥)
+        (agreeing-known flags taken guarded breaking) (onFirst side) (Half 1) (Half 2) halved (Passable taken atoms) (passable-atom taken) (Has 1 guards) (Has 2 taken) breaking (agreeing-taken flags taken guarded breaking) (c .across) n
+        (ways-as (laid-passes sheet laid taken atoms out) (flagged-at table sorts 1) (flagged-at table sorts 2) (unflagged-only table sorts guarded guards spread flags m c) n ways)
         (let h = c .number in omega arith)
 
 -- A completion agrees with the tables of the placed atoms.
 pub completion-agrees : (sheet figure : NormalForm) → Ready sheet figure → (side : ℕ) (list to flags taken un : List ℕ) → TakenIn sheet figure (stateIn figure list to) taken
     → Partial (netIn sheet) (netIn figure) (stateIn figure list to) un → ((x : ℕ) → suc x ∈ un → getD flags x 0 ≡ 1)
-    → (p : Placing) → Completion (netIn sheet) (netIn figure) (stateIn figure list to) un p → Agrees sheet figure to flags taken side [] p
+    → (p : Placing) → Completion (netIn sheet) (netIn figure) (stateIn figure list to) un p → Agrees sheet figure to flags taken allLinks side [] p
 completion-agrees sheet figure ready side list to flags taken un t a f p c = record {
   good = c .good;
   goes = λ x h w. let r : Range (figure .«class_count») (suc x) = (omega arith, omega arith) in
       c .settled (suc x) r (λ m. settled x h m w) ∙ at x h;
+  held = λ x h e o r. (linkTo p (suc x) - 1, omega (arith, r .0), all-links (linkTo p (suc x) - 1) (let f = ready .sheet-fit .class-count in omega (arith, r .0, r .1)));
   passed = λ row h n k. absurd (n (subst (λ (i : ℕ). getD taken i 0 ≡ 1) (let e : suc row - 1 ≡ row = omega arith in e)
       (t .flags (suc row) (omega arith, omega arith) .1 (taken-same (netIn sheet) (netIn figure) p (stateIn figure list to) (c .same-atoms) (suc row) k))));
 }

@@ -24,18 +24,39 @@ only-without sets x pair e y small rest f none z h i = go (ℕ-discrete z y)
     go (no n) = absurd (none-in-pair rest none z (in-pair h) (in-without pair y small rest f z (in-pair h) (subst (λ (l : List ℕ). InPair l z) (sym e) (pair-in sets x z h i)) n))
 
 -- Nothing is told at first.
-pub tells-none : (parts : List ℕ) (n : ℕ) (marked : List ℕ) (m : ℕ) (sets : List ℕ) (none : ℕ) → 1 ≤ none → Tells parts n marked m sets none (replicate sheetLinks none) (replicate sheetLinks 1)
+pub tells-none : (parts : List ℕ) (n : ℕ) (marked : List ℕ) (m : ℕ) (sets : List ℕ) (none : ℕ) → 1 ≤ none → Tells parts n marked m sets none (replicate sheetLinks none) (replicate sheetLinks 1) (replicate sheetLinks 1)
 tells-none parts n marked m sets none h = record {
   room = refl;
   flag-room = refl;
+  open-room = refl;
   within = λ x l. subst (Range none) (sym (getD-replicate sheetLinks x none 0 l)) (h, omega arith);
   told = λ x l. inl (getD-replicate sheetLinks x none 0 l, getD-replicate {A = ℕ} sheetLinks x 1 0 l);
+  decided = λ x l n. absurd (n (getD-replicate {A = ℕ} sheetLinks x 1 0 l));
 }
 
+-- A link that is of a row, or has a mark, is not open.
+pub tells-decided : (parts : List ℕ) (n : ℕ) (marked : List ℕ) (m : ℕ) (sets : List ℕ) (none : ℕ) (to flags opens : List ℕ) (x : ℕ) → OnRow parts n x ⊎ OnMark marked m x
+    → Tells parts n marked m sets none to flags opens → Tells parts n marked m sets none to flags (set opens x 0)
+tells-decided parts n marked m sets none to flags opens x on t = record {
+  room = t .room;
+  flag-room = t .flag-room;
+  open-room = simp length-set (t .open-room);
+  within = t .within;
+  told = t .told;
+  decided = decided;
+}
+  where
+    decided : (z : ℕ) → z < sheetLinks → getD (set opens x 0) z 0 ≢ 1 → OnRow parts n z ⊎ OnMark marked m z
+    decided z l d = go (ℕ-discrete z x)
+      where
+        go : Dec (z ≡ x) → OnRow parts n z ⊎ OnMark marked m z
+        go (yes e) = subst (λ (i : ℕ). OnRow parts n i ⊎ OnMark marked m i) (sym e) on
+        go (no k) = t .decided z l (λ e. d (getD-set-other opens x z 0 0 k ∙ e))
+
 -- One more link is told.
-pub tells-more : (parts : List ℕ) (n : ℕ) (marked : List ℕ) (m : ℕ) (sets : List ℕ) (none : ℕ) (to flags : List ℕ) (x y : ℕ) → x < sheetLinks → OnlyLink sets x y → Range none y → OnRow parts n x ⊎ OnMark marked m x
-    → Tells parts n marked m sets none to flags → Tells parts n marked m sets none (set to x y) (set flags x 0)
-tells-more parts n marked m sets none to flags x y h only range on t = record { room = simp length-set (t .room); flag-room = simp length-set (t .flag-room); within = λ z l. by-place (Range none) z (t .within z l) range; told = told }
+pub tells-more : (parts : List ℕ) (n : ℕ) (marked : List ℕ) (m : ℕ) (sets : List ℕ) (none : ℕ) (to flags opens : List ℕ) (x y : ℕ) → x < sheetLinks → OnlyLink sets x y → Range none y → OnRow parts n x ⊎ OnMark marked m x
+    → Tells parts n marked m sets none to flags opens → Tells parts n marked m sets none (set to x y) (set flags x 0) opens
+tells-more parts n marked m sets none to flags opens x y h only range on t = record { room = simp length-set (t .room); flag-room = simp length-set (t .flag-room); open-room = t .open-room; decided = t .decided; within = λ z l. by-place (Range none) z (t .within z l) range; told = told }
   where
     by-place : (P : ℕ → Type 0) (z : ℕ) → P (getD to z 0) → P y → P (getD (set to x y) z 0)
     by-place P z p q = go (ℕ-discrete z x)

@@ -3,15 +3,13 @@ use Prim.Native.Nat.{ℕ, suc, _+_, _*_, _-_, _≤_, _<_}
 use mathlib.Core.Path.{_≡_, refl, sym, _∙_, ap, subst}
 use mathlib.Core.Logic.{_⊎_, inl, inr, _≢_}
 use mathlib.Core.List.{List, [], _∷_, map, List·Memᴰ·not-nil, List·Memᴰ·cases-cons}
-use mathlib.Core.Bool.{true, false}
 use native.Mathlib.Omega.{arith}
 use lib.ListN.{length, getD, set, length-set}
 use lib.Seq.{getD-set-same, getD-set-other}
 use Rattle.hyperlmntal.specs.Link.{_∈_}
 use Rattle.rows.specs.Limits.{sheetAtoms, sheetLinks}
-use Rattle.placing.proofs.FirstLaws.{both-ways}
-use Rattle.completing.specs.Ways.{Route, afterward, linksOf, atomsOf, lastLink, Every, Walk, Way, Ways}
-use Rattle.ways.specs.Trails.{LaidStep, Unflagged, Has, Fresh, AllSeen, Trail, Found, FoundIn, TrailIn, Follows, PassesBack}
+use Rattle.completing.specs.Ways.{Route, afterward, linksOf, atomsOf, lastLink, Walk, Way, Ways}
+use Rattle.ways.specs.Trails.{trailRoom, LaidStep, Unflagged, Has, Fresh, AllSeen, Trail, Found, FoundIn, TrailIn, Follows, PassesBack}
 
 -- ---- what was seen
 
@@ -41,10 +39,14 @@ fresh-all P was now k ls f s l i y h m = go (List·Memᴰ·cases-cons i)
     go (inl e) = f .seen y h (subst (λ (v : List ℕ). y ∈ v) e m)
     go (inr j) = f .kept y (s l j y h m)
 
--- In an array: v is stored for a number that did not have it, or something else where P does not hold.
+-- In an array.
+has-at : (v : ℕ) (l : List ℕ) (z : ℕ) → Has v l (suc z) → getD l z 0 ≡ v
+has-at v l z t = let e : suc z ≡ suc (t .0) = t .1 in let f : z ≡ t .0 = omega arith in ap (λ (i : ℕ). getD l i 0) f ∙ t .2
+
+-- v is stored for a number that did not have it, or something else where P does not hold.
 module _ (v w : ℕ) (now : List ℕ) (z : ℕ) (h : z < length now) (new : getD now z 0 ≢ v) where
   pub has-not : ¬ Has v now (suc z)
-  has-not t = let e : suc z ≡ suc (t .0) = t .1 in let f : z ≡ t .0 = omega arith in new (subst (λ (i : ℕ). getD now i 0 ≡ v) (sym f) (t .2))
+  has-not t = new (has-at v now z t)
 
   pub has-kept : (y : ℕ) → Has v now y → Has v (set now z w) y
   has-kept y t = (t .0, t .1, getD-set-other now z (t .0) w 0 (λ e. new (subst (λ (i : ℕ). getD now i 0 ≡ v) e (t .2))) ∙ t .2)
@@ -64,21 +66,18 @@ module _ (laid taken : List ℕ) (atoms : ℕ) (passed : List ℕ) (z : ℕ) (ro
     room = simp length-set room;
     few = few;
     kept = has-kept 2 (getD taken row 0) passed row (omega arith) new;
-    step = λ n. (suc row, s, (λ g. has-not 2 0 passed row (omega arith) new), λ g. has-stored 2 (getD taken row 0) passed row (omega arith) new (stands g));
+    step = λ n. (suc row, s, (λ g. has-not 2 0 passed row (omega arith) new), λ g. has-stored 2 (getD taken row 0) passed row (omega arith) new (has-at 2 taken row g));
   }
-    where
-      stands : Has 2 taken (suc row) → getD taken row 0 ≡ 2
-      stands t = let e : suc row ≡ suc (t .0) = t .1 in let f : row ≡ t .0 = omega arith in ap (λ (i : ℕ). getD taken i 0) f ∙ t .2
 
 -- ---- trails and ways
 
-module _ {Step : ℕ → ℕ → ℕ → Type 0} {Starts Ends Free Guarded : ℕ → Type 0} where
+module _ {Step : ℕ → ℕ → ℕ → Type 0} {Starts Ends Free GuardedLink GuardedAtom : ℕ → Type 0} where
   -- An end.
-  trail-end : (was was-atom : ℕ → Type 0) (y : ℕ) → Ends y → Trail Step Starts Ends Free Guarded was was-atom was was-atom y []
-  trail-end was was-atom y e = record { walk = tt; end = e; free = λ z m. absurd (List·Memᴰ·not-nil m); links = fresh-none Every was; atoms = fresh-none Guarded was-atom }
+  trail-end : (was was-atom : ℕ → Type 0) (y : ℕ) → Ends y → Trail Step Starts Ends Free GuardedLink GuardedAtom was was-atom was was-atom y []
+  trail-end was was-atom y e = record { walk = tt; end = e; free = λ z m. absurd (List·Memᴰ·not-nil m); links = fresh-none GuardedLink was; atoms = fresh-none GuardedAtom was-atom }
 
-  module _ (was was-atom now now-atom next : ℕ → Type 0) (z : ℕ) (l : List (ℕ × ℕ)) (t : Trail Step Starts Ends Free Guarded was was-atom now now-atom z l) (free : Free z)
-      (new : ¬ now z) (seen : next z) (kept : (y : ℕ) → now y → next y) where
+  module _ (was was-atom now now-atom next : ℕ → Type 0) (z : ℕ) (l : List (ℕ × ℕ)) (t : Trail Step Starts Ends Free GuardedLink GuardedAtom was was-atom now now-atom z l) (free : Free z)
+      (new : GuardedLink z → ¬ now z) (seen : GuardedLink z → next z) (kept : (y : ℕ) → now y → next y) where
     all-free : (y : ℕ) → y ∈ linksOf (z, l) → Free y
     all-free y m = go (List·Memᴰ·cases-cons m)
       where
@@ -86,16 +85,16 @@ module _ {Step : ℕ → ℕ → ℕ → Type 0} {Starts Ends Free Guarded : ℕ
         go (inl e) = subst Free (sym e) free
         go (inr k) = t .free y k
 
-    fresh-links : Fresh Every was next (linksOf (z, l))
-    fresh-links = fresh-more Every was now next z (afterward l) (t .links) (λ u. new) (λ u. seen) kept
+    fresh-links : Fresh GuardedLink was next (linksOf (z, l))
+    fresh-links = fresh-more GuardedLink was now next z (afterward l) (t .links) new seen kept
 
     -- One link further back.
-    trail-more : (y j : ℕ) (next-atom : ℕ → Type 0) → Step y j z → (Guarded j → ¬ now-atom j) → (Guarded j → next-atom j) → ((i : ℕ) → now-atom i → next-atom i)
-        → Trail Step Starts Ends Free Guarded was was-atom next next-atom y ((j, z) ∷ l)
-    trail-more y j next-atom s n g k = record { walk = (s, t .walk); end = t .end; free = all-free; links = fresh-links; atoms = fresh-more Guarded was-atom now-atom next-atom j (atomsOf (z, l)) (t .atoms) n g k }
+    trail-more : (y j : ℕ) (next-atom : ℕ → Type 0) → Step y j z → (GuardedAtom j → ¬ now-atom j) → (GuardedAtom j → next-atom j) → ((i : ℕ) → now-atom i → next-atom i)
+        → Trail Step Starts Ends Free GuardedLink GuardedAtom was was-atom next next-atom y ((j, z) ∷ l)
+    trail-more y j next-atom s n g k = record { walk = (s, t .walk); end = t .end; free = all-free; links = fresh-links; atoms = fresh-more GuardedAtom was-atom now-atom next-atom j (atomsOf (z, l)) (t .atoms) n g k }
 
     -- At a start it is one way more.
-    found-more : Starts z → (n : ℕ) → Found Step Starts Ends Free Guarded was was-atom n → Found Step Starts Ends Free Guarded next now-atom (suc n)
+    found-more : Starts z → (n : ℕ) → Found Step Starts Ends Free GuardedLink GuardedAtom was was-atom n → Found Step Starts Ends Free GuardedLink GuardedAtom next now-atom (suc n)
     found-more start n f = record {
       ways = record {
         routes = (z, l) ∷ f .ways .routes;
@@ -104,28 +103,24 @@ module _ {Step : ℕ → ℕ → ℕ → Type 0} {Starts Ends Free Guarded : ℕ
         disjoint = (fresh-apart fresh-links (f .links), f .ways .disjoint);
         apart = (fresh-apart (t .atoms) (f .atoms), f .ways .apart);
       };
-      links = fresh-all Every was next (linksOf (z, l)) (map linksOf (f .ways .routes)) fresh-links (f .links);
-      atoms = fresh-all Guarded was-atom now-atom (atomsOf (z, l)) (map atomsOf (f .ways .routes)) (t .atoms) (f .atoms);
+      links = fresh-all GuardedLink was next (linksOf (z, l)) (map linksOf (f .ways .routes)) fresh-links (f .links);
+      atoms = fresh-all GuardedAtom was-atom now-atom (atomsOf (z, l)) (map atomsOf (f .ways .routes)) (t .atoms) (f .atoms);
     }
       where
         way : (w : Route) → (w ≡ (z, l)) ⊎ (w ∈ f .ways .routes) → Way Step Starts Ends Free w
         way w (inl e) = subst (Way Step Starts Ends Free) (sym e) (record { walk = t .walk; start = start; end = t .end; free = all-free })
         way w (inr m) = f .ways .all-ways w m
 
-  found-none : (now now-atom : ℕ → Type 0) → Found Step Starts Ends Free Guarded now now-atom 0
+  found-none : (now now-atom : ℕ → Type 0) → Found Step Starts Ends Free GuardedLink GuardedAtom now now-atom 0
   found-none now now-atom = record {
     ways = record { routes = []; count = refl; all-ways = λ w m. absurd (List·Memᴰ·not-nil m); disjoint = tt; apart = tt };
     links = λ l m. absurd (List·Memᴰ·not-nil m);
     atoms = λ l m. absurd (List·Memᴰ·not-nil m);
   }
 
-  found-kept : (was was-atom now now-atom : ℕ → Type 0) → ((y : ℕ) → was y → now y) → ((j : ℕ) → was-atom j → now-atom j)
-      → (n : ℕ) → Found Step Starts Ends Free Guarded was was-atom n → Found Step Starts Ends Free Guarded now now-atom n
-  found-kept was was-atom now now-atom k a n f = record { ways = f .ways; links = λ l m y h i. k y (f .links l m y h i); atoms = λ l m j h i. a j (f .atoms l m j h i) }
-
 -- Ways by other words.
-pub ways-as : {Step Step′ : ℕ → ℕ → ℕ → Type 0} {Starts Starts′ Ends Ends′ Free Free′ Guarded : ℕ → Type 0} → ((y j z : ℕ) → Step y j z → Step′ y j z) → ((y : ℕ) → Starts y → Starts′ y)
-    → ((y : ℕ) → Ends y → Ends′ y) → ((y : ℕ) → Free y → Free′ y) → (n : ℕ) → Ways Step Starts Ends Free Guarded n → Ways Step′ Starts′ Ends′ Free′ Guarded n
+pub ways-as : {Step Step′ : ℕ → ℕ → ℕ → Type 0} {Starts Starts′ Ends Ends′ Free Free′ GuardedLink GuardedAtom : ℕ → Type 0} → ((y j z : ℕ) → Step y j z → Step′ y j z) → ((y : ℕ) → Starts y → Starts′ y)
+    → ((y : ℕ) → Ends y → Ends′ y) → ((y : ℕ) → Free y → Free′ y) → (n : ℕ) → Ways Step Starts Ends Free GuardedLink GuardedAtom n → Ways Step′ Starts′ Ends′ Free′ GuardedLink GuardedAtom n
 ways-as {Step} {Step′} {Starts} {Starts′} {Ends} {Ends′} {Free} {Free′} f g h k n ways =
     record { routes = ways .routes; count = ways .count; all-ways = λ w m. way w (ways .all-ways w m); disjoint = ways .disjoint; apart = ways .apart }
   where
@@ -138,62 +133,47 @@ ways-as {Step} {Step′} {Starts} {Starts′} {Ends} {Ends′} {Free} {Free′} 
 
 -- ---- in arrays
 
-module _ (laid taken : List ℕ) (atoms links : ℕ) (table : List ℕ) where
-  pub laid-end : (seen passed : List ℕ) (z : ℕ) → z < links → getD table (2 * sheetLinks + z) 0 ≡ 1 → TrailIn laid taken atoms links table seen passed seen passed (suc z)
+module _ (laid taken : List ℕ) (atoms : ℕ) (guards : List ℕ) (links : ℕ) (table : List ℕ) where
+  pub laid-end : (seen passed : List ℕ) (z : ℕ) → z < links → getD table (2 * sheetLinks + z) 0 ≡ 1 → TrailIn laid taken atoms guards links table seen passed seen passed (suc z)
   laid-end seen passed z h e = ([], trail-end (Has 1 seen) (Has 2 passed) (suc z) (record { place = z; link = refl; place-in = h; flag = e }))
 
   -- Nothing is seen, and nothing found.
-  pub laid-none : (seen passed : List ℕ) → FoundIn laid taken atoms links table seen passed 0
+  pub laid-none : (seen passed : List ℕ) → FoundIn laid taken atoms guards links table seen passed 0
   laid-none seen passed = found-none (Has 1 seen) (Has 2 passed)
 
-  module _ (was passed₀ now passed : List ℕ) (room : length now ≡ sheetLinks) where
-    -- The trail stopped before this.
-    pub laid-left : (y : ℕ) → length passed ≡ sheetAtoms → TrailIn laid taken atoms links table was passed₀ now passed y → Follows laid taken atoms links table was passed₀ now passed false
-    laid-left y atom-room t = record {
-      room = room;
+  -- The steps lead to no start.
+  pub laid-left : (was passed₀ now passed : List ℕ) → length now ≡ sheetLinks → length passed ≡ sheetAtoms → Follows laid taken atoms guards links table was passed₀ now passed 0
+  laid-left was passed₀ now passed room atom-room = record { room = room; atom-room = atom-room; few = omega arith; more = λ n. absurd (n refl) }
+
+  -- A link is seen, if it is guarded and was not.
+  module _ (was passed₀ now passed : List ℕ) (room : length now ≡ sheetLinks) (z : ℕ) (few : links ≤ sheetLinks) (here : z < links)
+      (t : TrailIn laid taken atoms guards links table was passed₀ now passed (suc z)) (new : getD now z 0 ≢ 1) (free : getD table (3 * sheetLinks + z) 0 ≢ 1) where
+    in-room : z < length now
+    in-room = omega arith
+
+    kept : (y : ℕ) → Has 1 now y → Has 1 (set now z (getD guards z 0)) y
+    kept = has-kept 1 (getD guards z 0) now z in-room new
+
+    stored : Has 1 guards (suc z) → Has 1 (set now z (getD guards z 0)) (suc z)
+    stored g = has-stored 1 (getD guards z 0) now z in-room new (has-at 1 guards z g)
+
+    unflagged : Unflagged table 3 links (suc z)
+    unflagged = record { place = z; link = refl; place-in = here; no-flag = free }
+
+    -- as the loop has it, with links from 0
+    pub laid-again : (after : List ℕ) (y : ℕ) → y ≢ 0 → PassesBack laid taken atoms passed after z y → TrailIn laid taken atoms guards links table was passed₀ (set now z (getD guards z 0)) after (suc (y - 1))
+    laid-again after y n b = let s = b .step n in
+        subst (TrailIn laid taken atoms guards links table was passed₀ (set now z (getD guards z 0)) after) (let e : y ≡ suc (y - 1) = omega arith in e) (
+          (s .0, suc z) ∷ t .0,
+          trail-more (Has 1 was) (Has 2 passed₀) (Has 1 now) (Has 2 passed) (Has 1 (set now z (getD guards z 0))) (suc z) (t .0) (t .1) unflagged
+              (λ g. has-not 1 1 now z in-room new) stored kept y (s .0) (Has 2 after) (s .1) (s .2) (s .3) (b .kept),
+        )
+
+    pub laid-found : (r : ℕ) → r ≤ trailRoom → length passed ≡ sheetAtoms → getD table (1 * sheetLinks + z) 0 ≡ 1 → Follows laid taken atoms guards links table was passed₀ (set now z (getD guards z 0)) passed r
+    laid-found r small atom-room e = record {
+      room = simp length-set room;
       atom-room = atom-room;
-      stay = found-kept (Has 1 was) (Has 2 passed₀) (Has 1 now) (Has 2 passed) (t .1 .links .kept) (t .1 .atoms .kept);
-      more = λ e. both-ways e refl;
+      few = small;
+      more = λ b. found-more (Has 1 was) (Has 2 passed₀) (Has 1 now) (Has 2 passed) (Has 1 (set now z (getD guards z 0))) (suc z) (t .0) (t .1) unflagged
+          (λ g. has-not 1 1 now z in-room new) stored kept (record { place = z; link = refl; place-in = here; flag = e });
     }
-
-    -- A link that was not seen is.
-    module _ (z : ℕ) (few : links ≤ sheetLinks) (here : z < links) (t : TrailIn laid taken atoms links table was passed₀ now passed (suc z)) (new : getD now z 0 ≢ 1) where
-      in-room : z < length now
-      in-room = omega arith
-
-      room-kept : length (set now z 1) ≡ sheetLinks
-      room-kept = simp length-set room
-
-      kept : (y : ℕ) → Has 1 now y → Has 1 (set now z 1) y
-      kept = has-kept 1 1 now z in-room new
-
-      -- No step leads on.
-      pub laid-stopped : (after : List ℕ) (r : ℕ) → PassesBack laid taken atoms passed after z r → Follows laid taken atoms links table was passed₀ (set now z 1) after false
-      laid-stopped after r b = record {
-        room = room-kept;
-        atom-room = b .room;
-        stay = found-kept (Has 1 was) (Has 2 passed₀) (Has 1 (set now z 1)) (Has 2 after) (λ y h. kept y (t .1 .links .kept y h)) (λ j h. b .kept j (t .1 .atoms .kept j h));
-        more = λ e. both-ways e refl;
-      }
-
-      module _ (free : getD table (3 * sheetLinks + z) 0 ≢ 1) where
-        unflagged : Unflagged table 3 links (suc z)
-        unflagged = record { place = z; link = refl; place-in = here; no-flag = free }
-
-        -- as the loop has it, with links from 0
-        pub laid-again : (after : List ℕ) (y : ℕ) → y ≢ 0 → PassesBack laid taken atoms passed after z y → TrailIn laid taken atoms links table was passed₀ (set now z 1) after (suc (y - 1))
-        laid-again after y n b = let s = b .step n in
-            subst (TrailIn laid taken atoms links table was passed₀ (set now z 1) after) (let e : y ≡ suc (y - 1) = omega arith in e) (
-              (s .0, suc z) ∷ t .0,
-              trail-more (Has 1 was) (Has 2 passed₀) (Has 1 now) (Has 2 passed) (Has 1 (set now z 1)) (suc z) (t .0) (t .1) unflagged
-                  (has-not 1 1 now z in-room new) (has-stored 1 1 now z in-room new refl) kept y (s .0) (Has 2 after) (s .1) (s .2) (s .3) (b .kept),
-            )
-
-        pub laid-found : length passed ≡ sheetAtoms → getD table (1 * sheetLinks + z) 0 ≡ 1 → Follows laid taken atoms links table was passed₀ (set now z 1) passed true
-        laid-found atom-room e = record {
-          room = room-kept;
-          atom-room = atom-room;
-          stay = found-kept (Has 1 was) (Has 2 passed₀) (Has 1 (set now z 1)) (Has 2 passed) (λ y h. kept y (t .1 .links .kept y h)) (t .1 .atoms .kept);
-          more = λ b. found-more (Has 1 was) (Has 2 passed₀) (Has 1 now) (Has 2 passed) (Has 1 (set now z 1)) (suc z) (t .0) (t .1) unflagged
-              (has-not 1 1 now z in-room new) (has-stored 1 1 now z in-room new refl) kept (record { place = z; link = refl; place-in = here; flag = e });
-        }

@@ -2,7 +2,7 @@
 -- `parts` are the figure's atoms, laid out; rows and links are counted from 0.
 use Prim.Native.Nat.{ℕ, suc, _+_, _-_, _<_}
 use mathlib.Core.Path.{_≡_}
-use mathlib.Core.Logic.{_⊎_}
+use mathlib.Core.Logic.{_⊎_, _≢_}
 use mathlib.Core.List.{List}
 use mathlib.Core.Bool.{Bool, true}
 use lib.ListN.{length, getD}
@@ -17,7 +17,7 @@ use Rattle.candidates.specs.Forced.{Only}
 use Rattle.candidates.specs.Laid.{laidAt, LaidOut}
 use Rattle.candidates.specs.Sets.{Obeys}
 use Rattle.candidates.specs.Tables.{AtomIn, LinkIn, mayAtom, mayLink}
-use Rattle.candidates.specs.Words.{In}
+use Rattle.candidates.specs.Words.{In, InPair}
 use Rattle.stepping.specs.Chains.{ChainsIn}
 use Rattle.stepping.specs.Standing.{Standing}
 use Rattle.ways.specs.Halves.{halfOf}
@@ -53,12 +53,23 @@ OnMark marked m x = (p : ℕ) × (p < m) × (getD marked p 0 ≡ suc x)
 abbrev pub OnlyLink : List ℕ → ℕ → ℕ → Type 0
 OnlyLink sets x y = (z : ℕ) → z < sheetLinks → LinkIn sets x z → suc z ≡ y
 
--- `to` has none for a link and it has a flag, or one of the rows has it, or a mark is on it, and it has only that place
-pub record Tells (parts : List ℕ) (n : ℕ) (marked : List ℕ) (m : ℕ) (sets : List ℕ) (none : ℕ) (to flags : List ℕ) : Type 0 where
+-- `to` has none for a link and it has a flag, or one of the rows has it, or a mark is on it, and it has only that place; where
+-- `opens` does not have 1, one of the rows has it, or a mark is on it
+pub record Tells (parts : List ℕ) (n : ℕ) (marked : List ℕ) (m : ℕ) (sets : List ℕ) (none : ℕ) (to flags opens : List ℕ) : Type 0 where
   pub room : length to ≡ sheetLinks
   pub flag-room : length flags ≡ sheetLinks
+  pub open-room : length opens ≡ sheetLinks
   pub within : (x : ℕ) → x < sheetLinks → Range none (getD to x 0)
   pub told : (x : ℕ) → x < sheetLinks → ((getD to x 0 ≡ none) × (getD flags x 0 ≡ 1)) ⊎ ((OnRow parts n x ⊎ OnMark marked m x) × OnlyLink sets x (getD to x 0))
+  pub decided : (x : ℕ) → x < sheetLinks → getD opens x 0 ≢ 1 → OnRow parts n x ⊎ OnMark marked m x
+
+-- the pair has where link x may go, if it has a flag and stands on both halves: all links, if it is open, else its set
+abbrev pub GuardsLink : List ℕ → List ℕ → List ℕ → List ℕ → ℕ → List ℕ → ℕ → Type 0
+GuardsLink sets opens words flags side pair x = getD flags x 0 ≡ 1 → halfOf (getD words x 0) side ≡ 3 → (y : ℕ) → y < sheetLinks → (getD opens x 0 ≢ 1 → LinkIn sets x y) → InPair pair y
+
+-- so for the first n links
+abbrev pub GuardsLinksTo : List ℕ → List ℕ → List ℕ → List ℕ → ℕ → ℕ → List ℕ → Type 0
+GuardsLinksTo sets opens words flags side n pair = (x : ℕ) → x < n → GuardsLink sets opens words flags side pair x
 
 -- ---- atoms
 

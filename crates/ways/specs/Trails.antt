@@ -3,13 +3,16 @@ use Prim.Native.Nat.{ℕ, suc, _+_, _*_, _/_, _≤_, _<_}
 use mathlib.Core.Path.{_≡_}
 use mathlib.Core.Logic.{_≢_}
 use mathlib.Core.List.{List, map}
-use mathlib.Core.Bool.{Bool, true}
 use lib.ListN.{length, getD}
 use Rattle.hyperlmntal.specs.Link.{_∈_}
 use Rattle.rows.specs.Format.{mostLinks}
 use Rattle.rows.specs.Limits.{sheetAtoms, sheetLinks}
 use Rattle.candidates.specs.Laid.{laidAt}
-use Rattle.completing.specs.Ways.{afterward, linksOf, atomsOf, lastLink, Every, Walk, Ways}
+use Rattle.completing.specs.Ways.{afterward, linksOf, atomsOf, lastLink, Walk, Ways}
+
+-- the room for ways that are laid out
+abbrev pub trailRoom : ℕ
+trailRoom = 512
 
 -- atom j, from 1, may be passed
 abbrev pub Passable : List ℕ → ℕ → ℕ → Type 0
@@ -46,10 +49,10 @@ pub record Unflagged (table : List ℕ) (h n y : ℕ) : Type 0 where
 abbrev pub Has : ℕ → List ℕ → ℕ → Type 0
 Has v l y = (z : ℕ) × (y ≡ suc z) × (getD l z 0 ≡ v)
 
--- ways in arrays: from flags of half 1 to flags of half 2, over links without a flag of both, through rows of which those with
--- a 2 are guarded
-abbrev pub WaysIn : List ℕ → List ℕ → ℕ → ℕ → List ℕ → ℕ → Type 0
-WaysIn laid taken atoms links table = Ways (LaidStep laid taken atoms) (Flagged table 1 links) (Flagged table 2 links) (Unflagged table 3 links) (Has 2 taken)
+-- ways in arrays: from flags of half 1 to flags of half 2, over links without a flag of both, of which those with a 1 are
+-- guarded, through rows of which those with a 2 are
+abbrev pub WaysIn : List ℕ → List ℕ → ℕ → List ℕ → ℕ → List ℕ → ℕ → Type 0
+WaysIn laid taken atoms guards links table = Ways (LaidStep laid taken atoms) (Flagged table 1 links) (Flagged table 2 links) (Unflagged table 3 links) (Has 1 guards) (Has 2 taken)
 
 -- the numbers of the list for which P holds were not seen before, and are now; what was seen stays so
 pub record Fresh (P was now : ℕ → Type 0) (l : List ℕ) : Type 0 where
@@ -62,36 +65,36 @@ abbrev pub AllSeen : (P now : ℕ → Type 0) → List (List ℕ) → Type 0
 AllSeen P now ls = (l : List ℕ) → l ∈ ls → (y : ℕ) → P y → y ∈ l → now y
 
 -- Links and atoms are seen by themselves.
-module _ (Step : ℕ → ℕ → ℕ → Type 0) (Starts Ends Free Guarded : ℕ → Type 0) where
-  -- from y by these steps to an end; the links after y and the guarded atoms were not seen before, and are now
+module _ (Step : ℕ → ℕ → ℕ → Type 0) (Starts Ends Free GuardedLink GuardedAtom : ℕ → Type 0) where
+  -- from y by these steps to an end; the guarded links after y and the guarded atoms were not seen before, and are now
   pub record Trail (was was-atom now now-atom : ℕ → Type 0) (y : ℕ) (steps : List (ℕ × ℕ)) : Type 0 where
     pub walk : Walk Step y steps
     pub end : Ends (lastLink y steps)
     pub free : (z : ℕ) → z ∈ afterward steps → Free z
-    pub links : Fresh Every was now (afterward steps)
-    pub atoms : Fresh Guarded was-atom now-atom (atomsOf (y, steps))
+    pub links : Fresh GuardedLink was now (afterward steps)
+    pub atoms : Fresh GuardedAtom was-atom now-atom (atomsOf (y, steps))
 
-  -- n ways, whose links and guarded atoms were seen
+  -- n ways, whose guarded links and atoms were seen
   pub record Found (now now-atom : ℕ → Type 0) (n : ℕ) : Type 0 where
-    pub ways : Ways Step Starts Ends Free Guarded n
-    pub links : AllSeen Every now (map linksOf (ways .routes))
-    pub atoms : AllSeen Guarded now-atom (map atomsOf (ways .routes))
+    pub ways : Ways Step Starts Ends Free GuardedLink GuardedAtom n
+    pub links : AllSeen GuardedLink now (map linksOf (ways .routes))
+    pub atoms : AllSeen GuardedAtom now-atom (map atomsOf (ways .routes))
 
--- `seen` has 1 for the links that were seen, `passed` 2 for the guarded atoms.
-module _ (laid taken : List ℕ) (atoms links : ℕ) (table : List ℕ) where
+-- `seen` has 1 for the guarded links that were seen, `passed` 2 for the guarded atoms.
+module _ (laid taken : List ℕ) (atoms : ℕ) (guards : List ℕ) (links : ℕ) (table : List ℕ) where
   abbrev pub FoundIn : List ℕ → List ℕ → ℕ → Type 0
-  FoundIn seen passed = Found (LaidStep laid taken atoms) (Flagged table 1 links) (Flagged table 2 links) (Unflagged table 3 links) (Has 2 taken) (Has 1 seen) (Has 2 passed)
+  FoundIn seen passed = Found (LaidStep laid taken atoms) (Flagged table 1 links) (Flagged table 2 links) (Unflagged table 3 links) (Has 1 guards) (Has 2 taken) (Has 1 seen) (Has 2 passed)
 
   abbrev pub TrailIn : List ℕ → List ℕ → List ℕ → List ℕ → ℕ → Type 0
   TrailIn was passed₀ now passed y = (steps : List (ℕ × ℕ))
-      × Trail (LaidStep laid taken atoms) (Flagged table 1 links) (Flagged table 2 links) (Unflagged table 3 links) (Has 2 taken) (Has 1 was) (Has 2 passed₀) (Has 1 now) (Has 2 passed) y steps
+      × Trail (LaidStep laid taken atoms) (Flagged table 1 links) (Flagged table 2 links) (Unflagged table 3 links) (Has 1 guards) (Has 2 taken) (Has 1 was) (Has 2 passed₀) (Has 1 now) (Has 2 passed) y steps
 
-  -- the ways found stay so, and where r is true there is one more
-  pub record Follows (was passed₀ now passed : List ℕ) (r : Bool) : Type 0 where
+  -- where r is not 0 there is one way more
+  pub record Follows (was passed₀ now passed : List ℕ) (r : ℕ) : Type 0 where
     pub room : length now ≡ sheetLinks
     pub atom-room : length passed ≡ sheetAtoms
-    pub stay : (n : ℕ) → FoundIn was passed₀ n → FoundIn now passed n
-    pub more : r ≡ true → (n : ℕ) → FoundIn was passed₀ n → FoundIn now passed (suc n)
+    pub few : r ≤ trailRoom
+    pub more : r ≢ 0 → (n : ℕ) → FoundIn was passed₀ n → FoundIn now passed (suc n)
 
 -- The row, from 0, of the atom of a step with this mark.
 abbrev pub rowOf : ℕ → ℕ

@@ -2,6 +2,7 @@
 // is not placed yet?
 use crate::guarded::guard_rows;
 use crate::guarded::shut;
+use crate::guards::guard_links;
 use crate::outnumbered::contexts;
 use crate::outnumbered::outnumbered_by;
 use crate::told::tell_links;
@@ -30,13 +31,15 @@ fn crowded_by(
     marks: usize,
     to: &[u16; Sheet::LINKS],
     flags: &[u8; Sheet::LINKS],
+    opens: &[u8; Sheet::LINKS],
     side: u16,
 ) -> bool
-    requires { ⌜ ((sheet : NormalForm) × (figure : NormalForm) × NodeOf sheet figure atoms links count (now laid) (now chains) rows (now parts) (now standing) (now marked) marks × Tells (now parts) rows (now marked) marks (now sets) (suc links) (now to) (now flags)) ⌝ }
+    requires { ⌜ ((sheet : NormalForm) × (figure : NormalForm) × NodeOf sheet figure atoms links count (now laid) (now chains) rows (now parts) (now standing) (now marked) marks × Tells (now parts) rows (now marked) marks (now sets) (suc links) (now to) (now flags) (now opens)) ⌝ }
     ensures { λ r. ⌜ ((sheet figure : NormalForm) → NodeOf sheet figure atoms links count (now (laid .entry)) (now (chains .entry)) rows (now (parts .entry)) (now (standing .entry)) (now (marked .entry)) marks → NoneStays sheet figure (now (places .entry)) (now (sets .entry)) r) ⌝ }
 {
     let mut taken = [0u8; Sheet::ATOMS];
     let breaking = guard_rows(&mut taken, parts, rows, standing, side, places, atoms);
+    let guarded = guard_links(sets, opens, count, standing, flags, side);
     if outnumbered_by(
         atoms,
         links,
@@ -47,6 +50,7 @@ fn crowded_by(
         standing,
         to,
         flags,
+        guarded,
         breaking,
         side,
     ) {
@@ -66,6 +70,7 @@ fn crowded_by(
         standing,
         to,
         flags,
+        guarded,
         0,
         side,
     )
@@ -96,8 +101,9 @@ pub fn crowded(
     }
     let mut to = [(links + 1) as u16; Sheet::LINKS];
     let mut flags = [1u8; Sheet::LINKS];
-    tell_links(&mut to, &mut flags, sets, links, parts, rows);
-    tell_marks(&mut to, &mut flags, sets, links, marked, marks);
+    let mut opens = [1u8; Sheet::LINKS];
+    tell_links(&mut to, &mut flags, &mut opens, sets, links, parts, rows);
+    tell_marks(&mut to, &mut flags, &mut opens, sets, links, marked, marks);
     let rest = all & (all - 1);
     let mut side = rest;
     while side != 0 {
@@ -116,6 +122,7 @@ pub fn crowded(
             marks,
             &to,
             &flags,
+            &opens,
             side,
         ) {
             return true;

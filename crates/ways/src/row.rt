@@ -7,6 +7,7 @@ ghost use mathlib.Core.Path.{_≡_};
 ghost use Rattle.rows.specs.Format.{mostLinks};
 ghost use Rattle.rows.specs.Limits.{sheetLinks};
 ghost use Rattle.candidates.specs.Laid.{laidAt, Rowed};
+ghost use Rattle.ways.specs.Flow.{placeCount};
 
 // How many links it has.
 pub(crate) fn width(parts: &[u16; LAID], n: usize, row: usize) -> usize
@@ -23,4 +24,21 @@ pub(crate) fn link(parts: &[u16; LAID], n: usize, row: usize, k: usize) -> usize
 {
     let x = wide(parts[row * Sheet::FIELDS + (2 + k)]);
     x - 1
+}
+
+// The number from 0 of a link from 1, whatever stands there.
+fn below(y: usize) -> usize
+    requires { ⌜ y < 65536 ⌝ }
+    ensures { λ r. ⌜ r < sheetLinks ⌝ }
+{
+    (y + (Sheet::LINKS - 1)) % Sheet::LINKS
+}
+
+// The link of a place; places are counted atom by atom.
+pub(crate) fn link_at(laid: &[u16; LAID], place: usize) -> usize
+    requires { ⌜ place < placeCount ⌝ }
+    ensures { λ r. ⌜ r < sheetLinks ⌝ }
+{
+    let row = place / Sheet::MOST_LINKS;
+    below(wide(laid[row * Sheet::FIELDS + (2 + place % Sheet::MOST_LINKS)]))
 }

@@ -1,63 +1,79 @@
-// A search for one way more: on to any free link, and back along the ways that were found before.
-// `marks` has for each link on a way the mark of the step into it, OWN at the way's start. `look` has three parts
-// with a number for each link: the mark with which it was entered, OWN where its way gives it up; from LEFT on,
-// where the search goes on from it, OWN if it was entered, else the link after it on its way, from 1; from QUEUE
-// on, the links from which the search goes on, in order.
+// A search for one way more, from links to atoms and from atoms to links, over free ones and back along the ways that
+// were found before.
+// A vertex is a link, or behind the links an atom. `flow` has for each place of an atom how many ways lead over it, from
+// its link to the atom as 1, 2, .., from the atom to its link as 255, 254, ..; from USES on, how many ways are on each
+// vertex, and from ENDED on, how many end at each link.
+// A guarded vertex that is on a way can be entered besides, only to turn that way elsewhere: the search then goes back
+// where the way came from. So a vertex has two states, the second one behind all vertices. `look` has for each state
+// where it was entered from: START, or 1 more than twice the place, with 1 more where that was left in the second state;
+// from STATES on, the states from which the search goes on, in order.
 use crate::SORTED;
-use crate::trail::row_of;
-use crate::trail::step_back;
+use crate::row::link_at;
 use crate::trail::wide;
 use candidates::LAID;
 use rows::Sheet;
 use stepping::CHAINS;
-ghost use Prim.Native.Nat.{_*_, _<_, _≤_};
-ghost use Rattle.rows.specs.Format.{mostLinks};
+ghost use Prim.Native.Nat.{_<_, _≤_};
 ghost use Rattle.rows.specs.Limits.{sheetAtoms, sheetLinks};
-ghost use Rattle.candidates.specs.Laid.{Rowed};
 ghost use Rattle.stepping.specs.Chains.{nodeOf, Falls};
+ghost use Rattle.ways.specs.Flow.{placeCount, stateCount};
 
-pub(crate) const OWN: u16 = 65535;
+pub(crate) const START: u16 = 65535;
 
-pub(crate) const LEFT: usize = Sheet::LINKS;
+pub(crate) const PLACES: usize = Sheet::ATOMS * Sheet::MOST_LINKS;
 
-const QUEUE: usize = 2 * Sheet::LINKS;
+pub(crate) const VERTICES: usize = Sheet::LINKS + Sheet::ATOMS;
 
-pub(crate) const LOOK: usize = 3 * Sheet::LINKS;
+pub(crate) const USES: usize = PLACES;
 
-// The number from 0 of a link from 1.
-pub(crate) fn below(y: usize) -> usize
-    requires { ⌜ y < 65536 ⌝ }
-    ensures { λ r. ⌜ r < sheetLinks ⌝ }
+pub(crate) const ENDED: usize = USES + VERTICES;
+
+pub(crate) const FLOW: usize = ENDED + Sheet::LINKS;
+
+pub(crate) const STATES: usize = 2 * VERTICES;
+
+pub(crate) const LOOK: usize = 2 * STATES;
+
+// A number from here on stands for ways that lead from the atom to the link.
+pub(crate) const OUTWARD: u8 = 128;
+
+// The search is to go on from this state, if it did not yet.
+fn reach(look: &mut [u16; LOOK], tail: usize, state: usize, from: u16) -> usize
+    requires { ⌜ (state < stateCount) × (tail ≤ stateCount) ⌝ }
+    ensures { λ r. ⌜ r ≤ stateCount ⌝ }
 {
-    (y + (Sheet::LINKS - 1)) % Sheet::LINKS
+    if look[state] != 0 {
+        return tail;
+    }
+    if tail == STATES {
+        return tail;
+    }
+    look[state] = from;
+    look[STATES + tail] = state as u16;
+    tail + 1
 }
 
-// The search is to go on from y, if it did not yet.
-fn leave(look: &mut [u16; LOOK], tail: usize, y: usize, from: u16) -> usize
-    requires { ⌜ (y < sheetLinks) × (tail ≤ sheetLinks) ⌝ }
-    ensures { λ r. ⌜ r ≤ sheetLinks ⌝ }
+// Is link y guarded, and on a way?
+fn occupied(flow: &[u8; FLOW], guards: &[u8; Sheet::LINKS], y: usize) -> bool
+    requires { ⌜ y < sheetLinks ⌝ }
 {
-    if look[LEFT + y] != 0 {
-        return tail;
+    if guards[y] != 1 {
+        return false;
     }
-    if tail == Sheet::LINKS {
-        return tail;
-    }
-    look[LEFT + y] = from;
-    look[QUEUE + tail] = y as u16;
-    tail + 1
+    flow[USES + y] != 0
 }
 
 // It is to start at y, if y is a start and free.
 fn start(
     look: &mut [u16; LOOK],
     tail: usize,
+    flow: &[u8; FLOW],
+    guards: &[u8; Sheet::LINKS],
     sorted: &[u8; SORTED],
-    marks: &[u16; Sheet::LINKS],
     y: usize,
 ) -> usize
-    requires { ⌜ (y < sheetLinks) × (tail ≤ sheetLinks) ⌝ }
-    ensures { λ r. ⌜ r ≤ sheetLinks ⌝ }
+    requires { ⌜ (y < sheetLinks) × (tail ≤ stateCount) ⌝ }
+    ensures { λ r. ⌜ r ≤ stateCount ⌝ }
 {
     if sorted[Sheet::LINKS + y] != 1 {
         return tail;
@@ -65,63 +81,68 @@ fn start(
     if sorted[3 * Sheet::LINKS + y] == 1 {
         return tail;
     }
-    if marks[y] != 0 {
+    if occupied(flow, guards, y) {
         return tail;
     }
-    leave(look, tail, y, OWN)
+    reach(look, tail, y, START)
 }
 
-// Link z is entered: from a free link the search goes on, from one on a way it goes back.
-fn enter(
+// Over a place from its link, left in this state, to its atom. In the second state only back along a way.
+fn to_atom(
     look: &mut [u16; LOOK],
     tail: usize,
-    laid: &[u16; LAID],
-    atoms: usize,
+    flow: &[u8; FLOW],
     taken: &[u8; Sheet::ATOMS],
-    marks: &[u16; Sheet::LINKS],
-    z: usize,
-    mark: u16,
-) -> usize
-    requires { ⌜ Rowed (now laid) atoms × (z < sheetLinks) × (tail ≤ sheetLinks) ⌝ }
-    ensures { λ r. ⌜ r ≤ sheetLinks ⌝ }
-{
-    if look[z] != 0 {
-        return tail;
-    }
-    look[z] = mark;
-    if marks[z] == 0 {
-        return leave(look, tail, z, OWN);
-    }
-    let y = step_back(laid, atoms, taken, marks[z], z);
-    if y == 0 {
-        return tail;
-    }
-    leave(look, tail, y - 1, (z + 1) as u16)
-}
-
-// From link y through this place of an atom to place k of the atom, but to no start, and to no link to which a
-// link on both halves goes.
-fn cross(
-    look: &mut [u16; LOOK],
-    tail: usize,
-    laid: &[u16; LAID],
-    atoms: usize,
-    taken: &[u8; Sheet::ATOMS],
-    sorted: &[u8; SORTED],
-    marks: &[u16; Sheet::LINKS],
-    y: usize,
     place: usize,
-    k: usize,
+    second: usize,
 ) -> usize
-    requires { ⌜ Rowed (now laid) atoms × (place < sheetAtoms * mostLinks) × (k < mostLinks) × (tail ≤ sheetLinks) ⌝ }
-    ensures { λ r. ⌜ r ≤ sheetLinks ⌝ }
+    requires { ⌜ (place < placeCount) × (second < 2) × (tail ≤ stateCount) ⌝ }
+    ensures { λ r. ⌜ r ≤ stateCount ⌝ }
 {
-    let at = place / Sheet::MOST_LINKS * Sheet::FIELDS;
-    if wide(laid[at + 1]) <= k {
+    let row = place / Sheet::MOST_LINKS;
+    let from = (2 * place + second + 1) as u16;
+    let atom = Sheet::LINKS + row;
+    if OUTWARD <= flow[place] {
+        return reach(look, tail, atom, from);
+    }
+    if second == 1 {
         return tail;
     }
-    let z = below(wide(laid[at + (2 + k)]));
-    if z == y {
+    if taken[row] == 1 {
+        return tail;
+    }
+    if taken[row] == 2 {
+        if flow[USES + atom] != 0 {
+            return reach(look, tail, VERTICES + atom, from);
+        }
+    }
+    reach(look, tail, atom, from)
+}
+
+// Over a place from its atom, left in this state, to its link; but to no start, and to no link to which a link on both
+// halves goes. In the second state only back along a way.
+fn to_link(
+    look: &mut [u16; LOOK],
+    tail: usize,
+    flow: &[u8; FLOW],
+    laid: &[u16; LAID],
+    guards: &[u8; Sheet::LINKS],
+    sorted: &[u8; SORTED],
+    place: usize,
+    second: usize,
+) -> usize
+    requires { ⌜ (place < placeCount) × (second < 2) × (tail ≤ stateCount) ⌝ }
+    ensures { λ r. ⌜ r ≤ stateCount ⌝ }
+{
+    let z = link_at(laid, place);
+    let from = (2 * place + second + 1) as u16;
+    let over = flow[place];
+    if over != 0 {
+        if over < OUTWARD {
+            return reach(look, tail, z, from);
+        }
+    }
+    if second == 1 {
         return tail;
     }
     if sorted[Sheet::LINKS + z] == 1 {
@@ -130,116 +151,137 @@ fn cross(
     if sorted[3 * Sheet::LINKS + z] == 1 {
         return tail;
     }
-    let mark = (place * Sheet::MOST_LINKS + k) as u16;
-    enter(look, tail, laid, atoms, taken, marks, z, mark)
-}
-
-// Is the atom of this row on a way? The ways mark the links into which they step through it.
-fn on_way(laid: &[u16; LAID], marks: &[u16; Sheet::LINKS], row: usize) -> bool
-    requires { ⌜ row < sheetAtoms ⌝ }
-{
-    let at = row * Sheet::FIELDS;
-    let mut k = 0;
-    while k < Sheet::MOST_LINKS {
-        let mark = marks[below(wide(laid[at + (2 + k)]))];
-        if mark != 0 {
-            if row_of(mark) == row {
-                return true;
-            }
-        }
-        k += 1;
+    if occupied(flow, guards, z) {
+        return reach(look, tail, VERTICES + z, from);
     }
-    false
+    reach(look, tail, z, from)
 }
 
-// From link y through this place of an atom that may be passed, but through no guarded one that is on a way.
-fn through(
+// On from link y in this state.
+fn from_link(
     look: &mut [u16; LOOK],
     tail: usize,
-    laid: &[u16; LAID],
-    atoms: usize,
-    taken: &[u8; Sheet::ATOMS],
-    sorted: &[u8; SORTED],
-    marks: &[u16; Sheet::LINKS],
-    y: usize,
-    place: usize,
-) -> usize
-    requires { ⌜ Rowed (now laid) atoms × (place < sheetAtoms * mostLinks) × (tail ≤ sheetLinks) ⌝ }
-    ensures { λ r. ⌜ r ≤ sheetLinks ⌝ }
-{
-    let row = place / Sheet::MOST_LINKS;
-    if taken[row] == 1 {
-        return tail;
-    }
-    if taken[row] == 2 {
-        if on_way(laid, marks, row) {
-            return tail;
-        }
-    }
-    let mut next = tail;
-    let mut k = 0;
-    while k < Sheet::MOST_LINKS {
-        next = cross(look, next, laid, atoms, taken, sorted, marks, y, place, k);
-        k += 1;
-    }
-    next
-}
-
-// On from link y; from one on a way also back.
-fn onward(
-    look: &mut [u16; LOOK],
-    tail: usize,
-    laid: &[u16; LAID],
+    flow: &[u8; FLOW],
     chains: &[u16; CHAINS],
     atoms: usize,
     taken: &[u8; Sheet::ATOMS],
-    sorted: &[u8; SORTED],
-    marks: &[u16; Sheet::LINKS],
     y: usize,
+    second: usize,
 ) -> usize
-    requires { ⌜ Rowed (now laid) atoms × Falls (nodeOf atoms 0) (now chains) × (y < sheetLinks) × (tail ≤ sheetLinks) ⌝ }
-    ensures { λ r. ⌜ r ≤ sheetLinks ⌝ }
+    requires { ⌜ (atoms ≤ sheetAtoms) × Falls (nodeOf atoms 0) (now chains) × (y < sheetLinks) × (second < 2) × (tail ≤ stateCount) ⌝ }
+    ensures { λ r. ⌜ r ≤ stateCount ⌝ }
 {
     let mut next = tail;
-    if marks[y] != 0 {
-        next = enter(look, tail, laid, atoms, taken, marks, y, OWN);
-    }
     let mut v = wide(chains[y]);
     while Sheet::LINKS <= v {
-        let place = v - Sheet::LINKS;
-        next = through(look, next, laid, atoms, taken, sorted, marks, y, place);
+        next = to_atom(look, next, flow, taken, v - Sheet::LINKS, second);
         v = wide(chains[v]);
     }
     next
 }
 
+// On from the atom of this row in this state.
+fn from_atom(
+    look: &mut [u16; LOOK],
+    tail: usize,
+    flow: &[u8; FLOW],
+    laid: &[u16; LAID],
+    guards: &[u8; Sheet::LINKS],
+    sorted: &[u8; SORTED],
+    row: usize,
+    second: usize,
+) -> usize
+    requires { ⌜ (row < sheetAtoms) × (second < 2) × (tail ≤ stateCount) ⌝ }
+    ensures { λ r. ⌜ r ≤ stateCount ⌝ }
+{
+    let width = wide(laid[row * Sheet::FIELDS + 1]);
+    let mut next = tail;
+    let mut k = 0;
+    while k < Sheet::MOST_LINKS {
+        if width <= k {
+            return next;
+        }
+        let place = row * Sheet::MOST_LINKS + k;
+        next = to_link(look, next, flow, laid, guards, sorted, place, second);
+        k += 1;
+    }
+    next
+}
+
+// On from this state.
+fn onward(
+    look: &mut [u16; LOOK],
+    tail: usize,
+    flow: &[u8; FLOW],
+    laid: &[u16; LAID],
+    chains: &[u16; CHAINS],
+    atoms: usize,
+    taken: &[u8; Sheet::ATOMS],
+    guards: &[u8; Sheet::LINKS],
+    sorted: &[u8; SORTED],
+    state: usize,
+) -> usize
+    requires { ⌜ (atoms ≤ sheetAtoms) × Falls (nodeOf atoms 0) (now chains) × (state < stateCount) × (tail ≤ stateCount) ⌝ }
+    ensures { λ r. ⌜ r ≤ stateCount ⌝ }
+{
+    let second = state / VERTICES;
+    let v = state % VERTICES;
+    if v < Sheet::LINKS {
+        return from_link(look, tail, flow, chains, atoms, taken, v, second);
+    }
+    from_atom(
+        look,
+        tail,
+        flow,
+        laid,
+        guards,
+        sorted,
+        v - Sheet::LINKS,
+        second,
+    )
+}
+
 // From the free starts to a free end, which is handed back from 1; 0 where the search comes to none.
 pub(crate) fn search(
     look: &mut [u16; LOOK],
+    flow: &[u8; FLOW],
     laid: &[u16; LAID],
     chains: &[u16; CHAINS],
     atoms: usize,
     links: usize,
     taken: &[u8; Sheet::ATOMS],
+    guards: &[u8; Sheet::LINKS],
     sorted: &[u8; SORTED],
-    marks: &[u16; Sheet::LINKS],
 ) -> usize
-    requires { ⌜ Rowed (now laid) atoms × Falls (nodeOf atoms 0) (now chains) × (links ≤ sheetLinks) ⌝ }
+    requires { ⌜ (atoms ≤ sheetAtoms) × Falls (nodeOf atoms 0) (now chains) × (links ≤ sheetLinks) ⌝ }
     ensures { λ r. ⌜ r ≤ sheetLinks ⌝ }
 {
     let mut tail = 0;
     let mut s = 0;
     while s < links {
-        tail = start(look, tail, sorted, marks, s);
+        tail = start(look, tail, flow, guards, sorted, s);
         s += 1;
     }
     let mut head = 0;
     while head < tail {
-        let y = wide(look[QUEUE + head]) % Sheet::LINKS;
-        if sorted[2 * Sheet::LINKS + y] == 1 {
-            return y + 1;
+        let state = wide(look[STATES + head]) % STATES;
+        if state < Sheet::LINKS {
+            if sorted[2 * Sheet::LINKS + state] == 1 {
+                return state + 1;
+            }
         }
-        tail = onward(look, tail, laid, chains, atoms, taken, sorted, marks, y);
+        tail = onward(
+            look,
+            tail,
+            flow,
+            laid,
+            chains,
+            atoms,
+            taken,
+            guards,
+            sorted,
+            state,
+        );
         head += 1;
     }
     0

@@ -1,7 +1,8 @@
-// The ways that marks lay out, followed back from their ends. The mark of a link is that of the step into it from
-// another link, through an atom: the atom, its place on the other link, and its place on this one. `taken` has 1 for
-// the atoms that no way passes, and 2 for the guarded ones, which at most one way passes.
+// The ways that are laid out, followed back from their ends. The mark of a step from one link to another, through an
+// atom, has the atom, its place on the one link, and its place on the other. `taken` has 1 for the atoms that no way
+// passes, and 2 for the guarded ones, which at most one way passes; `guards` has 1 for the guarded links.
 use crate::SORTED;
+use crate::TRAILS;
 use candidates::LAID;
 use rows::Sheet;
 ghost use Prim.Native.Nat.{suc, _+_, _*_, _<_, _≤_};
@@ -84,7 +85,8 @@ fn pass_back(
     y
 }
 
-// From an end back to a start, over links that were not seen and to which no link on both halves goes.
+// From an end back to a start, over links to which no link on both halves goes, and guarded ones that were not seen.
+// The steps are those from place `from` on; the place behind them, or 0 where they lead to no start.
 fn follow(
     seen: &mut [u8; Sheet::LINKS],
     passed: &mut [u8; Sheet::ATOMS],
@@ -92,74 +94,87 @@ fn follow(
     atoms: usize,
     links: usize,
     taken: &[u8; Sheet::ATOMS],
+    guards: &[u8; Sheet::LINKS],
     sorted: &[u8; SORTED],
-    marks: &[u16; Sheet::LINKS],
+    trails: &[u16; TRAILS],
+    from: usize,
     end: usize,
-) -> bool
+) -> usize
     requires { ⌜ Rowed (now laid) atoms × (links ≤ sheetLinks) × (end < links) × (length (now seen) ≡ sheetLinks) × (length (now passed) ≡ sheetAtoms) × (getD (now sorted) (2 * sheetLinks + end) 0 ≡ 1) ⌝ }
-    ensures { λ r. ⌜ Follows (now (laid .entry)) (now (taken .entry)) atoms links (now (sorted .entry)) (now (seen .entry)) (now (passed .entry)) (now (seen .exit)) (now (passed .exit)) r ⌝ }
+    ensures { λ r. ⌜ Follows (now (laid .entry)) (now (taken .entry)) atoms (now (guards .entry)) links (now (sorted .entry)) (now (seen .entry)) (now (passed .entry)) (now (seen .exit)) (now (passed .exit)) r ⌝ }
 {
     let mut z = end;
-    let mut n = 0;
-    while n < links {
+    let mut at = from;
+    while at < TRAILS {
         if links <= z {
-            return false;
+            return 0;
         }
         if sorted[3 * Sheet::LINKS + z] == 1 {
-            return false;
+            return 0;
         }
         if seen[z] == 1 {
-            return false;
+            return 0;
         }
-        seen[z] = 1;
+        seen[z] = guards[z];
         if sorted[Sheet::LINKS + z] == 1 {
-            return true;
+            return at;
         }
-        let y = pass_back(passed, laid, atoms, taken, marks[z], z);
+        let y = pass_back(passed, laid, atoms, taken, trails[at], z);
         if y == 0 {
-            return false;
+            return 0;
         }
         z = y - 1;
-        n += 1;
+        at += 1;
     }
-    false
+    0
 }
 
-// How many ways the marks lay out, no two of them with a link or a guarded atom in common.
+// How many ways are laid out, no two of them with a guarded link or a guarded atom in common.
 pub(crate) fn ways(
     laid: &[u16; LAID],
     atoms: usize,
     links: usize,
     taken: &[u8; Sheet::ATOMS],
+    guards: &[u8; Sheet::LINKS],
     sorted: &[u8; SORTED],
-    marks: &[u16; Sheet::LINKS],
+    trails: &[u16; TRAILS],
 ) -> usize
     requires { ⌜ Rowed (now laid) atoms × (links ≤ sheetLinks) ⌝ }
-    ensures { λ r. ⌜ WaysIn (now (laid .entry)) (now (taken .entry)) atoms links (now (sorted .entry)) r ⌝ }
+    ensures { λ r. ⌜ WaysIn (now (laid .entry)) (now (taken .entry)) atoms (now (guards .entry)) links (now (sorted .entry)) r ⌝ }
 {
     let mut seen = [0u8; Sheet::LINKS];
     let mut passed = [0u8; Sheet::ATOMS];
     let mut n = 0;
-    let mut y = 0;
-    while y < links {
-        if sorted[2 * Sheet::LINKS + y] == 1 {
-            if marks[y] != 0 {
-                if follow(
-                    &mut seen,
-                    &mut passed,
-                    laid,
-                    atoms,
-                    links,
-                    taken,
-                    sorted,
-                    marks,
-                    y,
-                ) {
-                    n += 1;
-                }
-            }
+    let mut at = 0;
+    while at < TRAILS {
+        let end = wide(trails[at]);
+        if end == 0 {
+            return n;
         }
-        y += 1;
+        if links < end {
+            return n;
+        }
+        if sorted[2 * Sheet::LINKS + (end - 1)] != 1 {
+            return n;
+        }
+        let next = follow(
+            &mut seen,
+            &mut passed,
+            laid,
+            atoms,
+            links,
+            taken,
+            guards,
+            sorted,
+            trails,
+            at + 1,
+            end - 1,
+        );
+        if next <= at {
+            return n;
+        }
+        at = next;
+        n += 1;
     }
     n
 }

@@ -1,35 +1,48 @@
 -- No index leaves its array.
 use borrow.Author.Needs.{needs}
-use Prim.Native.Nat.{_*_, _-_, _≤_, _<_}
-use mathlib.Core.Path.{_≡_}
-use lib.ListN.{length}
-use Rattle.rows.specs.Limits.{sheetLinks}
+use Prim.Native.Nat.{_-_, _≤_, _<_}
+use Rattle.ways.specs.Flow.{stateCount}
 use Rattle.ways.proofs.flow.augment.Statement.{statement}
 use Rattle.ways.proofs.flow.augment.Tie as tie
 
 abbrev Inv-loop : tie.InvT-loop
-Inv-loop marks₀ look laid atoms taken end z₀ n₀ marks z n = (z < sheetLinks) × (n ≤ 3 * sheetLinks) × (length marks ≡ sheetLinks)
+Inv-loop flow₀ look laid end state₀ n₀ flow state n = (state < stateCount) × (n ≤ stateCount)
 
 abbrev μ-loop : tie.MeasureT-loop
-μ-loop marks₀ look laid atoms taken end z₀ n₀ marks z n = 3 * sheetLinks - n
+μ-loop flow₀ look laid end state₀ n₀ flow state n = stateCount - n
+
+add-more : tie.Need-add-more Inv-loop μ-loop
+add-more c = search needs
+
+more-requires : tie.Need-more-requires Inv-loop μ-loop
+more-requires c κs = search needs
 
 loop-holds : tie.Need-loop-holds Inv-loop μ-loop
 loop-holds c = search needs
 
-mul-mark : tie.Need-mul-mark Inv-loop μ-loop
-mul-mark c = search needs
+mul-from : tie.Need-mul-from Inv-loop μ-loop
+mul-from c = search needs
 
-element-copy-out-mark : tie.Need-element-copy-out-mark Inv-loop μ-loop
-element-copy-out-mark c = search needs
+element-copy-out-from : tie.Need-element-copy-out-from Inv-loop μ-loop
+element-copy-out-from c = search needs
 
-mul-marks : tie.Need-mul-marks Inv-loop μ-loop
-mul-marks c = search needs
+add-more-2 : tie.Need-add-more-2 Inv-loop μ-loop
+add-more-2 c = search needs
 
-element-write-marks : tie.Need-element-write-marks Inv-loop μ-loop
-element-write-marks c = search needs
+more-requires-2 : tie.Need-more-requires-2 Inv-loop μ-loop
+more-requires-2 c κs = search needs
 
 returns : tie.Need-returns Inv-loop μ-loop
 returns c = search needs
+
+returns-2 : tie.Need-returns-2 Inv-loop μ-loop
+returns-2 c = search needs
+
+wide-requires : tie.Need-wide-requires Inv-loop μ-loop
+wide-requires c κs = search needs
+
+sub-before : tie.Need-sub-before Inv-loop μ-loop
+sub-before c = search needs
 
 before-requires : tie.Need-before-requires Inv-loop μ-loop
 before-requires c κs = search needs
@@ -43,8 +56,8 @@ loop-less c = search needs
 loop-again : tie.Need-loop-again Inv-loop μ-loop
 loop-again c = search needs
 
-returns-2 : tie.Need-returns-2 Inv-loop μ-loop
-returns-2 c = search needs
+returns-3 : tie.Need-returns-3 Inv-loop μ-loop
+returns-3 c = search needs
 
 pub augment-spec : {M : Type 1} → statement M
 augment-spec =
@@ -52,14 +65,19 @@ augment-spec =
     (tie.spec
     Inv-loop
     μ-loop
+    add-more
+    more-requires
     loop-holds
-    mul-mark
-    element-copy-out-mark
-    mul-marks
-    element-write-marks
+    mul-from
+    element-copy-out-from
+    add-more-2
+    more-requires-2
     returns
+    returns-2
+    wide-requires
+    sub-before
     before-requires
     add-n
     loop-less
     loop-again
-    returns-2)
+    returns-3)

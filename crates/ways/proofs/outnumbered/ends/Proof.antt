@@ -1,17 +1,16 @@
--- Invariant: as many as links so far, at most.
+-- No index leaves its array.
 use borrow.Author.Needs.{needs}
-use Prim.Native.Nat.{_-_, _≤_}
 use mathlib.Core.Logic.{⊎-elim}
 use native.Mathlib.Omega.{arith}
-use Rattle.rows.specs.Limits.{sheetLinks}
+use Prim.Native.Nat.{_-_, _≤_}
 use Rattle.ways.proofs.outnumbered.ends.Statement.{statement}
 use Rattle.ways.proofs.outnumbered.ends.Tie as tie
 
 abbrev Inv-loop : tie.InvT-loop
-Inv-loop sorted h n₀ y₀ n y = (n ≤ y) × (y ≤ sheetLinks)
+Inv-loop sorted guarded links h n₀ y₀ n y = (n ≤ y) × (y ≤ links)
 
 abbrev μ-loop : tie.MeasureT-loop
-μ-loop sorted h n₀ y₀ n y = sheetLinks - y
+μ-loop sorted guarded links h n₀ y₀ n y = links - y
 
 loop-holds : tie.Need-loop-holds Inv-loop μ-loop
 loop-holds c = search needs
@@ -34,6 +33,12 @@ add-if2 c = search needs
 element-copy-out-if2 : tie.Need-element-copy-out-if2 Inv-loop μ-loop
 element-copy-out-if2 c = search needs
 
+flag-of-requires : tie.Need-flag-of-requires Inv-loop μ-loop
+flag-of-requires c κs = search needs
+
+returns : tie.Need-returns Inv-loop μ-loop
+returns c = search needs
+
 add-n : tie.Need-add-n Inv-loop μ-loop
 add-n c = search needs
 
@@ -46,8 +51,8 @@ loop-less c = search needs
 loop-again : tie.Need-loop-again Inv-loop μ-loop
 loop-again c = ⊎-elim (λ w. (omega arith, omega arith)) (⊎-elim (λ w. (omega arith, omega arith)) (λ w. (omega arith, omega arith))) (c .if1 .came)
 
-returns : tie.Need-returns Inv-loop μ-loop
-returns c = search needs
+returns-2 : tie.Need-returns-2 Inv-loop μ-loop
+returns-2 c = search needs
 
 pub ends-spec : {M : Type 1} → statement M
 ends-spec =
@@ -62,8 +67,10 @@ ends-spec =
     mul-if2
     add-if2
     element-copy-out-if2
+    flag-of-requires
+    returns
     add-n
     add-y
     loop-less
     loop-again
-    returns)
+    returns-2)

@@ -1,21 +1,21 @@
 -- No index leaves its array.
 use borrow.Author.Needs.{needs}
 use Prim.Native.Nat.{_-_, _≤_}
-use Rattle.rows.specs.Limits.{sheetLinks}
+use Rattle.ways.specs.Flow.{stateCount}
 use Rattle.ways.proofs.search.search.Statement.{statement}
 use Rattle.ways.proofs.search.search.Tie as tie
 
 abbrev Inv-loop : tie.InvT-loop
-Inv-loop look₀ laid chains atoms links taken sorted marks tail₀ s₀ look tail s = (s ≤ links) × (tail ≤ sheetLinks)
+Inv-loop look₀ flow laid chains atoms links taken guards sorted tail₀ s₀ look tail s = (tail ≤ stateCount) × (s ≤ links)
 
 abbrev μ-loop : tie.MeasureT-loop
-μ-loop look₀ laid chains atoms links taken sorted marks tail₀ s₀ look tail s = links - s
+μ-loop look₀ flow laid chains atoms links taken guards sorted tail₀ s₀ look tail s = links - s
 
 abbrev Inv-loop2 : tie.InvT-loop2
-Inv-loop2 look₀ laid chains atoms links taken sorted marks tail₀ s head₀ look tail head = (head ≤ sheetLinks) × (tail ≤ sheetLinks)
+Inv-loop2 look₀ flow laid chains atoms links taken guards sorted tail₀ s head₀ look tail head = (tail ≤ stateCount) × (head ≤ stateCount)
 
 abbrev μ-loop2 : tie.MeasureT-loop2
-μ-loop2 look₀ laid chains atoms links taken sorted marks tail₀ s head₀ look tail head = sheetLinks - head
+μ-loop2 look₀ flow laid chains atoms links taken guards sorted tail₀ s head₀ look tail head = stateCount - head
 
 loop-holds : tie.Need-loop-holds Inv-loop μ-loop Inv-loop2 μ-loop2
 loop-holds c = search needs
@@ -47,14 +47,14 @@ element-copy-out-wide c = search needs
 wide-requires : tie.Need-wide-requires Inv-loop μ-loop Inv-loop2 μ-loop2
 wide-requires c κs = search needs
 
-mul-if1 : tie.Need-mul-if1 Inv-loop μ-loop Inv-loop2 μ-loop2
-mul-if1 c = search needs
+mul-if2 : tie.Need-mul-if2 Inv-loop μ-loop Inv-loop2 μ-loop2
+mul-if2 c = search needs
 
-add-if1 : tie.Need-add-if1 Inv-loop μ-loop Inv-loop2 μ-loop2
-add-if1 c = search needs
+add-if2 : tie.Need-add-if2 Inv-loop μ-loop Inv-loop2 μ-loop2
+add-if2 c = search needs
 
-element-copy-out-if1 : tie.Need-element-copy-out-if1 Inv-loop μ-loop Inv-loop2 μ-loop2
-element-copy-out-if1 c = search needs
+element-copy-out-if2 : tie.Need-element-copy-out-if2 Inv-loop μ-loop Inv-loop2 μ-loop2
+element-copy-out-if2 c = search needs
 
 add-result : tie.Need-add-result Inv-loop μ-loop Inv-loop2 μ-loop2
 add-result c = search needs
@@ -95,9 +95,9 @@ search-spec =
     mul-wide
     element-copy-out-wide
     wide-requires
-    mul-if1
-    add-if1
-    element-copy-out-if1
+    mul-if2
+    add-if2
+    element-copy-out-if2
     add-result
     returns
     onward-requires

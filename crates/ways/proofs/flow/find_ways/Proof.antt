@@ -1,17 +1,14 @@
 -- As many turns as ways.
 use borrow.Author.Needs.{needs}
-use Prim.Native.Nat.{_-_, _≤_}
-use mathlib.Core.Path.{_≡_}
-use lib.ListN.{length}
-use Rattle.rows.specs.Limits.{sheetLinks}
-use Rattle.ways.proofs.flow.lay_ways.Statement.{statement}
-use Rattle.ways.proofs.flow.lay_ways.Tie as tie
+use Prim.Native.Nat.{_-_}
+use Rattle.ways.proofs.flow.find_ways.Statement.{statement}
+use Rattle.ways.proofs.flow.find_ways.Tie as tie
 
 abbrev Inv-loop : tie.InvT-loop
-Inv-loop marks₀ laid chains atoms links taken sorted most n₀ marks n = (n ≤ most) × (length marks ≡ sheetLinks)
+Inv-loop flow₀ laid chains atoms links taken guards sorted most n₀ flow n = Unit {0}
 
 abbrev μ-loop : tie.MeasureT-loop
-μ-loop marks₀ laid chains atoms links taken sorted most n₀ marks n = most - n
+μ-loop flow₀ laid chains atoms links taken guards sorted most n₀ flow n = most - n
 
 loop-holds : tie.Need-loop-holds Inv-loop μ-loop
 loop-holds c = search needs
@@ -40,8 +37,8 @@ loop-again c = search needs
 returns-2 : tie.Need-returns-2 Inv-loop μ-loop
 returns-2 c = search needs
 
-pub lay-ways-spec : {M : Type 1} → statement M
-lay-ways-spec =
+pub find-ways-spec : {M : Type 1} → statement M
+find-ways-spec =
     tie.close
     (tie.spec
     Inv-loop

@@ -1,0 +1,16 @@
+-- The sizes of the arrays of the search for ways.
+use Prim.Native.Nat.{ℕ, _+_, _*_}
+use Rattle.rows.specs.Format.{mostLinks}
+use Rattle.rows.specs.Limits.{sheetAtoms, sheetLinks}
+
+-- places of atoms
+abbrev pub placeCount : ℕ
+placeCount = sheetAtoms * mostLinks
+
+-- a number for each place, each vertex (a link or an atom) and each link
+abbrev pub flowRoom : ℕ
+flowRoom = placeCount + (sheetLinks + sheetAtoms) + sheetLinks
+
+-- two states for each vertex
+abbrev pub stateCount : ℕ
+stateCount = 2 * (sheetLinks + sheetAtoms)
