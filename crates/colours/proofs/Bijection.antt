@@ -7,12 +7,13 @@ use native.Mathlib.Omega.{arith}
 use lib.ListN.{length, getD}
 use Rattle.hyperlmntal.specs.Link.{_∈_}
 use Rattle.placing.specs.Net.{NetCell, Net, Range, cellLinks, markLinks, NormalSheet}
-use Rattle.placing.specs.Placing.{Placing, cellAt, atomTo, linkTo, Taken, Linked, here, step, Good}
+use Rattle.placing.specs.Placing.{Placing, cellAt, atomTo, linkTo, Taken, Good}
 use Rattle.placing.proofs.Lists.{member-at, getD-of}
 use Rattle.placing.proofs.Standing.{of-cells, of-marks, place-link, mark-link}
 use Rattle.network.proofs.Sums.{From, Across}
 use Rattle.candidates.specs.Sets.{Decided, by-atom, by-mark}
 use Rattle.candidates.proofs.GoodPlaces.{decided-real}
+use Rattle.candidates.proofs.Kinship.{together-kin, kin-labels}
 use Rattle.completing.proofs.Decide.{taken-dec}
 
 no-row : (N : Net) → N .contexts ≡ [] → (c : NetCell) → ¬ (c ∈ N .contexts)
@@ -54,12 +55,8 @@ module _ (S F : Net) (NS : NormalSheet S) (NF : NormalSheet F) (p : Placing) (g 
   link-real : (x : ℕ) → Range (F .links) x → Range (S .links) (linkTo p x)
   link-real x r = decided-real S F (NS .normal) (NF .normal) p g x (sheet-decided F NF x r)
 
-  linked-same : {y x x′ : ℕ} → Linked S F p y x x′ → x ≡ x′
-  linked-same here = refl
-  linked-same (step s l) = absurd (no-row F (NF .no-contexts) (s .row) (s .of-figure))
-
   pub link-one : (x x′ : ℕ) → Range (F .links) x → Range (F .links) x′ → linkTo p x ≡ linkTo p x′ → x ≡ x′
-  link-one x x′ r r′ e = linked-same (g .linked x x′ (linkTo p x′) (record { figure-link = r; sheet-link = link-real x′ r′; there = e }) (record { figure-link = r′; sheet-link = link-real x′ r′; there = refl }))
+  link-one x x′ r r′ e = kin-labels F (λ y. y) (λ row m. absurd (no-row F (NF .no-contexts) row m)) (together-kin S F p g x x′ (linkTo p x′) (record { figure-link = r; sheet-link = link-real x′ r′; there = e }) (record { figure-link = r′; sheet-link = link-real x′ r′; there = refl }))
 
   link-from : (y : ℕ) → Decided S y → From (F .links) (linkTo p) y
   link-from y (by-atom j r m) = sent (Memᴰ·of-map (linkTo p) ((cellAt (F .atoms) (t .by)) .1) (subst (λ (l : List ℕ). y ∈ l) (sym (g .across (t .by) (t .of-figure) .places)) (subst (λ (k : ℕ). y ∈ (cellAt (S .atoms) k) .1) (sym (t .there)) m)))

@@ -13,3 +13,5 @@ pub mod PieceCode
 pub mod SizeCode
 pub mod RoundCode
 pub mod Coloured
+-- An example, computed.
+pub mod Worked

@@ -11,13 +11,12 @@ use lib.Seq.{getD-set-same, getD-set-other}
 use Rattle.hyperlmntal.specs.Link.{_∈_}
 use Rattle.rows.specs.Format.{mostLinks}
 use Rattle.rows.specs.Limits.{sheetLinks}
-use Rattle.rows.specs.declared.Atom.{Atom}
 use Rattle.rows.specs.declared.Sheet.{Sheet as NormalForm}
 use Rattle.placing.specs.Net.{NetCell, Net, Range}
 use Rattle.placing.specs.Placing.{cellAt}
 use Rattle.network.specs.NetIn.{netIn, Used}
 use Rattle.network.specs.Reach.{stay, move}
-use Rattle.network.proofs.NetIn.{in-place, used-numbered, used-in, atoms-length, atom-index}
+use Rattle.network.proofs.NetIn.{in-place, used-numbered, used-in, atoms-length}
 use Rattle.network.proofs.Reaching.{reach-cast, reach-more}
 use Rattle.candidates.specs.Laid.{laidAtom, linkOf, LaidOut}
 use Rattle.candidates.specs.Words.{wordDigits, In}
@@ -26,6 +25,7 @@ use Rattle.candidates.proofs.Laying.{laid-rowed}
 use Rattle.narrowing.specs.Users.{UsersIn}
 use Rattle.colours.specs.Pieces.{Share, OnePiece}
 use Rattle.colours.specs.Arrays.{PieceIn}
+use Rattle.colours.proofs.RoundCode.{cell-laid}
 
 -- P h u for one of the first k numbers h
 abbrev pub Some : (ℕ → ℕ → Type 0) → ℕ → ℕ → Type 0
@@ -90,7 +90,7 @@ module _ (net : NormalForm) (laid : List ℕ) (n : ℕ) (o : LaidOut net laid n)
 
   -- the links of an atom as they are laid out
   row-of : (t : ℕ) → t < n → (cellAt (N .atoms) (suc t)) .1 ≡ take (laidAtom laid t .count) (laidAtom laid t .links)
-  row-of t h = ap (λ (j : ℕ). (cellAt (N .atoms) j) .1) (let e : suc t ≡ t + 1 = omega arith in e) ∙ ap (λ (c : NetCell). c .1) (atom-index net (o .fit) t (omega (arith, h, o .count))) ∙ ap (λ (a : Atom). take (a .count) (a .links)) (sym (o .atoms t h))
+  row-of t h = ap (λ (c : NetCell). c .1) (cell-laid net laid n o t h)
 
   row-used : (t : ℕ) → t < n → Used sheetLinks (laidAtom laid t .count) (laidAtom laid t .links)
   row-used t h = laid-rowed net laid n o .atoms t h

@@ -84,6 +84,10 @@ pub fn colours_differ<'a>(
         refine(parts, m, d, &mut figure_atoms, &mut figure_links);
         rounds += 1;
     }
+    let last = total(n, c, &sheet_atoms, &sheet_links);
+    if last != total(m, d, &figure_atoms, &figure_links) {
+        return true;
+    }
     atom_sets(&sheet_atoms, n, &figure_atoms, m, atoms);
     link_sets(
         &sheet_links,

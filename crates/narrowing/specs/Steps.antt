@@ -35,6 +35,14 @@ Given sheet n row k y = (t : ℕ) × GivenBy sheet n row k y t
 abbrev pub GivenRow : (ℕ → Atom) → ℕ → Atom → (row z y : ℕ) → Type 0
 GivenRow sheet n here row z y = (k : ℕ) → k < here .count → linkOf here k ≡ z + 1 → Given sheet n row k y
 
+-- what a set of sheet atoms gives at each of the first places is in a table, at each place two words
+abbrev pub GivenTable : (ℕ → Atom) → (n row count : ℕ) (table : List ℕ) → Type 0
+GivenTable sheet n row count table = (k y : ℕ) → k < count → y < sheetLinks → Given sheet n row k y → LinkIn table k y
+
+-- link z + 1 of a figure atom finds y + 1 in the table, at each of its places
+abbrev pub TableRow : (table : List ℕ) (here : Atom) (z y : ℕ) → Type 0
+TableRow table here z y = (k : ℕ) → k < here .count → linkOf here k ≡ z + 1 → LinkIn table k y
+
 -- no atom that has one of these links at place k is in the set
 abbrev pub Barred : (users : List ℕ) (k : ℕ) (left : List ℕ) (out : ℕ) → Type 0
 Barred users k left out = (laid : List ℕ) (n : ℕ) → UsersIn laid n users → (t y : ℕ) → y < sheetLinks → t < n → k < laidAtom laid t .count → linkOf (laidAtom laid t) k ≡ y + 1 → InPair left y → ¬ In out t

@@ -68,3 +68,45 @@ pub(crate) fn alone(
     }
     others
 }
+
+// Sheet atoms that two or more of the first m figure atoms may go to.
+fn wanted_twice(m: usize, atoms: &[u64; Sheet::ATOMS]) -> u64
+    requires { ⌜ m ≤ sheetAtoms ⌝ }
+{
+    let mut once = 0u64;
+    let mut twice = 0u64;
+    let mut j = 0;
+    while j < m {
+        let row = atoms[j];
+        twice = twice | (once & row);
+        once = once | row;
+        j += 1;
+    }
+    twice
+}
+
+fn at_most_one(row: u64) -> bool {
+    if row == 0 {
+        return true;
+    }
+    minus(row, one(first(row))) == 0
+}
+
+// The figure atoms, of the first m, that have one place to go, which others have too, or none.
+pub(crate) fn contested(m: usize, atoms: &[u64; Sheet::ATOMS]) -> u64
+    requires { ⌜ m ≤ sheetAtoms ⌝ }
+{
+    let twice = wanted_twice(m, atoms);
+    let mut set = 0u64;
+    let mut bit = 1u64;
+    let mut j = 0;
+    while j < m {
+        let row = atoms[j];
+        if minus(row, twice) == 0 && at_most_one(row) {
+            set = set | bit;
+        }
+        bit = bit << 1;
+        j += 1;
+    }
+    set
+}

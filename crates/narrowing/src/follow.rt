@@ -64,18 +64,7 @@ fn atom_turn<'a>(
     let here = laid_atom(parts, i);
     let went = lost[i];
     lost[i] = 0;
-    follow_atom(
-        users,
-        laid,
-        n,
-        here,
-        atoms[i],
-        went,
-        0,
-        links,
-        gone,
-        pending,
-    );
+    follow_atom(users, laid, n, here, atoms[i], went, links, gone, pending);
     alone(i, m, atoms, lost)
 }
 

@@ -38,7 +38,7 @@ fn link_at(laid: &[u16; LAID], t: usize, k: usize) -> usize
 }
 
 // The links that the atoms of a set have at place k, of the first n.
-fn given(laid: &[u16; LAID], n: usize, row: u64, k: usize) -> [u64; 2]
+pub(crate) fn given(laid: &[u16; LAID], n: usize, row: u64, k: usize) -> [u64; 2]
     requires { ⌜ Rowed (now laid) n × (k < mostLinks) ⌝ }
     ensures { λ r. ⌜ ((y : ℕ) → y < sheetLinks → Given (laidAtom (now (laid .entry))) n row k y → InPair r y) ⌝ }
 {
@@ -108,20 +108,18 @@ fn links_left<'a>(
     without(pair, missing(users, laid, n, row, gone, k))
 }
 
-// What is added to the losses of link x: what went, and all of `seen`. It is pending where that is not nothing.
+// What went is added to the losses of link x. It is pending where that is not nothing.
 pub(crate) fn note_loss(
     x: usize,
     went: [u64; 2],
-    seen: u64,
     lost: &mut [u64; LINK_SETS],
     pending: &mut [u64; 2],
 )
     requires { ⌜ x < sheetLinks ⌝ }
 {
-    let loss = [went[0] | seen, went[1] | seen];
-    if !is_empty(loss) {
-        lost[x * 2] = lost[x * 2] | loss[0];
-        lost[x * 2 + 1] = lost[x * 2 + 1] | loss[1];
+    if !is_empty(went) {
+        lost[x * 2] = lost[x * 2] | went[0];
+        lost[x * 2 + 1] = lost[x * 2 + 1] | went[1];
         let more = with(*pending, x);
         *pending = more;
     }
@@ -136,7 +134,6 @@ pub(crate) fn follow_atom<'a>(
     here: Atom,
     row: u64,
     gone: u64,
-    seen: u64,
     links: &mut [u64; LINK_SETS],
     lost: &mut [u64; LINK_SETS],
     pending: &mut [u64; 2],
@@ -151,7 +148,7 @@ pub(crate) fn follow_atom<'a>(
         let before = pair_at(links, x);
         let left = links_left(users, laid, n, row, gone, k, before);
         set_pair(links, x, left);
-        note_loss(x, without(before, left), seen, lost, pending);
+        note_loss(x, without(before, left), lost, pending);
         k += 1;
     }
 }

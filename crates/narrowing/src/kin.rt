@@ -74,7 +74,7 @@ fn strip_others(
         if label != own {
             let before = pair_at(links, z);
             set_pair(links, z, without(before, set));
-            note_loss(z, common(before, set), 0, lost, pending);
+            note_loss(z, common(before, set), lost, pending);
         }
         z += 1;
     }
@@ -153,6 +153,9 @@ pub(crate) fn kin_turns<'a>(
 {
     let n = within(kin[Sheet::LINKS]);
     let others = shared(n, links);
+    if is_empty(others) {
+        return;
+    }
     let mut x = 0;
     while x < n {
         kin_turn(owners, kin, x, n, others, links, lost, pending);

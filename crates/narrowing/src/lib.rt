@@ -6,6 +6,7 @@ mod follow;
 mod given;
 mod kin;
 pub mod narrow;
+mod spread;
 pub mod users;
 
 use rows::Sheet;

@@ -1,19 +1,18 @@
 // Narrowing until nothing changes.
 use crate::PLACES;
+use crate::alone::contested;
 use crate::follow::follow;
-use crate::given::follow_atom;
 use crate::kin::kin_turns;
+use crate::spread::spread;
 use candidates::KIN;
 use candidates::LAID;
 use candidates::LINK_SETS;
-use candidates::laid::laid_atom;
 use candidates::pairs::is_empty;
 use candidates::words::ALL;
 use candidates::words::one;
 use rows::Sheet;
 ghost use mathlib.Core.Path.{_≡_};
 ghost use mathlib.Core.Bool.{true};
-ghost use mathlib.Core.List.{List};
 ghost use Prim.Native.Nat.{ℕ, _<_};
 ghost use Rattle.candidates.specs.Laid.{Rowed};
 ghost use Rattle.candidates.specs.Tables.{NoAtom};
@@ -22,40 +21,6 @@ ghost use Rattle.narrowing.specs.Steps.{NarrowedBy};
 
 // A round is the first or follows a loss of a link, so there are never more.
 const ROUNDS: usize = Sheet::LINKS * Sheet::LINKS + 1;
-
-// Every link to what its atoms can give; all are pending then.
-fn spread<'a>(
-    users: &'a [u64; PLACES],
-    laid: &'a [u16; LAID],
-    n: usize,
-    parts: &'a [u16; LAID],
-    m: usize,
-    atoms: &[u64; Sheet::ATOMS],
-    links: &mut [u64; LINK_SETS],
-    gone: &mut [u64; LINK_SETS],
-    pending: &mut [u64; 2],
-)
-    requires { ⌜ Rowed (now laid) n × UsersIn (now laid) n (now users) × Rowed (now parts) m ⌝ }
-    ensures { λ _. ⌜ ((kin : List ℕ) → NarrowedBy kin (now (laid .entry)) n (now (parts .entry)) m (now (atoms .entry)) (now (links .entry)) (now (atoms .entry)) (now (links .exit))) ⌝ }
-{
-    let mut i = 0;
-    while i < m {
-        let here = laid_atom(parts, i);
-        follow_atom(
-            users,
-            laid,
-            n,
-            here,
-            atoms[i],
-            ALL,
-            ALL,
-            links,
-            gone,
-            pending,
-        );
-        i += 1;
-    }
-}
 
 // Losses are followed, from the atoms `first_due` on, then links that have one place are looked at, by turns until
 // nothing is lost or some figure atom may go nowhere. Whether one may go nowhere.
@@ -108,7 +73,7 @@ fn narrow<'a>(
 }
 
 // Atoms by links and links by atoms, from the first sets on, until nothing changes or some figure atom may go nowhere.
-// Whether one may.
+// Whether one may. Of the atoms only those are due whose one place others have too: all links are looked at.
 pub fn narrow_all<'a>(
     users: &'a [u64; PLACES],
     owners: &'a [u64; PLACES],
@@ -125,19 +90,9 @@ pub fn narrow_all<'a>(
     ensures empty { λ r. ⌜ (r ≡ true → (i : ℕ) × (i < m) × NoAtom (now (atoms .exit)) i) ⌝ }
 {
     let mut lost = [0u64; Sheet::ATOMS];
-    let mut gone = [0u64; LINK_SETS];
+    let mut gone = [ALL; LINK_SETS];
     let mut pending = [0u64; 2];
-    spread(
-        users,
-        laid,
-        n,
-        parts,
-        m,
-        atoms,
-        links,
-        &mut gone,
-        &mut pending,
-    );
+    spread(laid, n, parts, m, atoms, links, &mut pending);
     narrow(
         users,
         owners,
@@ -146,7 +101,7 @@ pub fn narrow_all<'a>(
         n,
         parts,
         m,
-        ALL,
+        contested(m, atoms),
         atoms,
         links,
         &mut lost,

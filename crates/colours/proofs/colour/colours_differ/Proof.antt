@@ -95,17 +95,35 @@ loop-again c = let r = c .before .before .before in
     let v = c .refine2 .ensures in
     (u .0, u .1, v .0, v .1, kept-next (sheet-of s) (figure-of s) (sheet-normal s) (figure-normal s) (l .loop .sheet-atoms) (l .loop .sheet-links) (l .loop .figure-atoms) (l .loop .figure-links) (r .refine .last .1 .1 .1 .0) (r .refine .last .1 .1 .1 .1 .0) (c .refine2 .last .1 .1 .1 .0) (c .refine2 .last .1 .1 .1 .1 .0) (l .loop .inv .4) (u .2 (sheet-of s) (s .pre .0) refl) (v .2 (figure-of s) (s .pre .1) refl))
 
+total-requires-3 : tie.Need-total-requires-3 Inv-loop μ-loop
+total-requires-3 c κs = let s = start-of (c .before .before .before) in
+    (s .pre .0 .fit .atom-count, s .pre .0 .fit .class-count)
+
+total-requires-4 : tie.Need-total-requires-4 Inv-loop μ-loop
+total-requires-4 c κs = let s = start-of (c .before .before .before .before .before .before) in
+    (s .pre .1 .fit .atom-count, s .pre .1 .fit .class-count)
+
+returns-2 : tie.Need-returns-2 Inv-loop μ-loop
+returns-2 c = let f = c .before in
+    let t = f .before .before .before in
+    let l = t .before .before .before .before in
+    let s = start-of l in (
+      λ e. sums-differ (sheet-of s) (figure-of s) (sheet-normal s) (figure-normal s) (l .loop .sheet-atoms) (l .loop .sheet-links) (l .loop .figure-atoms) (l .loop .figure-links) (l .loop .inv .4) _ _ _ _ (t .total3 .result) (f .total4 .result)
+          (atoms-length (sheet-of s) (s .pre .0 .fit)) refl (atoms-length (figure-of s) (s .pre .1 .fit)) refl (t .total3 .ensures) (f .total4 .ensures) (c .if2 .taken),
+      λ e. both-ways refl e,
+    )
+
 atom-sets-requires : tie.Need-atom-sets-requires Inv-loop μ-loop
-atom-sets-requires c κs = let s = start-of (c .before .before .before .before) in
+atom-sets-requires c κs = let s = start-of (c .before .before .before .before .before .before .before .before .before .before .before) in
     (s .pre .0 .fit .atom-count, s .pre .1 .fit .atom-count, s .pre .6)
 
 link-sets-requires : tie.Need-link-sets-requires Inv-loop μ-loop
-link-sets-requires c κs = let s = start-of (c .before .before .before .before .before .before .before .before) in
+link-sets-requires c κs = let s = start-of (c .before .before .before .before .before .before .before .before .before .before .before .before .before .before .before) in
     (s .pre .0 .fit .class-count, s .pre .1 .fit .class-count, s .pre .7)
 
-returns-2 : tie.Need-returns-2 Inv-loop μ-loop
-returns-2 c = let a = c .before .before .before .before in
-    let l = a .before .before .before .before .before in
+returns-3 : tie.Need-returns-3 Inv-loop μ-loop
+returns-3 c = let a = c .before .before .before .before in
+    let l = a .before .before .before .before .before .before .before .before .before .before .before .before in
     let s = start-of l in (
       λ e. both-ways e refl,
       λ e. colours-keep (sheet-of s) (figure-of s) (sheet-normal s) (figure-normal s) (l .loop .sheet-atoms) (l .loop .sheet-links) (l .loop .figure-atoms) (l .loop .figure-links) (l .loop .inv .4) (s .pre .0 .fit) (s .pre .1 .fit) (a .atom-sets .last .1 .1 .1 .1 .0) (c .link-sets .last .1 .1 .1 .1 .0) (a .atom-sets .ensures) (c .link-sets .ensures),
@@ -128,6 +146,9 @@ colours-differ-spec =
     add-rounds
     loop-less
     loop-again
+    total-requires-3
+    total-requires-4
+    returns-2
     atom-sets-requires
     link-sets-requires
-    returns-2)
+    returns-3)

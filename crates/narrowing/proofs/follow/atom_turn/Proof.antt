@@ -40,7 +40,7 @@ returns : tie.Need-returns
 returns c = let s = c .before .before .before .before .before .before .before .before .before .before in
     let w = s .args in
     let f = c .before .before .before .follow-atom in
-    let k = f .last .1 .1 .1 .1 .1 .1 .1 .0 in
+    let k = f .last .1 .1 .1 .1 .1 .1 .0 in
     let b = c .alone .last .1 .1 .0 in
     λ kin. narrows-then kin (w .laid .now) (w .n) (w .parts .now) (w .m) (w .atoms .now) (w .links .now) (w .atoms .now) k b k
     (atom-narrows kin (w .laid .now) (w .n) (w .parts .now) (w .m) (w .i) (s .pre .3) _ (c .before .before .before .before .before .before .before .before .before .laid-atom .ensures) (w .atoms .now) (w .links .now) k (f .ensures))

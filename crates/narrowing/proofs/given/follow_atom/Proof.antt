@@ -16,10 +16,10 @@ use Rattle.narrowing.proofs.given.follow_atom.Statement.{statement}
 use Rattle.narrowing.proofs.given.follow_atom.Tie as tie
 
 abbrev Inv-loop : tie.InvT-loop
-Inv-loop users laid n row gone seen links₀ lost₀ pending₀ here count k₀ links lost pending k = (k ≤ count) × LinksStay links₀ links (GivenRow (laidAtom laid) n here row)
+Inv-loop users laid n row gone links₀ lost₀ pending₀ here count k₀ links lost pending k = (k ≤ count) × LinksStay links₀ links (GivenRow (laidAtom laid) n here row)
 
 abbrev μ-loop : tie.MeasureT-loop
-μ-loop users laid n row gone seen links₀ lost₀ pending₀ here count k₀ links lost pending k = count - k
+μ-loop users laid n row gone links₀ lost₀ pending₀ here count k₀ links lost pending k = count - k
 
 -- the link at place k
 here-link : (c : tie.In-loop Inv-loop μ-loop) → Range sheetLinks (linkOf (c .before .before .args .t4) (c .before .loop .k))

@@ -22,8 +22,14 @@ within-requires c κs = search needs
 shared-requires : tie.Need-shared-requires Inv-loop μ-loop
 shared-requires c κs = search needs
 
+is-empty-requires : tie.Need-is-empty-requires Inv-loop μ-loop
+is-empty-requires c κs = search needs
+
+returns : tie.Need-returns Inv-loop μ-loop
+returns c = λ sheet n figure m a users S F os of rows p g o. o
+
 loop-holds : tie.Need-loop-holds Inv-loop μ-loop
-loop-holds c = (search needs, c .before .before .within .ensures, λ sheet m figure k a users S F os of rows p g o. o)
+loop-holds c = (search needs, c .before .before .before .before .within .ensures, λ sheet m figure k a users S F os of rows p g o. o)
 
 kin-turn-requires : tie.Need-kin-turn-requires Inv-loop μ-loop
 kin-turn-requires c κs = search needs
@@ -36,12 +42,12 @@ loop-less c = search needs
 
 loop-again : tie.Need-loop-again Inv-loop μ-loop
 loop-again c = let l = c .before .before .before .before .before in
-    let a = l .before .before .before .before .before .args in
+    let a = l .before .before .before .before .before .before .before .args in
     let k = c .kin-turn .last .1 .1 .1 .1 .1 .0 in
     (search needs, l .loop .inv .1, λ sheet n figure m atoms users. narrows-then (a .kin .now) sheet n figure m atoms (a .links .now) atoms (l .loop .links) atoms k (l .loop .inv .2 sheet n figure m atoms users) (c .kin-turn .ensures sheet n figure m atoms users))
 
-returns : tie.Need-returns Inv-loop μ-loop
-returns c = c .before .loop .inv .2
+returns-2 : tie.Need-returns-2 Inv-loop μ-loop
+returns-2 c = c .before .loop .inv .2
 
 pub kin-turns-spec : {M : Type 1} → statement M
 kin-turns-spec =
@@ -52,9 +58,11 @@ kin-turns-spec =
     element-copy-out-within
     within-requires
     shared-requires
+    is-empty-requires
+    returns
     loop-holds
     kin-turn-requires
     add-x
     loop-less
     loop-again
-    returns)
+    returns-2)

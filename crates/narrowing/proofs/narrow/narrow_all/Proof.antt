@@ -10,11 +10,15 @@ spread-requires c κs = search needs
 narrow-requires : tie.Need-narrow-requires
 narrow-requires c κs = search needs
 
+contested-requires : tie.Need-contested-requires
+contested-requires c κs = search needs
+
 returns : tie.Need-returns
-returns c = let w = c .before .before .before .before .before .before .before .before .before .before .before .args in
+returns c = let w = c .before .before .before .before .before .before .before .before .before .before .before .before .args in
     let f = c .narrow in
-    let p = c .before .before .before .before .before .before .spread in
-    (narrows-then (w .kin .now) (w .laid .now) (w .n) (w .parts .now) (w .m) (w .atoms .now) (w .links .now) (w .atoms .now) (p .last .1 .1 .1 .1 .1 .1 .0) (f .last .1 .1 .1 .1 .1 .1 .1 .1 .0) (f .last .1 .1 .1 .1 .1 .1 .1 .1 .1 .0) (p .ensures (w .kin .now)) (f .ensures .0), f .ensures .1)
+    let p = c .before .before .before .before .before .before .before .before .spread in
+    (narrows-then (w .kin .now) (w .laid .now) (w .n) (w .parts .now) (w .m) (w .atoms .now) (w .links .now) (w .atoms .now) (p .last .1 .1 .1 .1 .1 .0) (f .last .1 .1 .1 .1 .1 .1 .1 .1 .0) (f .last .1 .1 .1 .1 .1 .1 .1 .1 .1 .0) (p .ensures (w .kin .now)) (f .ensures .0), f .ensures .1)
 
 pub narrow-all-spec : {M : Type 1} → statement M
-narrow-all-spec = tie.close (tie.spec spread-requires narrow-requires returns)
+narrow-all-spec =
+    tie.close (tie.spec spread-requires contested-requires narrow-requires returns)
