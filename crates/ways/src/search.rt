@@ -241,6 +241,24 @@ fn onward(
     )
 }
 
+// The first end among the states that were reached as number `from` up to `to`, from 1; 0 where there is none.
+fn end_among(look: &[u16; LOOK], sorted: &[u8; SORTED], from: usize, to: usize) -> usize
+    requires { ⌜ to ≤ stateCount ⌝ }
+    ensures { λ r. ⌜ r ≤ sheetLinks ⌝ }
+{
+    let mut n = from;
+    while n < to {
+        let state = wide(look[STATES + n]);
+        if state < Sheet::LINKS {
+            if sorted[2 * Sheet::LINKS + state] == 1 {
+                return state + 1;
+            }
+        }
+        n += 1;
+    }
+    0
+}
+
 // From the free starts to a free end, which is handed back from 1; 0 where the search comes to none.
 pub(crate) fn search(
     look: &mut [u16; LOOK],
@@ -263,13 +281,14 @@ pub(crate) fn search(
         s += 1;
     }
     let mut head = 0;
+    let mut seen = 0;
     while head < tail {
-        let state = wide(look[STATES + head]) % STATES;
-        if state < Sheet::LINKS {
-            if sorted[2 * Sheet::LINKS + state] == 1 {
-                return state + 1;
-            }
+        let end = end_among(look, sorted, seen, tail);
+        if end != 0 {
+            return end;
         }
+        seen = tail;
+        let state = wide(look[STATES + head]) % STATES;
         tail = onward(
             look,
             tail,

@@ -12,10 +12,10 @@ abbrev μ-loop : tie.MeasureT-loop
 μ-loop look₀ flow laid chains atoms links taken guards sorted tail₀ s₀ look tail s = links - s
 
 abbrev Inv-loop2 : tie.InvT-loop2
-Inv-loop2 look₀ flow laid chains atoms links taken guards sorted tail₀ s head₀ look tail head = (tail ≤ stateCount) × (head ≤ stateCount)
+Inv-loop2 look₀ flow laid chains atoms links taken guards sorted tail₀ s head₀ seen₀ look tail head seen = (tail ≤ stateCount) × (head ≤ stateCount)
 
 abbrev μ-loop2 : tie.MeasureT-loop2
-μ-loop2 look₀ flow laid chains atoms links taken guards sorted tail₀ s head₀ look tail head = stateCount - head
+μ-loop2 look₀ flow laid chains atoms links taken guards sorted tail₀ s head₀ seen₀ look tail head seen = stateCount - head
 
 loop-holds : tie.Need-loop-holds Inv-loop μ-loop Inv-loop2 μ-loop2
 loop-holds c = search needs
@@ -35,6 +35,12 @@ loop-again c = search needs
 loop2-holds : tie.Need-loop2-holds Inv-loop μ-loop Inv-loop2 μ-loop2
 loop2-holds c = search needs
 
+end-among-requires : tie.Need-end-among-requires Inv-loop μ-loop Inv-loop2 μ-loop2
+end-among-requires c κs = search needs
+
+returns : tie.Need-returns Inv-loop μ-loop Inv-loop2 μ-loop2
+returns c = search needs
+
 add-wide : tie.Need-add-wide Inv-loop μ-loop Inv-loop2 μ-loop2
 add-wide c = search needs
 
@@ -46,21 +52,6 @@ element-copy-out-wide c = search needs
 
 wide-requires : tie.Need-wide-requires Inv-loop μ-loop Inv-loop2 μ-loop2
 wide-requires c κs = search needs
-
-mul-if2 : tie.Need-mul-if2 Inv-loop μ-loop Inv-loop2 μ-loop2
-mul-if2 c = search needs
-
-add-if2 : tie.Need-add-if2 Inv-loop μ-loop Inv-loop2 μ-loop2
-add-if2 c = search needs
-
-element-copy-out-if2 : tie.Need-element-copy-out-if2 Inv-loop μ-loop Inv-loop2 μ-loop2
-element-copy-out-if2 c = search needs
-
-add-result : tie.Need-add-result Inv-loop μ-loop Inv-loop2 μ-loop2
-add-result c = search needs
-
-returns : tie.Need-returns Inv-loop μ-loop Inv-loop2 μ-loop2
-returns c = search needs
 
 onward-requires : tie.Need-onward-requires Inv-loop μ-loop Inv-loop2 μ-loop2
 onward-requires c κs = search needs
@@ -91,15 +82,12 @@ search-spec =
     loop-less
     loop-again
     loop2-holds
+    end-among-requires
+    returns
     add-wide
     mul-wide
     element-copy-out-wide
     wide-requires
-    mul-if2
-    add-if2
-    element-copy-out-if2
-    add-result
-    returns
     onward-requires
     add-head
     loop2-less
