@@ -201,7 +201,7 @@ pub(crate) fn find_ways(
     atoms: usize,
     links: usize,
     taken: &[u8; Sheet::ATOMS],
-    guards: &[u8; Sheet::LINKS],
+    guarded: [u64; 2],
     sorted: &[u8; SORTED],
     most: usize,
 ) -> bool
@@ -218,7 +218,7 @@ pub(crate) fn find_ways(
             atoms,
             links,
             taken,
-            guards,
+            guarded,
             sorted,
         );
         if end == 0 {

@@ -74,7 +74,6 @@ pub fn outnumbered_by(
     if ends(&table, guarded, links, 2) <= most {
         return false;
     }
-    let guards = spread(guarded, links);
     let mut flow = [0u8; FLOW];
     if !find_ways(
         &mut flow,
@@ -83,12 +82,13 @@ pub fn outnumbered_by(
         atoms,
         links,
         taken,
-        &guards,
+        guarded,
         &table,
         most + 1,
     ) {
         return false;
     }
+    let guards = spread(guarded, links);
     let mut trails = [0u16; TRAILS];
     lay(&mut trails, &mut flow, laid, chains, atoms, links, &table);
     most < ways(laid, atoms, links, taken, &guards, &table, &trails)

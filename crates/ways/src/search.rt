@@ -8,6 +8,7 @@
 // where it was entered from: START, or 1 more than twice the place, with 1 more where that was left in the second state;
 // from STATES on, the states from which the search goes on, in order.
 use crate::SORTED;
+use crate::guards::flag_of;
 use crate::row::link_at;
 use crate::trail::wide;
 use candidates::LAID;
@@ -54,13 +55,13 @@ fn reach(look: &mut [u16; LOOK], tail: usize, state: usize, from: u16) -> usize
 }
 
 // Is link y guarded, and on a way?
-fn occupied(flow: &[u8; FLOW], guards: &[u8; Sheet::LINKS], y: usize) -> bool
+fn occupied(flow: &[u8; FLOW], guarded: [u64; 2], y: usize) -> bool
     requires { ⌜ y < sheetLinks ⌝ }
 {
-    if guards[y] != 1 {
+    if flow[USES + y] == 0 {
         return false;
     }
-    flow[USES + y] != 0
+    flag_of(guarded, y) == 1
 }
 
 // It is to start at y, if y is a start and free.
@@ -68,7 +69,7 @@ fn start(
     look: &mut [u16; LOOK],
     tail: usize,
     flow: &[u8; FLOW],
-    guards: &[u8; Sheet::LINKS],
+    guarded: [u64; 2],
     sorted: &[u8; SORTED],
     y: usize,
 ) -> usize
@@ -81,7 +82,7 @@ fn start(
     if sorted[3 * Sheet::LINKS + y] == 1 {
         return tail;
     }
-    if occupied(flow, guards, y) {
+    if occupied(flow, guarded, y) {
         return tail;
     }
     reach(look, tail, y, START)
@@ -126,7 +127,7 @@ fn to_link(
     tail: usize,
     flow: &[u8; FLOW],
     laid: &[u16; LAID],
-    guards: &[u8; Sheet::LINKS],
+    guarded: [u64; 2],
     sorted: &[u8; SORTED],
     place: usize,
     second: usize,
@@ -151,7 +152,7 @@ fn to_link(
     if sorted[3 * Sheet::LINKS + z] == 1 {
         return tail;
     }
-    if occupied(flow, guards, z) {
+    if occupied(flow, guarded, z) {
         return reach(look, tail, VERTICES + z, from);
     }
     reach(look, tail, z, from)
@@ -186,7 +187,7 @@ fn from_atom(
     tail: usize,
     flow: &[u8; FLOW],
     laid: &[u16; LAID],
-    guards: &[u8; Sheet::LINKS],
+    guarded: [u64; 2],
     sorted: &[u8; SORTED],
     row: usize,
     second: usize,
@@ -202,7 +203,7 @@ fn from_atom(
             return next;
         }
         let place = row * Sheet::MOST_LINKS + k;
-        next = to_link(look, next, flow, laid, guards, sorted, place, second);
+        next = to_link(look, next, flow, laid, guarded, sorted, place, second);
         k += 1;
     }
     next
@@ -217,7 +218,7 @@ fn onward(
     chains: &[u16; CHAINS],
     atoms: usize,
     taken: &[u8; Sheet::ATOMS],
-    guards: &[u8; Sheet::LINKS],
+    guarded: [u64; 2],
     sorted: &[u8; SORTED],
     state: usize,
 ) -> usize
@@ -234,7 +235,7 @@ fn onward(
         tail,
         flow,
         laid,
-        guards,
+        guarded,
         sorted,
         v - Sheet::LINKS,
         second,
@@ -268,7 +269,7 @@ pub(crate) fn search(
     atoms: usize,
     links: usize,
     taken: &[u8; Sheet::ATOMS],
-    guards: &[u8; Sheet::LINKS],
+    guarded: [u64; 2],
     sorted: &[u8; SORTED],
 ) -> usize
     requires { ⌜ (atoms ≤ sheetAtoms) × Falls (nodeOf atoms 0) (now chains) × (links ≤ sheetLinks) ⌝ }
@@ -277,7 +278,7 @@ pub(crate) fn search(
     let mut tail = 0;
     let mut s = 0;
     while s < links {
-        tail = start(look, tail, flow, guards, sorted, s);
+        tail = start(look, tail, flow, guarded, sorted, s);
         s += 1;
     }
     let mut head = 0;
@@ -297,7 +298,7 @@ pub(crate) fn search(
             chains,
             atoms,
             taken,
-            guards,
+            guarded,
             sorted,
             state,
         );

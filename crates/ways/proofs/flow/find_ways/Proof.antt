@@ -5,10 +5,10 @@ use Rattle.ways.proofs.flow.find_ways.Statement.{statement}
 use Rattle.ways.proofs.flow.find_ways.Tie as tie
 
 abbrev Inv-loop : tie.InvT-loop
-Inv-loop flow₀ laid chains atoms links taken guards sorted most n₀ flow n = Unit {0}
+Inv-loop flow₀ laid chains atoms links taken guarded sorted most n₀ flow n = Unit {0}
 
 abbrev μ-loop : tie.MeasureT-loop
-μ-loop flow₀ laid chains atoms links taken guards sorted most n₀ flow n = most - n
+μ-loop flow₀ laid chains atoms links taken guarded sorted most n₀ flow n = most - n
 
 loop-holds : tie.Need-loop-holds Inv-loop μ-loop
 loop-holds c = search needs

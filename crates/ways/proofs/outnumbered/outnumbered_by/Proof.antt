@@ -36,29 +36,29 @@ ends-requires-2 c κs = let s = c .before .before .before .before .before .befor
 returns-2 : tie.Need-returns-2
 returns-2 c = λ sheet figure d out e. both-ways e refl
 
-spread-requires : tie.Need-spread-requires
-spread-requires c κs = let s = c .before .before .before .before .before .before .before .before in links-few (s .pre .0) (s .pre .1) (s .args .atoms) (s .args .links) (s .args .count) (s .args .chains .now) (s .args .standing .now) (s .args .to .now) (s .pre .2)
-
 add-find-ways : tie.Need-add-find-ways
 add-find-ways c = search needs
 
 find-ways-requires : tie.Need-find-ways-requires
-find-ways-requires c κs = let s = c .before .before .before .before .before .before .before .before .before .before .before .before in
+find-ways-requires c κs = let s = c .before .before .before .before .before .before .before .before .before .before in
     (laid-rowed (s .pre .0) (s .args .laid .now) (s .args .atoms) (s .pre .3) .few, chains-fall (s .pre .0) (s .pre .1) (s .args .atoms) (s .args .links) (s .args .count) (s .args .chains .now) (s .args .standing .now) (s .args .to .now) (s .pre .2), links-few (s .pre .0) (s .pre .1) (s .args .atoms) (s .args .links) (s .args .count) (s .args .chains .now) (s .args .standing .now) (s .args .to .now) (s .pre .2))
 
 returns-3 : tie.Need-returns-3
 returns-3 c = λ sheet figure d out e. both-ways e refl
 
+spread-requires : tie.Need-spread-requires
+spread-requires c κs = let s = c .before .before .before .before .before .before .before .before .before .before .before .before in links-few (s .pre .0) (s .pre .1) (s .args .atoms) (s .args .links) (s .args .count) (s .args .chains .now) (s .args .standing .now) (s .args .to .now) (s .pre .2)
+
 lay-requires : tie.Need-lay-requires
-lay-requires c κs = let s = c .before .before .before .before .before .before .before .before .before .before .before .before .before .before .before .before .before in
+lay-requires c κs = let s = c .before .before .before .before .before .before .before .before .before .before .before .before .before .before .before .before in
     (laid-rowed (s .pre .0) (s .args .laid .now) (s .args .atoms) (s .pre .3) .few, chains-fall (s .pre .0) (s .pre .1) (s .args .atoms) (s .args .links) (s .args .count) (s .args .chains .now) (s .args .standing .now) (s .args .to .now) (s .pre .2), links-few (s .pre .0) (s .pre .1) (s .args .atoms) (s .args .links) (s .args .count) (s .args .chains .now) (s .args .standing .now) (s .args .to .now) (s .pre .2), refl)
 
 ways-requires : tie.Need-ways-requires
-ways-requires c κs = let s = c .before .before .before .before .before .before .before .before .before .before .before .before .before .before .before .before .before .before .before .before .before in (laid-rowed (s .pre .0) (s .args .laid .now) (s .args .atoms) (s .pre .3), links-few (s .pre .0) (s .pre .1) (s .args .atoms) (s .args .links) (s .args .count) (s .args .chains .now) (s .args .standing .now) (s .args .to .now) (s .pre .2))
+ways-requires c κs = let s = c .before .before .before .before .before .before .before .before .before .before .before .before .before .before .before .before .before .before .before .before in (laid-rowed (s .pre .0) (s .args .laid .now) (s .args .atoms) (s .pre .3), links-few (s .pre .0) (s .pre .1) (s .args .atoms) (s .args .links) (s .args .count) (s .args .chains .now) (s .args .standing .now) (s .args .to .now) (s .pre .2))
 
 returns-4 : tie.Need-returns-4
-returns-4 c = let g = c .before .before .before .before .before .before .before .before .before .before .before .before .before in
-    let k = g .before .before .before .before .before .before .before in
+returns-4 c = let g = c .before .before .before .before .before .before .before .before in
+    let k = g .before .before .before .before .before .before .before .before .before .before .before in
     let t = k .before in
     let a = t .before .args in
     λ sheet figure d out e. ways-none-agree sheet figure (a .atoms) (a .links) (a .count) (a .chains .now) (a .standing .now) (a .to .now) d (a .side) (a .laid .now) (a .taken .now) (a .flags .now) (a .guarded) (g .spread .result) (t .sorted .result) (k .crossing .result) (c .ways .result) (a .breaking) out (t .sorted .ensures) (k .crossing .ensures .1) (g .spread .ensures) (c .ways .ensures) (ltb-true _ _ e) _ e
@@ -76,10 +76,10 @@ outnumbered-by-spec =
     returns
     ends-requires-2
     returns-2
-    spread-requires
     add-find-ways
     find-ways-requires
     returns-3
+    spread-requires
     lay-requires
     ways-requires
     returns-4)

@@ -7,10 +7,10 @@ use Rattle.ways.proofs.search.from_atom.Statement.{statement}
 use Rattle.ways.proofs.search.from_atom.Tie as tie
 
 abbrev Inv-loop : tie.InvT-loop
-Inv-loop look₀ tail flow laid guards sorted row second width next₀ k₀ look next k = (k ≤ mostLinks) × (next ≤ stateCount)
+Inv-loop look₀ tail flow laid guarded sorted row second width next₀ k₀ look next k = (k ≤ mostLinks) × (next ≤ stateCount)
 
 abbrev μ-loop : tie.MeasureT-loop
-μ-loop look₀ tail flow laid guards sorted row second width next₀ k₀ look next k = mostLinks - k
+μ-loop look₀ tail flow laid guarded sorted row second width next₀ k₀ look next k = mostLinks - k
 
 mul-wide : tie.Need-mul-wide Inv-loop μ-loop
 mul-wide c = search needs

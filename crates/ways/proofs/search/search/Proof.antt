@@ -6,16 +6,16 @@ use Rattle.ways.proofs.search.search.Statement.{statement}
 use Rattle.ways.proofs.search.search.Tie as tie
 
 abbrev Inv-loop : tie.InvT-loop
-Inv-loop look₀ flow laid chains atoms links taken guards sorted tail₀ s₀ look tail s = (tail ≤ stateCount) × (s ≤ links)
+Inv-loop look₀ flow laid chains atoms links taken guarded sorted tail₀ s₀ look tail s = (tail ≤ stateCount) × (s ≤ links)
 
 abbrev μ-loop : tie.MeasureT-loop
-μ-loop look₀ flow laid chains atoms links taken guards sorted tail₀ s₀ look tail s = links - s
+μ-loop look₀ flow laid chains atoms links taken guarded sorted tail₀ s₀ look tail s = links - s
 
 abbrev Inv-loop2 : tie.InvT-loop2
-Inv-loop2 look₀ flow laid chains atoms links taken guards sorted tail₀ s head₀ seen₀ look tail head seen = (tail ≤ stateCount) × (head ≤ stateCount)
+Inv-loop2 look₀ flow laid chains atoms links taken guarded sorted tail₀ s head₀ seen₀ look tail head seen = (tail ≤ stateCount) × (head ≤ stateCount)
 
 abbrev μ-loop2 : tie.MeasureT-loop2
-μ-loop2 look₀ flow laid chains atoms links taken guards sorted tail₀ s head₀ seen₀ look tail head seen = stateCount - head
+μ-loop2 look₀ flow laid chains atoms links taken guarded sorted tail₀ s head₀ seen₀ look tail head seen = stateCount - head
 
 loop-holds : tie.Need-loop-holds Inv-loop μ-loop Inv-loop2 μ-loop2
 loop-holds c = search needs
