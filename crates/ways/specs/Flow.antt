@@ -7,10 +7,14 @@ use Rattle.rows.specs.Limits.{sheetAtoms, sheetLinks}
 abbrev pub placeCount : ℕ
 placeCount = sheetAtoms * mostLinks
 
--- a number for each place, each vertex (a link or an atom) and each link
+-- a vertex is a link or an atom
+abbrev pub vertexCount : ℕ
+vertexCount = sheetLinks + sheetAtoms
+
+-- a number for each place, each vertex and each link
 abbrev pub flowRoom : ℕ
-flowRoom = placeCount + (sheetLinks + sheetAtoms) + sheetLinks
+flowRoom = placeCount + vertexCount + sheetLinks
 
 -- two states for each vertex
 abbrev pub stateCount : ℕ
-stateCount = 2 * (sheetLinks + sheetAtoms)
+stateCount = 2 * vertexCount

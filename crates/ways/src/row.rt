@@ -31,7 +31,13 @@ fn below(y: usize) -> usize
     requires { ⌜ y < 65536 ⌝ }
     ensures { λ r. ⌜ r < sheetLinks ⌝ }
 {
-    (y + (Sheet::LINKS - 1)) % Sheet::LINKS
+    if y == 0 {
+        return 0;
+    }
+    if Sheet::LINKS < y {
+        return 0;
+    }
+    y - 1
 }
 
 // The link of a place; places are counted atom by atom.

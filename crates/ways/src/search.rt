@@ -17,7 +17,7 @@ use stepping::CHAINS;
 ghost use Prim.Native.Nat.{_<_, _≤_};
 ghost use Rattle.rows.specs.Limits.{sheetAtoms, sheetLinks};
 ghost use Rattle.stepping.specs.Chains.{nodeOf, Falls};
-ghost use Rattle.ways.specs.Flow.{placeCount, stateCount};
+ghost use Rattle.ways.specs.Flow.{placeCount, vertexCount, stateCount};
 
 pub(crate) const START: u16 = 65535;
 
@@ -209,6 +209,27 @@ fn from_atom(
     next
 }
 
+// 1 for a second state.
+fn second_state(state: usize) -> usize
+    ensures { λ r. ⌜ r < 2 ⌝ }
+{
+    if state < VERTICES {
+        return 0;
+    }
+    1
+}
+
+// The vertex of a state.
+fn vertex_of(state: usize) -> usize
+    requires { ⌜ state < stateCount ⌝ }
+    ensures { λ r. ⌜ r < vertexCount ⌝ }
+{
+    if state < VERTICES {
+        return state;
+    }
+    state - VERTICES
+}
+
 // On from this state.
 fn onward(
     look: &mut [u16; LOOK],
@@ -225,8 +246,8 @@ fn onward(
     requires { ⌜ (atoms ≤ sheetAtoms) × Falls (nodeOf atoms 0) (now chains) × (state < stateCount) × (tail ≤ stateCount) ⌝ }
     ensures { λ r. ⌜ r ≤ stateCount ⌝ }
 {
-    let second = state / VERTICES;
-    let v = state % VERTICES;
+    let second = second_state(state);
+    let v = vertex_of(state);
     if v < Sheet::LINKS {
         return from_link(look, tail, flow, chains, atoms, taken, v, second);
     }
@@ -289,7 +310,10 @@ pub(crate) fn search(
             return end;
         }
         seen = tail;
-        let state = wide(look[STATES + head]) % STATES;
+        let state = wide(look[STATES + head]);
+        if STATES <= state {
+            return 0;
+        }
         tail = onward(
             look,
             tail,

@@ -53,6 +53,9 @@ element-copy-out-wide c = search needs
 wide-requires : tie.Need-wide-requires Inv-loop μ-loop Inv-loop2 μ-loop2
 wide-requires c κs = search needs
 
+returns-2 : tie.Need-returns-2 Inv-loop μ-loop Inv-loop2 μ-loop2
+returns-2 c = search needs
+
 onward-requires : tie.Need-onward-requires Inv-loop μ-loop Inv-loop2 μ-loop2
 onward-requires c κs = search needs
 
@@ -65,8 +68,8 @@ loop2-less c = search needs
 loop2-again : tie.Need-loop2-again Inv-loop μ-loop Inv-loop2 μ-loop2
 loop2-again c = search needs
 
-returns-2 : tie.Need-returns-2 Inv-loop μ-loop Inv-loop2 μ-loop2
-returns-2 c = search needs
+returns-3 : tie.Need-returns-3 Inv-loop μ-loop Inv-loop2 μ-loop2
+returns-3 c = search needs
 
 pub search-spec : {M : Type 1} → statement M
 search-spec =
@@ -88,8 +91,9 @@ search-spec =
     mul-wide
     element-copy-out-wide
     wide-requires
+    returns-2
     onward-requires
     add-head
     loop2-less
     loop2-again
-    returns-2)
+    returns-3)
