@@ -1,4 +1,6 @@
 // The numbers of document 01's table for each task's answer, and what a program prints of them.
+#![tactic(auto)]
+
 pub mod outcome;
 pub mod row;
 
@@ -11,7 +13,7 @@ use normalising::normalise::Normalised;
 use sheet::answer::{Answer, Refusal};
 
 // The table's number of an answer, its input and row, and the bytes written.
-#[derive(Drop)]
+#[derive(Clone, Copy)]
 pub struct TaskAnswer {
     pub number: u16,
     pub input: u16,
@@ -20,7 +22,7 @@ pub struct TaskAnswer {
 }
 
 // The table's number of an answer, its input and row, the bytes written, which are none, and its yes or no.
-#[derive(Drop)]
+#[derive(Clone, Copy)]
 pub struct Verdict {
     pub number: u16,
     pub input: u16,

@@ -4,7 +4,7 @@ use sheet::answer::Refusal;
 // Fill, place and swap: the bytes written; the buffer is too short; an input is refused at a row; over whole
 // texts, an input's row with a context that has no filling, or with a filling whose marks are not its ports;
 // no good placing; a result that is no sheet.
-#[derive(Drop)]
+#[derive(Clone, Copy)]
 pub enum Done {
     Written(usize),
     ShortSlip,
@@ -16,7 +16,7 @@ pub enum Done {
 }
 
 // Compare: the two sheets are the same, or not; or an input, the first or the second, is refused at a row.
-#[derive(Drop)]
+#[derive(Clone, Copy)]
 pub enum Compared {
     Same,
     Differs,
@@ -25,7 +25,7 @@ pub enum Compared {
 
 // Claim: the filled figure is the same as the sheet, or not; an input is refused at a row; over whole texts, an
 // input's row with a context that has no filling, or with a filling whose marks are not its ports.
-#[derive(Drop)]
+#[derive(Clone, Copy)]
 pub enum Claimed {
     Holds,
     Differs,

@@ -5,7 +5,7 @@ ghost use Rattle.candidates.specs.Frames.{frame_with};
 use crate::ports::PortSet;
 use rows::Sheet;
 
-#[derive(Drop)]
+#[derive(Clone, Copy)]
 pub struct Frame {
     pub atom_count: usize,
     pub contexts: [PortSet; Sheet::CONTEXT_ROOM],

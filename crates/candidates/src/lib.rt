@@ -1,4 +1,6 @@
 // What a search looks at: the atoms of a net laid out, and where figure atoms and figure links may go, as sets.
+#![tactic(auto)]
+
 pub mod empty;
 pub mod forced;
 pub mod frame;

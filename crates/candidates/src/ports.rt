@@ -9,7 +9,7 @@ use rows::{Context, Sheet};
 
 // The number of a context and the set of its links, counted from 0: neither their order matters to a placing, nor how
 // often each stands in the row.
-#[derive(Drop)]
+#[derive(Clone, Copy)]
 pub struct PortSet {
     pub number: u16,
     pub links: [u64; 2],

@@ -1,5 +1,7 @@
 // Runs tasks on texts and prints each answer. Each argument is a case: a task's name and its files, with
 // a space before each file.
+#![tactic(auto)]
+
 ghost use Rattle.std.specs.Prelude.{◌≤◌, length};
 
 use answers::row::{answer_row, verdict_row, written_part};

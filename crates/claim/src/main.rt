@@ -1,5 +1,7 @@
 // Checks whether a figure holding a list of fillings is a sheet, and prints an A row: number, input, row,
 // and 1 for yes, else 0. The files are those that the arguments name, or sheet.txt, figure.txt and list.txt.
+#![tactic(auto)]
+
 use answers::of_claimed;
 use answers::row::verdict_row;
 use claiming::claim::claim;

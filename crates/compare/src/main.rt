@@ -1,5 +1,7 @@
 // Compares two sheets and prints an A row: number, input, row, and 1 where they are the same, else 0. The
 // sheets are the files that the first two arguments name, or sheet.txt and other.txt.
+#![tactic(auto)]
+
 use answers::of_compared;
 use answers::row::verdict_row;
 use comparing::compare::compare;

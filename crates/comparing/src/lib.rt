@@ -1,2 +1,4 @@
 // Comparing two sheets.
+#![tactic(auto)]
+
 pub mod compare;

@@ -1,5 +1,7 @@
 // What placed atoms and marks decide of a figure's links, the kinds of the links that they leave open, and where those
 // cannot go.
+#![tactic(auto)]
+
 pub mod bars;
 pub mod decided;
 pub mod kinds;

@@ -13,7 +13,7 @@ use candidates::laid::laid_atom;
 use rows::Sheet;
 
 // Where the figure links go, 0 while nothing decides it; `ok` is false where two places disagree.
-#[derive(Drop)]
+#[derive(Clone, Copy)]
 pub struct Links {
     pub ok: bool,
     pub to: [u16; Sheet::LINKS],

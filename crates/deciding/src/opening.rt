@@ -6,7 +6,7 @@ ghost use Rattle.deciding.specs.Flags.{OpensIn};
 use rows::Sheet;
 
 // The open links go to none, and are flagged.
-#[derive(Drop)]
+#[derive(Clone, Copy)]
 pub struct Opened {
     pub to: [u16; Sheet::LINKS],
     pub flags: [u8; Sheet::LINKS],

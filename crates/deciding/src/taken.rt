@@ -7,7 +7,7 @@ ghost use Rattle.deciding.specs.Flags.{TakenBy};
 use rows::Sheet;
 
 // For each sheet atom 1 where a figure atom goes; `ok` is false where two go to one.
-#[derive(Drop)]
+#[derive(Clone, Copy)]
 pub struct Taken {
     pub ok: bool,
     pub flags: [u8; Sheet::ATOMS],

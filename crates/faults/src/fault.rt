@@ -20,7 +20,7 @@ use stepping::lookup::{port_table, used_links};
 use stepping::steps::apart;
 use stepping::{CHAINS, PORTS};
 
-#[derive(Drop)]
+#[derive(Clone, Copy)]
 pub struct Fault {
     pub found: bool,
     // 1 for each sheet link of the fault
@@ -30,7 +30,7 @@ pub struct Fault {
 }
 
 // What is found of one component: a fault, and 1 for each of its links.
-#[derive(Drop)]
+#[derive(Clone, Copy)]
 pub(crate) struct Found {
     pub fault: bool,
     pub links: [u8; Sheet::LINKS],

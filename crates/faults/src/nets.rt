@@ -4,7 +4,7 @@ use rows::Sheet;
 
 // The sheet's counts of atoms and links, and the figure's contexts, of which there are `rows`, and its count
 // of links.
-#[derive(Drop)]
+#[derive(Clone, Copy)]
 pub struct Nets {
     pub atoms: usize,
     pub links: usize,

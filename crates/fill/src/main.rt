@@ -1,5 +1,7 @@
 // Prints a figure filled from a list of fillings: an A row with number, input and row, then the rows. The
 // files are those that the arguments name, or figure.txt and list.txt.
+#![tactic(auto)]
+
 use answers::of_done;
 use answers::row::{answer_row, written_part};
 use filling::fill::fill;

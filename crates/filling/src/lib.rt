@@ -1,4 +1,6 @@
 // Filling a figure from a list of fillings: refusals over whole texts, and the filled result.
+#![tactic(auto)]
+
 mod classes;
 pub mod fill;
 pub mod filled;

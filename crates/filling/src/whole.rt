@@ -12,7 +12,7 @@ use crate::part::{note_exact, part_of};
 use rows::{Atom, Context, Sheet};
 
 // As many atoms as a sheet has room for: one more than its limit says that there are too many.
-#[derive(Drop)]
+#[derive(Clone, Copy)]
 pub struct Whole {
     pub atoms: [Atom; Sheet::ATOM_ROOM],
     pub count: usize,

@@ -41,7 +41,7 @@ module _ (P Q : Type 0) where
       at (no e) g = g
 
   filled-with : (o : Option (Entry (Flat Q))) (i : ℕ) (c : Cell P) (n : Node (Spot P Q)) → On n (fill_with o i c) → Filled (λ m. m ∈ c.ports) i (suc i) n
-  filled-with none i c n m = let t : (a : Node P) × (a ∈ c.ports) × (outer_node a ≡ n) = Memᴰ.of_map outer_node c.ports (unpadded (map outer_node c.ports) m) in subst (Filled (λ m. m ∈ c.ports) i (suc i)) t.2 (filled-outer _ i (suc i) t.0 t.1)
+  filled-with none i c n m = let t : (a : Node P) × (a ∈ c.ports) × (outer_node a ≡ n) = Memᴰ.of_map outer_node c.ports (unpadded (map outer_node c.ports) m) in subst (Filled (λ m. m ∈ c.ports) i (suc i)) t.2 (filled-outer (λ m. m ∈ c.ports) i (suc i) t.0 t.1)
   filled-with (some e) i c n m = let t = on-of-map (plug i c.ports e.ports) e.body m in subst (Filled (λ m. m ∈ c.ports) i (suc i)) t.2 (at t.0)
     where
       at : (k : Node Q) → Filled (λ m. m ∈ c.ports) i (suc i) (plug i c.ports e.ports k)

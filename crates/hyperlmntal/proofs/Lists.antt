@@ -81,7 +81,7 @@ perm_comm (a ∷ l) k = after (keep (perm_comm l k)) (perm-front a k l)
 module _ {A B : Type 0} {R : A → B → Type 0} where
   pub each-perm : {l : List A} {k m : List B} → Perm k m → Each R l k → (n : List A) × Perm l n × Each R n m
   each-perm empty done = ([], empty, done)
-  each-perm (keep p) (more {a = a} r e) = let t = each-perm p e in (a ∷ t.0, keep t.1, more r t.2)
+  each-perm (keep p) (more {a = a} {l = l} r e) = let t = each-perm {l = l} p e in (a ∷ t.0, keep t.1, more r t.2)
   each-perm swap (more {a = a} r (more {a = b} {l = l} s e)) = (b ∷ a ∷ l, swap, more s (more r e))
   each-perm (after p q) e = let t = each-perm p e in let u = each-perm q t.2 in (u.0, after t.1 u.1, u.2)
 

@@ -56,6 +56,7 @@ pick_at first = Memᴰ.head refl
 pick_at (later p) = Memᴰ.tail (pick_at p)
 
 pub pick-perm : {A : Type 0} {a : A} {l k r : List A} → Perm l k → Pick a k r → (s : List A) × Pick a l s × Perm s r
+pick-perm empty x = elim x [ ]
 pick-perm (keep {l = l} p) first = (l, first, p)
 pick-perm (keep {a = b} p) (later q) = let t = pick-perm p q in (b ∷ t.0, later t.1, keep t.2)
 pick-perm (swap {a = a} {l = l}) first = (a ∷ l, later first, perm-refl (a ∷ l))
@@ -74,8 +75,10 @@ pick-append {A} {a} (b ∷ l) k (later {r = r} p) = on (pick-append l k p)
     on (inr t) = inr (t.0, t.1, ap (λ m. b ∷ m) t.2)
 
 pub pick-map : {A B : Type 0} (f : A → B) {b : B} (l : List A) {r : List B} → Pick b (map f l) r → (a : A) × (s : List A) × Pick a l s × (f a ≡ b) × (map f s ≡ r)
+pick-map f [] x = elim x [ ]
 pick-map f (a ∷ l) first = (a, l, first, refl, refl)
 pick-map f (a ∷ l) (later p) = let t = pick-map f l p in (t.0, a ∷ t.1, later t.2, t.3, ap (λ m. f a ∷ m) t.4)
 
 pub pick-one : {A : Type 0} {a b : A} {r : List A} → Pick a (b ∷ []) r → (a ≡ b) × (r ≡ [])
 pick-one first = (refl, refl)
+pick-one (later x) = elim x [ ]

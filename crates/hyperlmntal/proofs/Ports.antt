@@ -29,6 +29,8 @@ Even {A} {B} l k = Each (λ (a : A) (b : B). Unit {0}) l k
 
 pub even-of-map : {A B C : Type 0} (f : B → C) (l : List A) (k : List B) → Even l (map f k) → Even l k
 even-of-map f [] [] done = done
+even-of-map f [] (b ∷ k) x = elim x [ ]
+even-of-map f (a ∷ l) [] x = elim x [ ]
 even-of-map f (a ∷ l) (b ∷ k) (more u e) = more u (even-of-map f l k e)
 
 -- New links for the members of a list, none of them in l.
@@ -85,6 +87,8 @@ off-append {l} {k} {Z} n m i = from (Memᴰ.append_cases l i)
 -- The ports Q⃗ are done, the ports P⃗ are to be done.
 name-more : (c : Label) (Qs Ps Xs : List Link) → Even Ps Xs → Distinct Ps → Off Ps Xs → Off Ps Qs → νs Ps (molecule (labelled c (Qs ++ Ps)) (net (pairs Ps Xs))) ≅ labelled c (Qs ++ Xs)
 name-more c Qs [] [] done apart ox oq = E1-right
+name-more c Qs [] (X ∷ Xs) x apart ox oq = elim x [ ]
+name-more c Qs (P ∷ Ps) [] x apart ox oq = elim x [ ]
 name-more c Qs (P ∷ Ps) (X ∷ Xs) (more u e) apart ox oq = ≅-trans (νs-inward P Ps _) (≅-trans (νs-≅ Ps step) (≅-trans (name-more c (Qs ++ (X ∷ [])) Ps Xs e apart.1 (λ Z m i. ox Z (Memᴰ.tail m) (Memᴰ.tail i)) (λ Z m. off-append (oq Z (Memᴰ.tail m)) (λ i. ox Z (Memᴰ.tail m) (Memᴰ.head (Memᴰ.eq_of_singleton i))))) (≅-≡ (ap (labelled c) (append_assoc Qs (X ∷ []) Xs)))))
   where
     σ : Link → Link

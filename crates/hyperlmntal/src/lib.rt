@@ -1,1 +1,2 @@
 // HyperLMNtal graphs: definitions in specs/, theorems in proofs/, no code.
+#![tactic(auto)]

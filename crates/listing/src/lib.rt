@@ -1,4 +1,6 @@
 // The list of the fillings of a placing, written as text.
+#![tactic(auto)]
+
 pub mod numbers;
 mod order;
 pub mod ports;

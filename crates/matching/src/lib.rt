@@ -1,4 +1,6 @@
 // Finding a figure in a sheet.
+#![tactic(auto)]
+
 mod begin;
 mod crowd;
 mod forced;

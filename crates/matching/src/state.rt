@@ -8,7 +8,7 @@ use rows::Sheet;
 
 // A search on its way: the sheet and the figure without their atoms, where the first `placed` figure atoms go, and
 // whether it is known that no good placing begins so, and whether ways are looked for.
-#[derive(Drop)]
+#[derive(Clone, Copy)]
 pub(crate) struct State {
     pub(crate) sheet: Frame,
     pub(crate) figure: Frame,

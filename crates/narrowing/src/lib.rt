@@ -1,4 +1,6 @@
 // Narrowing: fewer places for figure atoms and figure links, while the search places atoms.
+#![tactic(auto)]
+
 mod alone;
 mod barred;
 pub mod choose;

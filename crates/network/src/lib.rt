@@ -1,1 +1,2 @@
 // Placings as the search sees them: definitions in specs/, laws in proofs/.
+#![tactic(auto)]

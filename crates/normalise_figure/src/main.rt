@@ -1,5 +1,7 @@
 // Prints the normal text of a figure: an A row with number, input and row, then its rows. The figure is the
 // file that the first argument names, or figure.txt.
+#![tactic(auto)]
+
 use answers::of_normalised;
 use answers::row::{answer_row, written_part};
 use libc::STDOUT_FILENO;

@@ -10,7 +10,7 @@ use sheet::answer::{Answer, Refusal};
 use sheet::kind::Kind;
 
 // The bytes written; the buffer is too short; or the text is refused at a row.
-#[derive(Drop)]
+#[derive(Clone, Copy)]
 pub enum Normalised {
     Written(usize),
     ShortSlip,

@@ -1,5 +1,7 @@
 // Prints the fillings with which a figure is a sheet: an A row with number, input and row, then the rows.
 // The files are those that the arguments name, or sheet.txt and figure.txt.
+#![tactic(auto)]
+
 use answers::of_done;
 use answers::row::{answer_row, written_part};
 use finding::place::place;

@@ -1,6 +1,8 @@
 // The tasks as C and Rust callers link them, in libplacer.a; include/placer.h declares them. A text, and the
 // output buffer, is a pointer and a length. Each function returns the table's number and writes the other values
 // of the answer through its last parameters. Nothing is asked of the texts or of the buffer's length.
+#![tactic(auto)]
+
 ghost use Rattle.std.specs.Prelude.{◌≡◌, length};
 ghost use Rattle.normalising.specs.NormalText.{normalised_answer, normalised_slip, normalised_number, normalised_input, normalised_row, normalised_bytes};
 ghost use Rattle.answers.specs.Done.{done_number, done_input, done_row, done_bytes};

@@ -1,1 +1,2 @@
 // The theory of placings: definitions in specs/, theorems in proofs/.
+#![tactic(auto)]

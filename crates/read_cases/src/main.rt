@@ -1,6 +1,8 @@
 // Reads texts of every kind and prints, for each, the number, input and row of the reader's answer.
 // The arguments go in pairs: a kind (sheet, pattern, figure, replacement, list), and a file. A
 // replacement is read against the pattern before it.
+#![tactic(auto)]
+
 use answers::of_reading;
 use libc::STDOUT_FILENO;
 use reading::read::Reading;

@@ -24,7 +24,7 @@ use sheet::kind::{Kind, is_list};
 // A reader's answer; the normal form of what the text holds; and for each context number its port count and 1, 0
 // where no row has that number. A text that is turned down holds nothing. Of a list, the contexts are the heads as
 // they stand, and the links and marks are those of the last filling.
-#[derive(Drop)]
+#[derive(Clone, Copy)]
 pub struct Reading {
     pub answer: Answer,
     pub normal: Sheet,

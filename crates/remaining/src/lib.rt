@@ -1,4 +1,6 @@
 // The contexts that remain for each sheet atom that no figure atom takes, wherever the open links go.
+#![tactic(auto)]
+
 mod atoms;
 mod classes;
 mod joins;

@@ -1,4 +1,6 @@
 // Rows of 34 bytes: how one is read, and what a text holds of its rows.
+#![tactic(auto)]
+
 pub mod entry;
 pub mod row;
 
@@ -6,7 +8,7 @@ ghost use Rattle.std.specs.Prelude.{◌≡◌};
 ghost use Rattle.rows.specs.Packed.{no_atom, no_context, empty_sheet};
 
 // A symbol row: an atom with its name and its links, of which `count` are used.
-#[derive(Drop)]
+#[derive(Clone, Copy)]
 pub struct Atom {
     pub name: u16,
     pub count: u16,
@@ -15,7 +17,7 @@ pub struct Atom {
 
 // A blank row: a graph context with its number and its ports; `row` is its row, from 1.
 // In a list of fillings, a head: the context that is filled, and its port count.
-#[derive(Drop)]
+#[derive(Clone, Copy)]
 pub struct Context {
     pub number: u16,
     pub count: u16,
@@ -53,7 +55,7 @@ impl Context {
 // A sheet or a figure as it is read: its rows in normal form. The links of atoms and contexts are the numbers of link
 // classes, from 1; the marks ascend, and each has the number of its link class. In a list of fillings, the contexts are
 // its heads. Each array has room for one row more than its limit, since a row is taken in before it is judged.
-#[derive(Drop)]
+#[derive(Clone, Copy)]
 pub struct Sheet {
     pub atoms: [Atom; Sheet::ATOM_ROOM],
     pub atom_count: usize,

@@ -7,7 +7,7 @@ use crate::Sheet;
 
 // What a field of a row may hold: a number from low to high where it is filled, nothing elsewhere.
 // A counted field is filled where the row's count, its second field, reaches it. What a link field holds is a joint.
-#[derive(Drop)]
+#[derive(Clone, Copy)]
 pub struct Rule {
     pub filled: bool,
     pub counted: bool,
@@ -75,7 +75,7 @@ const RULES: [[Rule; Sheet::FIELDS]; Row::NO_LETTER] = [
 
 // A row as read: the place of its letter in the table, or `NO_LETTER`; whether every field is as the table asks; and its
 // numbers, up to the first bad field.
-#[derive(Drop)]
+#[derive(Clone, Copy)]
 pub struct Row {
     pub letter: usize,
     pub good: bool,

@@ -28,7 +28,7 @@ use stepping::chains::chains;
 use stepping::standing::standing;
 
 // Where the figure links go, and the context of each sheet atom, 0 where a figure atom goes.
-#[derive(Drop)]
+#[derive(Clone, Copy)]
 pub struct Completed {
     pub ok: bool,
     pub links_to: [u16; Sheet::LINKS],

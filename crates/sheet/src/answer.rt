@@ -1,5 +1,5 @@
 // What a reader answers: the refusals of a row, in the table's order, and the row that is refused.
-#[derive(Drop)]
+#[derive(Clone, Copy)]
 pub enum Refusal {
     Ragged,
     StrangeRow,
@@ -12,7 +12,7 @@ pub enum Refusal {
 }
 
 // A text passed, or it is refused at a row, counted from 1.
-#[derive(Drop)]
+#[derive(Clone, Copy)]
 pub enum Answer {
     Passed,
     Refused(Refusal, usize),

@@ -14,7 +14,7 @@ use rows::Sheet;
 use rows::row::{Row, read_row};
 
 // The next row, and whether a test that asks nothing of what is held turns it down.
-#[derive(Drop)]
+#[derive(Clone, Copy)]
 pub struct Next {
     pub answer: Answer,
     pub row: Row,

@@ -8,7 +8,7 @@ use rows::Sheet;
 use rows::row::Row;
 
 // A sheet; a figure as a pattern, as a replacement, or in any other place; a list of fillings.
-#[derive(Drop)]
+#[derive(Clone, Copy)]
 pub enum Kind {
     Plain,
     Pattern,
@@ -19,7 +19,7 @@ pub enum Kind {
 
 // What a text may have: for each letter, S B F E H, whether its rows stand there; and the most rows,
 // symbols, B or H rows, joint numbers and marks.
-#[derive(Drop)]
+#[derive(Clone, Copy)]
 pub struct Limits {
     pub letters: [bool; Row::NO_LETTER],
     pub rows: usize,

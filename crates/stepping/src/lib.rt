@@ -1,4 +1,6 @@
 // Tables over figure and sheet, and figure links that are linked by steps.
+#![tactic(auto)]
+
 pub mod chains;
 pub mod contexts;
 pub mod lookup;

@@ -1,5 +1,7 @@
 // Swaps a figure in a sheet for another and prints an A row with number, input and row, then the new sheet.
 // The files are those that the arguments name, or sheet.txt, figure.txt and replacement.txt.
+#![tactic(auto)]
+
 use answers::of_done;
 use answers::row::{answer_row, written_part};
 use libc::STDOUT_FILENO;

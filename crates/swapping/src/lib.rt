@@ -1,3 +1,5 @@
 // Putting a replacement where a pattern was found.
+#![tactic(auto)]
+
 mod given;
 pub mod swap;

@@ -1,8 +1,10 @@
 // What the programs share: a text read from a file.
+#![tactic(auto)]
+
 ghost use Rattle.io.specs.Counts.{IsPrefixLen};
 
 // What was read of a file: so many bytes; or its reading failed, which standard error says.
-#[derive(Drop)]
+#[derive(Clone, Copy)]
 pub struct Input {
     pub bytes: usize,
     pub failed: bool,

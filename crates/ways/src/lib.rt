@@ -1,4 +1,6 @@
 // Ways through the sheet from one half of the contexts to the other.
+#![tactic(auto)]
+
 pub mod crowded;
 mod flow;
 mod guarded;

@@ -1,5 +1,7 @@
 // Runs the worked cases of document 01 that are not starred, each on a buffer of the least length and on one that is a
 // byte shorter. Prints the answer and what was written, and whether the rest of the buffer is as it was.
+#![tactic(auto)]
+
 use answers::row::{answer_row, written_part};
 use answers::{TaskAnswer, of_done, of_normalised};
 use libc::STDOUT_FILENO;

@@ -8,5 +8,5 @@ returns : tie.Need-returns
 unfolding hint_at
 returns c = (search rules, refl)
 
-pub hint-at-spec : {M : Type 1} → statement M
-hint-at-spec = tie.close (tie.spec returns)
+pub hint_at_spec : {M : Type 1} → statement M
+hint_at_spec = tie.close (tie.spec returns)

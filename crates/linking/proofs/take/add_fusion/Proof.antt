@@ -6,47 +6,47 @@ use Rattle.linking.proofs.Arrays.{links-fused}
 use Rattle.linking.proofs.take.add_fusion.Statement.{statement}
 use Rattle.linking.proofs.take.add_fusion.Tie as tie
 
-place-link-requires : tie.Need-place-link-requires
+place-link-requires : tie.Need-place_link-i-requires
 place-link-requires c κs = search rules
 
-count-with-requires : tie.Need-count-with-requires
+count-with-requires : tie.Need-count_with-m-requires
 count-with-requires c κs = search rules
 
-place-link-requires-2 : tie.Need-place-link-requires-2
+place-link-requires-2 : tie.Need-place_link-j-requires
 place-link-requires-2 c κs = let s = c.before.before.before.before.before.before.before.before.before.before.before.before.before.before in
-    let x = c.before.before.before.before.before.before.before.before.place-link in
-    (omega (arith, s.requires.0, c.before.before.before.count-with.ensures.0), x.auto.0 ∙ s.requires.1, x.auto.1.0 ∙ s.requires.2, rw c.before.before.before.count-with.ensures.1 x.ensures.2)
+    let x = c.before.before.before.before.before.before.before.before.place_link-i in
+    (omega (arith, s.requires.0, c.before.before.before.count_with-m.ensures.0), x.auto.0 ∙ s.requires.1, x.auto.1.0 ∙ s.requires.2, rw c.before.before.before.count_with-m.ensures.1 x.ensures.2)
 
-count-with-requires-2 : tie.Need-count-with-requires-2
-count-with-requires-2 c κs = omega (arith, c.before.before.before.before.before.before.before.before.before.before.before.before.before.before.before.before.before.before.before.requires.0, c.before.before.before.before.before.before.before.before.count-with.ensures.0)
+count-with-requires-2 : tie.Need-count_with-count-requires
+count-with-requires-2 c κs = omega (arith, c.before.before.before.before.before.before.before.before.before.before.before.before.before.before.before.before.before.before.before.requires.0, c.before.before.before.before.before.before.before.before.count_with-m.ensures.0)
 
 merge-requires : tie.Need-merge-requires
 merge-requires c κs = let s = c.before.before.before.before.before.before.before.before.before.before.before.before.before.before.before.before.before.before.before.before.before in
-    let x = c.before.before.before.before.before.before.before.before.before.before.before.before.before.before.before.place-link in
-    let m = c.before.before.before.before.before.before.before.before.before.before.count-with.ensures.0 in
-    let y = c.before.before.before.before.before.before.place-link2 in
+    let x = c.before.before.before.before.before.before.before.before.before.before.before.before.before.before.before.place_link-i in
+    let m = c.before.before.before.before.before.before.before.before.before.before.count_with-m.ensures.0 in
+    let y = c.before.before.before.before.before.before.place_link-j in
     let wide = y.auto.1.0 ∙ x.auto.1.0 ∙ s.requires.2 in
-    (omega (arith, wide, s.requires.0, m, c.before.count-with2.ensures.0), omega (arith, wide, s.requires.0, x.ensures.0), omega (arith, wide, s.requires.0, m, y.ensures.0))
+    (omega (arith, wide, s.requires.0, m, c.before.count_with-count.ensures.0), omega (arith, wide, s.requires.0, x.ensures.0), omega (arith, wide, s.requires.0, m, y.ensures.0))
 
-same_length : tie.Need-same-length
+same_length : tie.Need-shape_of-links
 same_length c = search rules
 
-same-length-2 : tie.Need-same-length-2
+same-length-2 : tie.Need-shape_of-classes
 same-length-2 c = search rules
 
 returns : tie.Need-returns
 returns c = let a = c.before.before.before.before.before.before.before.before.before.before.before.before.before.before.before.before.before.before.before.before.before.before.before.before.args in
-    let x = c.before.before.before.before.before.before.before.before.before.before.before.before.before.before.before.before.before.before.place-link in
-    let m = c.before.before.before.before.before.before.before.before.before.before.before.before.before.count-with in
-    let y = c.before.before.before.before.before.before.before.before.before.place-link2 in
-    let o = c.before.before.before.before.count-with2 in (
+    let x = c.before.before.before.before.before.before.before.before.before.before.before.before.before.before.before.before.before.before.place_link-i in
+    let m = c.before.before.before.before.before.before.before.before.before.before.before.before.before.count_with-m in
+    let y = c.before.before.before.before.before.before.before.before.before.place_link-j in
+    let o = c.before.before.before.before.count_with-count in (
       links-fused a.links.now a.classes.now a.n x.new.0 x.new.1.0 m.result y.new.0 y.new.1.0 o.result a.a a.b x.result y.result c.before.before.merge.new.0
           x.ensures.1 m.ensures.1 y.ensures.1 o.ensures.1 c.before.before.merge.ensures,
       rw o.ensures.1 y.ensures.2,
     )
 
-pub add-fusion-spec : {M : Type 1} → statement M
-add-fusion-spec =
+pub add_fusion_spec : {M : Type 1} → statement M
+add_fusion_spec =
     tie.close
     (tie.spec
     place-link-requires

@@ -12,90 +12,90 @@ use Rattle.linking.proofs.take.add_row_links.Statement.{statement}
 use Rattle.linking.proofs.take.add_row_links.Tie as tie
 
 -- the first link's field and the count of links are those of the row's letter
-from_is : (c : tie.After-first-link) → c.first-link.result ≡ first_link c.before.before.before.before.before.before.before.before.before.before.before.before.args.row.letter
-from_is c = c.first-link.ensures ∙ ap first_link_in c.before.rules-of.ensures
+from_is : (c : tie.After-first_link-from) → c.first_link-from.result ≡ first_link c.before.before.before.before.before.before.before.before.before.before.before.before.args.row.letter
+from_is c = c.first_link-from.ensures ∙ ap first_link_in c.before.rules_of-own.ensures
 
-count-is : (c : tie.After-link-count) → let r = c.before.before.before.before.before.before.before.before.before.before.before.before.before.before.args.row in c.link-count.result ≡ link_total r.letter r.nums
-count-is c = c.link-count.ensures ∙ ap (λ (own : List Rule). link_count_in own (get_or c.before.before.before.before.before.before.before.before.before.before.before.before.before.before.args.row.nums 1 0)) c.before.before.before.rules-of.ensures
+count-is : (c : tie.After-link_count-count) → let r = c.before.before.before.before.before.before.before.before.before.before.before.before.before.before.args.row in c.link_count-count.result ≡ link_total r.letter r.nums
+count-is c = c.link_count-count.ensures ∙ ap (λ (own : List Rule). link_count_in own (get_or c.before.before.before.before.before.before.before.before.before.before.before.before.before.before.args.row.nums 1 0)) c.before.before.before.rules_of-own.ensures
 
-from_zero : (c : tie.Then1) → c.before.first-link.result ≡ 0
-from_zero c = from_is c.before ∙ fusion-first c.before.before.before.before.before.before.before.before.before.before.before.before.before.args.row.letter c.if1.true
+from_zero : (c : tie.Then-letter-eq-FUSION) → c.before.first_link-from.result ≡ 0
+from_zero c = from_is c.before ∙ fusion-first c.before.before.before.before.before.before.before.before.before.before.before.before.before.args.row.letter c.if-letter-eq-FUSION.true
 
-clear-gone-requires : tie.Need-clear-gone-requires
+clear-gone-requires : tie.Need-clear_gone-kept-requires
 clear-gone-requires c κs = search rules
 
-rules-of-requires : tie.Need-rules-of-requires
+rules-of-requires : tie.Need-rules_of-own-requires
 rules-of-requires c κs = search rules
 
-first-link-requires : tie.Need-first-link-requires
+first-link-requires : tie.Need-first_link-from-requires
 first-link-requires c κs = search rules
 
-mul-add-fusion : tie.Need-overflow-mul-add-fusion
+mul-add-fusion : tie.Need-offset_bounds-nums-from
 mul-add-fusion c = search (rules, from_zero c.before.before)
 
-array-read-add-fusion : tie.Need-array-read-add-fusion
+array-read-add-fusion : tie.Need-bounds-nums-from
 array-read-add-fusion c = search (rules, from_zero c.before.before)
 
-add-add-fusion : tie.Need-overflow-add-add-fusion
+add-add-fusion : tie.Need-overflow_add-from
 add-add-fusion c = search (rules, from_zero c.before.before)
 
-mul-add-fusion-2 : tie.Need-overflow-mul-add-fusion-2
+mul-add-fusion-2 : tie.Need-offset_bounds-nums-from-then-letter-eq-FUSION
 mul-add-fusion-2 c = search (rules, from_zero c.before.before)
 
-array-read-add-fusion-2 : tie.Need-array-read-add-fusion-2
+array-read-add-fusion-2 : tie.Need-bounds-nums-from-then-letter-eq-FUSION
 array-read-add-fusion-2 c = search (rules, from_zero c.before.before)
 
-add-fusion-requires : tie.Need-add-fusion-requires
+add-fusion-requires : tie.Need-add_fusion-requires
 add-fusion-requires c κs = let s = c.before.before.before.before.before.before.before.before.before.before.before.before.before.before.before.before in
-    let x = c.before.before.before.before.before.before.before.before.before.before.clear-gone in
+    let x = c.before.before.before.before.before.before.before.before.before.before.clear_gone-kept in
     (search rules, x.auto.0 ∙ s.requires.2, x.auto.1.0 ∙ s.requires.3, hinted-left s.args.hints.now s.args.links.now s.args.n s.requires.4 s.args.row.letter x.result x.new.0 x.ensures.0 x.ensures.1)
 
-same_length : tie.Need-same-length
+same_length : tie.Need-shape_of-links-then-letter-eq-FUSION
 same_length c = search rules
 
-same-length-2 : tie.Need-same-length-2
+same-length-2 : tie.Need-shape_of-classes-then-letter-eq-FUSION
 same-length-2 c = search rules
 
-returns : tie.Need-returns
+returns : tie.Need-returns-then-letter-eq-FUSION
 returns c = let s = c.before.before.before.before.before.before.before.before.before.before.before.before.before.before.before.before.before.before.before.before.before in
     let a = s.args in
-    let x = c.before.before.before.before.before.before.before.before.before.before.before.before.before.before.before.clear-gone in
-    let y = c.before.before.before.before.add-fusion in
-    let two = c.before.before.before.before.before.before.before.before.if1.true in
-    (λ e. absurd (omega (arith, two, e)), row-fused a.row a.links.now a.classes.now a.n x.result x.new.0 x.new.1.0 y.new.0 y.new.1.0 y.result s.requires.0 x.ensures.0 x.ensures.1 x.ensures.2 (search rules) two c.before.before.before.before.before.before.before.before.before.first-link.result (from_is c.before.before.before.before.before.before.before.before.before) y.ensures.0, y.ensures.1)
+    let x = c.before.before.before.before.before.before.before.before.before.before.before.before.before.before.before.clear_gone-kept in
+    let y = c.before.before.before.before.add_fusion in
+    let two = c.before.before.before.before.before.before.before.before.if-letter-eq-FUSION.true in
+    (λ e. absurd (omega (arith, two, e)), row-fused a.row a.links.now a.classes.now a.n x.result x.new.0 x.new.1.0 y.new.0 y.new.1.0 y.result s.requires.0 x.ensures.0 x.ensures.1 x.ensures.2 (search rules) two c.before.before.before.before.before.before.before.before.before.first_link-from.result (from_is c.before.before.before.before.before.before.before.before.before) y.ensures.0, y.ensures.1)
 
-array-read-link-count : tie.Need-array-read-link-count
+array-read-link-count : tie.Need-bounds-nums-1
 array-read-link-count c = search rules
 
-link-count-requires : tie.Need-link-count-requires
+link-count-requires : tie.Need-link_count-count-requires
 link-count-requires c κs = search rules
 
-add-links-requires : tie.Need-add-links-requires
+add-links-requires : tie.Need-add_links-requires
 add-links-requires c κs = let s = c.before.before.before.before.before.before.before.before.before.before.before.before.before.before.before.before.before in
     let r = s.args.row in
     let fits = count_fits r.letter r.nums s.requires.1.known s.requires.1.atom (λ e. (s.requires.1.context e).1) in
-    let x = c.before.before.before.before.before.before.before.before.before.before.before.clear-gone in
+    let x = c.before.before.before.before.before.before.before.before.before.before.before.clear_gone-kept in
     let from = from_is c.before.before.before.before.before in
     let count = count-is c.before.before.before in
     (omega (arith, s.requires.0, x.ensures.0), omega (arith, count, fits.0), omega (arith, from, count, fits.1), x.auto.0 ∙ s.requires.2, x.auto.1.0 ∙ s.requires.3, hinted-left s.args.hints.now s.args.links.now s.args.n s.requires.4 r.letter x.result x.new.0 x.ensures.0 x.ensures.1)
 
-same-length-3 : tie.Need-same-length-3
+same-length-3 : tie.Need-shape_of-links
 same-length-3 c = search rules
 
-same-length-4 : tie.Need-same-length-4
+same-length-4 : tie.Need-shape_of-classes
 same-length-4 c = search rules
 
-returns-2 : tie.Need-returns-2
+returns-2 : tie.Need-returns
 returns-2 c = let s = c.before.before.before.before.before.before.before.before.before.before.before.before.before.before.before.before.before.before.before.before.before.before in
     let a = s.args in
-    let x = c.before.before.before.before.before.before.before.before.before.before.before.before.before.before.before.before.clear-gone in
+    let x = c.before.before.before.before.before.before.before.before.before.before.before.before.before.before.before.before.clear_gone-kept in
     let from = c.before.before.before.before.before.before.before.before.before.before in
     let count = c.before.before.before.before.before.before.before.before in
-    let y = c.before.before.before.before.add-links in
-    (λ e. omega (arith, count-is count, count-one a.row.letter a.row.nums e, y.ensures.0, x.ensures.0), row-linked a.row a.links.now a.classes.now a.n x.result x.new.0 x.new.1.0 y.new.0 y.new.1.0 y.result s.requires.0 x.ensures.0 x.ensures.1 x.ensures.2 from.first-link.result count.link-count.result (from_is from) (count-is count) y.ensures.1 c.before.before.before.before.before.before.before.before.before.if1.false, y.ensures.2)
+    let y = c.before.before.before.before.add_links in
+    (λ e. omega (arith, count-is count, count-one a.row.letter a.row.nums e, y.ensures.0, x.ensures.0), row-linked a.row a.links.now a.classes.now a.n x.result x.new.0 x.new.1.0 y.new.0 y.new.1.0 y.result s.requires.0 x.ensures.0 x.ensures.1 x.ensures.2 from.first_link-from.result count.link_count-count.result (from_is from) (count-is count) y.ensures.1 c.before.before.before.before.before.before.before.before.before.if-letter-eq-FUSION.false, y.ensures.2)
 
-pub add-row-links-spec : {M : Type 1} → statement M
-add-row-links-spec =
+pub add_row_links_spec : {M : Type 1} → statement M
+add_row_links_spec =
     tie.close
     (tie.spec
     clear-gone-requires

@@ -9,39 +9,39 @@ use Rattle.linking.proofs.Loops.{clear_next}
 use Rattle.linking.proofs.take.clear.Statement.{statement}
 use Rattle.linking.proofs.take.clear.Tie as tie
 
-abbrev invariant-loop : tie.invariant-loop
+abbrev invariant-loop : tie.invariant-loop-i
 invariant-loop s₀ n i₀ s i = (i ≤ n) × (length s ≡ length s₀) × (s ≡ cleared i s₀)
 
-abbrev decreases-loop : tie.decreases-loop
+abbrev decreases-loop : tie.decreases-loop-i
 decreases-loop s₀ n i₀ s i = n - i
 
-loop-holds : tie.Need-loop-init invariant-loop decreases-loop
+loop-holds : tie.Need-loop-i-init invariant-loop decreases-loop
 loop-holds c = search rules
 
-mul-s : tie.Need-overflow-mul-s invariant-loop decreases-loop
+mul-s : tie.Need-offset_bounds-s-i invariant-loop decreases-loop
 mul-s c = search rules
 
-slice-write-s : tie.Need-slice-write-s invariant-loop decreases-loop
+slice-write-s : tie.Need-bounds-s-i invariant-loop decreases-loop
 slice-write-s c = search rules
 
-add-i : tie.Need-overflow-add-i invariant-loop decreases-loop
+add-i : tie.Need-overflow_add-i invariant-loop decreases-loop
 add-i c = search rules
 
-loop-less : tie.Need-loop-smaller invariant-loop decreases-loop
+loop-less : tie.Need-loop-i-smaller invariant-loop decreases-loop
 loop-less c = search rules
 
-loop-again : tie.Need-loop-preserved invariant-loop decreases-loop
+loop-again : tie.Need-loop-i-preserved invariant-loop decreases-loop
 loop-again c = let l = c.before in
     let a = l.before.args in
-    (search rules, simp length-set l.loop.invariant.1, clear_next a.s.now l.loop.s l.loop.i (omega (arith, l.before.requires, c.loop-test.true)) l.loop.invariant.2)
+    (search rules, simp length-set l.loop-i.invariant.1, clear_next a.s.now l.loop-i.s l.loop-i.i (omega (arith, l.before.requires, c.loop-i-test.true)) l.loop-i.invariant.2)
 
-same_length : tie.Need-same-length invariant-loop decreases-loop
+same_length : tie.Need-shape_of-s invariant-loop decreases-loop
 same_length c = search rules
 
 returns : tie.Need-returns invariant-loop decreases-loop
 returns c = let l = c.before in
-    let e : l.loop.i ≡ l.before.args.n = omega arith in
-    rw e at l.loop.invariant.2
+    let e : l.loop-i.i ≡ l.before.args.n = omega arith in
+    rw e at l.loop-i.invariant.2
 
 pub clear_spec : {M : Type 1} → statement M
 clear_spec =

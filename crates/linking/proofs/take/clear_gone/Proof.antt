@@ -7,31 +7,31 @@ use Rattle.linking.proofs.Arrays.{gone-fits}
 use Rattle.linking.proofs.take.clear_gone.Statement.{statement}
 use Rattle.linking.proofs.take.clear_gone.Tie as tie
 
-gone-by-requires : tie.Need-gone-by-requires
+gone-by-requires : tie.Need-gone_by-old-requires
 gone-by-requires c κs = search rules
 
 clear-requires : tie.Need-clear-requires
-clear-requires c κs = omega (arith, c.before.gone-by.ensures, gone-fits c.before.before.before.before.args.letter c.before.before.before.before.args.n, c.before.before.before.before.requires.0)
+clear-requires c κs = omega (arith, c.before.gone_by-old.ensures, gone-fits c.before.before.before.before.args.letter c.before.before.before.before.args.n, c.before.before.before.before.requires.0)
 
 clear-requires-2 : tie.Need-clear-requires-2
-clear-requires-2 c κs = omega (arith, c.before.before.before.before.before.gone-by.ensures, gone-fits c.before.before.before.before.before.before.before.before.args.letter c.before.before.before.before.before.before.before.before.args.n, c.before.before.before.before.before.before.before.before.requires.1)
+clear-requires-2 c κs = omega (arith, c.before.before.before.before.before.gone_by-old.ensures, gone-fits c.before.before.before.before.before.before.before.before.args.letter c.before.before.before.before.before.before.before.before.args.n, c.before.before.before.before.before.before.before.before.requires.1)
 
-sub-result : tie.Need-overflow-sub-result
-sub-result c = omega (arith, c.before.before.before.before.before.before.before.before.gone-by.ensures, gone-fits c.before.before.before.before.before.before.before.before.before.before.before.args.letter c.before.before.before.before.before.before.before.before.before.before.before.args.n)
+sub-result : tie.Need-overflow_sub-result
+sub-result c = omega (arith, c.before.before.before.before.before.before.before.before.gone_by-old.ensures, gone-fits c.before.before.before.before.before.before.before.before.before.before.before.args.letter c.before.before.before.before.before.before.before.before.before.before.before.args.n)
 
-same_length : tie.Need-same-length
+same_length : tie.Need-shape_of-a
 same_length c = search rules
 
-same-length-2 : tie.Need-same-length-2
+same-length-2 : tie.Need-shape_of-b
 same-length-2 c = search rules
 
 returns : tie.Need-returns
-returns c = let g = c.before.before.before.before.before.before.before.before.gone-by in
+returns c = let g = c.before.before.before.before.before.before.before.before.gone_by-old in
     let a = c.before.before.before.before.before.before.before.before.before.before.before.args in
-    (ap (λ (k : ℕ). a.n - k) g.ensures, c.before.before.before.before.before.before.clear.ensures ∙ ap (λ (k : ℕ). cleared k a.a.now) g.ensures, c.before.before.clear2.ensures ∙ ap (λ (k : ℕ). cleared k a.b.now) g.ensures)
+    (ap (λ (k : ℕ). a.n - k) g.ensures, c.before.before.before.before.before.before.clear.ensures ∙ ap (λ (k : ℕ). cleared k a.a.now) g.ensures, c.before.before.clear-2.ensures ∙ ap (λ (k : ℕ). cleared k a.b.now) g.ensures)
 
-pub clear-gone-spec : {M : Type 1} → statement M
-clear-gone-spec =
+pub clear_gone_spec : {M : Type 1} → statement M
+clear_gone_spec =
     tie.close
     (tie.spec
     gone-by-requires

@@ -10,44 +10,44 @@ use Rattle.linking.proofs.RowLinks.{first-hit, first-miss, first-end}
 use Rattle.linking.proofs.take.first_link.Statement.{statement}
 use Rattle.linking.proofs.take.first_link.Tie as tie
 
-abbrev invariant-loop : tie.invariant-loop
+abbrev invariant-loop : tie.invariant-loop-f
 invariant-loop own f₀ f = (f ≤ field_count) × (length own ≡ field_count) × (first_link_in own ≡ f + first_link_in (drop f own))
 
-abbrev decreases-loop : tie.decreases-loop
+abbrev decreases-loop : tie.decreases-loop-f
 decreases-loop own f₀ f = field_count - f
 
-loop-holds : tie.Need-loop-init invariant-loop decreases-loop
+loop-holds : tie.Need-loop-f-init invariant-loop decreases-loop
 loop-holds c = (omega arith, search rules, omega arith)
 
-mul-if1 : tie.Need-overflow-mul-if1 invariant-loop decreases-loop
+mul-if1 : tie.Need-offset_bounds-own-f invariant-loop decreases-loop
 mul-if1 c = search rules
 
-element-copy-out-if1 : tie.Need-element-copy-out-if1 invariant-loop decreases-loop
+element-copy-out-if1 : tie.Need-bounds-own-f invariant-loop decreases-loop
 element-copy-out-if1 c = search rules
 
-returns : tie.Need-returns invariant-loop decreases-loop
+returns : tie.Need-returns-then-own-f invariant-loop decreases-loop
 returns c = let l = c.before.before in
-    omega (arith, l.loop.invariant.2, first-hit l.before.args.t1 l.loop.f (omega (arith, l.loop.invariant.1, c.before.loop-test.true)) c.if1.true)
+    omega (arith, l.loop-f.invariant.2, first-hit l.before.args.own l.loop-f.f (omega (arith, l.loop-f.invariant.1, c.before.loop-f-test.true)) c.if-own-f.true)
 
-add-f : tie.Need-overflow-add-f invariant-loop decreases-loop
+add-f : tie.Need-overflow_add-f invariant-loop decreases-loop
 add-f c = search rules
 
-loop-less : tie.Need-loop-smaller invariant-loop decreases-loop
+loop-less : tie.Need-loop-f-smaller invariant-loop decreases-loop
 loop-less c = search rules
 
-loop-again : tie.Need-loop-preserved invariant-loop decreases-loop
+loop-again : tie.Need-loop-f-preserved invariant-loop decreases-loop
 loop-again c = let l = c.before.before in (
-  omega (arith, c.before.loop-test.true),
-  l.loop.invariant.1,
-  omega (arith, l.loop.invariant.2, first-miss l.before.args.t1 l.loop.f (omega (arith, l.loop.invariant.1, c.before.loop-test.true)) c.if1.false),
+  omega (arith, c.before.loop-f-test.true),
+  l.loop-f.invariant.1,
+  omega (arith, l.loop-f.invariant.2, first-miss l.before.args.own l.loop-f.f (omega (arith, l.loop-f.invariant.1, c.before.loop-f-test.true)) c.if-own-f.false),
 )
 
-returns-2 : tie.Need-returns-2 invariant-loop decreases-loop
+returns-2 : tie.Need-returns invariant-loop decreases-loop
 returns-2 c = let l = c.before in
-    omega (arith, l.loop.invariant.2, first-end l.before.args.t1 l.loop.f (omega (arith, l.loop.invariant.1, c.loop-test.false)))
+    omega (arith, l.loop-f.invariant.2, first-end l.before.args.own l.loop-f.f (omega (arith, l.loop-f.invariant.1, c.loop-f-test.false)))
 
-pub first-link-spec : {M : Type 1} → statement M
-first-link-spec =
+pub first_link_spec : {M : Type 1} → statement M
+first_link_spec =
     tie.close
     (tie.spec
     invariant-loop

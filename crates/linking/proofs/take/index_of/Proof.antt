@@ -10,53 +10,53 @@ use Rattle.linking.proofs.Loops.{index-end, index-hit, index-miss}
 use Rattle.linking.proofs.take.index_of.Statement.{statement}
 use Rattle.linking.proofs.take.index_of.Tie as tie
 
-abbrev invariant-loop : tie.invariant-loop
+abbrev invariant-loop : tie.invariant-loop-i
 invariant-loop s n x i₀ i = (i ≤ n) × (index_of x (take n s) ≡ i + index_of x (drop i (take n s)))
 
-abbrev decreases-loop : tie.decreases-loop
+abbrev decreases-loop : tie.decreases-loop-i
 decreases-loop s n x i₀ i = n - i
 
-skipped-requires : tie.Need-skipped-requires invariant-loop decreases-loop
+skipped-requires : tie.Need-skipped-i-requires invariant-loop decreases-loop
 skipped-requires c κs = search rules
 
-loop-holds : tie.Need-loop-init invariant-loop decreases-loop
-loop-holds c = c.skipped.ensures
+loop-holds : tie.Need-loop-i-init invariant-loop decreases-loop
+loop-holds c = c.skipped-i.ensures
 
-mul-if1 : tie.Need-overflow-mul-if1 invariant-loop decreases-loop
+mul-if1 : tie.Need-offset_bounds-s-i invariant-loop decreases-loop
 mul-if1 c = search rules
 
-shared-slice-read-if1 : tie.Need-shared-slice-read-if1 invariant-loop decreases-loop
+shared-slice-read-if1 : tie.Need-bounds-s-i invariant-loop decreases-loop
 shared-slice-read-if1 c = search rules
 
-returns : tie.Need-returns invariant-loop decreases-loop
+returns : tie.Need-returns-then-s-i invariant-loop decreases-loop
 returns c = let l = c.before.before.before in
     let s = l.before.before.before.args.s.now in
     let n = l.before.before.before.args.n in
     let len : length (take n s) ≡ n = length-take-le n s l.before.before.before.requires in
-    omega (arith, l.loop.invariant.1, index-hit (take n s) l.before.before.before.args.x l.loop.i (omega arith) (get_or-take n s l.loop.i 0 (search rules) ∙ c.if1.true))
+    omega (arith, l.loop-i.invariant.1, index-hit (take n s) l.before.before.before.args.x l.loop-i.i (omega arith) (get_or-take n s l.loop-i.i 0 (search rules) ∙ c.if-s-i.true))
 
-add-i : tie.Need-overflow-add-i invariant-loop decreases-loop
+add-i : tie.Need-overflow_add-i invariant-loop decreases-loop
 add-i c = search rules
 
-loop-less : tie.Need-loop-smaller invariant-loop decreases-loop
+loop-less : tie.Need-loop-i-smaller invariant-loop decreases-loop
 loop-less c = search rules
 
-loop-again : tie.Need-loop-preserved invariant-loop decreases-loop
+loop-again : tie.Need-loop-i-preserved invariant-loop decreases-loop
 loop-again c = let l = c.before.before.before in
     let s = l.before.before.before.args.s.now in
     let n = l.before.before.before.args.n in
     let len : length (take n s) ≡ n = length-take-le n s l.before.before.before.requires in
-    (search rules, omega (arith, l.loop.invariant.1, index-miss (take n s) l.before.before.before.args.x l.loop.i (omega arith) (λ e. c.if1.false (sym (get_or-take n s l.loop.i 0 (search rules)) ∙ e))))
+    (search rules, omega (arith, l.loop-i.invariant.1, index-miss (take n s) l.before.before.before.args.x l.loop-i.i (omega arith) (λ e. c.if-s-i.false (sym (get_or-take n s l.loop-i.i 0 (search rules)) ∙ e))))
 
-returns-2 : tie.Need-returns-2 invariant-loop decreases-loop
+returns-2 : tie.Need-returns invariant-loop decreases-loop
 returns-2 c = let l = c.before in
     let s = l.before.before.before.args.s.now in
     let n = l.before.before.before.args.n in
     let len : length (take n s) ≡ n = length-take-le n s l.before.before.before.requires in
-    omega (arith, l.loop.invariant.1, index-end (take n s) l.before.before.before.args.x l.loop.i (omega arith))
+    omega (arith, l.loop-i.invariant.1, index-end (take n s) l.before.before.before.args.x l.loop-i.i (omega arith))
 
-pub index-of-spec : {M : Type 1} → statement M
-index-of-spec =
+pub index_of_spec : {M : Type 1} → statement M
+index_of_spec =
     tie.close
     (tie.spec
     invariant-loop

@@ -13,61 +13,61 @@ use Rattle.linking.proofs.RowLinks.{links-next, links_end}
 use Rattle.linking.proofs.take.link_count.Statement.{statement}
 use Rattle.linking.proofs.take.link_count.Tie as tie
 
-abbrev invariant-loop : tie.invariant-loop
+abbrev invariant-loop : tie.invariant-loop-f
 invariant-loop count own links₀ f₀ links f = (f ≤ field_count) × (length own ≡ field_count) × (links ≤ f) × (link_count_in own count ≡ links + link_count_in (drop f own) count)
 
-abbrev decreases-loop : tie.decreases-loop
+abbrev decreases-loop : tie.decreases-loop-f
 decreases-loop count own links₀ f₀ links f = field_count - f
 
 -- what is counted in all, by whether the field at f holds a link, and a counted one
-turn : (l : tie.At-loop invariant-loop decreases-loop) →
-    let own = l.before.args.t1 in
+turn : (l : tie.At-loop-f invariant-loop decreases-loop) →
+    let own = l.before.args.own in
     let count = l.before.args.count in
-    l.loop.f < field_count → (link counted : Bool) → (get_or own l.loop.f blank).link ≡ link → (get_or own l.loop.f blank).counted ≡ counted
-    → link_count_in own count ≡ l.loop.links + pick link (pick counted count (suc (link_count_in (drop (l.loop.f + 1) own) count))) (link_count_in (drop (l.loop.f + 1) own) count)
+    l.loop-f.f < field_count → (link counted : Bool) → (get_or own l.loop-f.f blank).link ≡ link → (get_or own l.loop-f.f blank).counted ≡ counted
+    → link_count_in own count ≡ l.loop-f.links + pick link (pick counted count (suc (link_count_in (drop (l.loop-f.f + 1) own) count))) (link_count_in (drop (l.loop-f.f + 1) own) count)
 turn l h link counted e k =
-    l.loop.invariant.3 ∙ ap (λ (n : ℕ). l.loop.links + n) (links-next l.before.args.t1 l.loop.f (omega (arith, l.loop.invariant.1)) l.before.args.count link counted e k)
+    l.loop-f.invariant.3 ∙ ap (λ (n : ℕ). l.loop-f.links + n) (links-next l.before.args.own l.loop-f.f (omega (arith, l.loop-f.invariant.1)) l.before.args.count link counted e k)
 
-loop-holds : tie.Need-loop-init invariant-loop decreases-loop
+loop-holds : tie.Need-loop-f-init invariant-loop decreases-loop
 loop-holds c = (omega arith, search rules, omega arith, omega arith)
 
-mul-rule : tie.Need-overflow-mul-rule invariant-loop decreases-loop
+mul-rule : tie.Need-offset_bounds-own-f invariant-loop decreases-loop
 mul-rule c = search rules
 
-array-copy-out-rule : tie.Need-array-copy-out-rule invariant-loop decreases-loop
+array-copy-out-rule : tie.Need-bounds-own-f invariant-loop decreases-loop
 array-copy-out-rule c = search rules
 
-add-result : tie.Need-overflow-add-result invariant-loop decreases-loop
+add-result : tie.Need-overflow_add-result invariant-loop decreases-loop
 add-result c = search rules
 
-returns : tie.Need-returns invariant-loop decreases-loop
+returns : tie.Need-returns-then-rule-2 invariant-loop decreases-loop
 returns c = let l = c.before.before.before.before in
-    sym (turn l c.before.before.before.loop-test.true true true c.before.if1.true c.if2.true)
+    sym (turn l c.before.before.before.loop-f-test.true true true c.before.if-rule.true c.if-rule-2.true)
 
-add-links : tie.Need-overflow-add-links invariant-loop decreases-loop
+add-links : tie.Need-overflow_add-links invariant-loop decreases-loop
 add-links c = search rules
 
-add-f : tie.Need-overflow-add-f invariant-loop decreases-loop
+add-f : tie.Need-overflow_add-f invariant-loop decreases-loop
 add-f c = search rules
 
-loop-less : tie.Need-loop-smaller invariant-loop decreases-loop
+loop-less : tie.Need-loop-f-smaller invariant-loop decreases-loop
 loop-less c = search rules
 
-loop-again : tie.Need-loop-preserved invariant-loop decreases-loop
+loop-again : tie.Need-loop-f-preserved invariant-loop decreases-loop
 loop-again c = let l = c.before.before.before in
-    let test = c.before.before.loop-test.true in
-    let rule = get_or l.before.args.t1 l.loop.f blank in
+    let test = c.before.before.loop-f-test.true in
+    let rule = get_or l.before.args.own l.loop-f.f blank in
     ⊎_elim
-    (λ w. (omega arith, l.loop.invariant.1, omega (arith, l.loop.invariant.2, w.2), omega (arith, w.2, turn l test true false w.0.taken w.1.left)))
-    (λ w. (omega arith, l.loop.invariant.1, omega (arith, l.loop.invariant.2, w.1), omega (arith, w.1, turn l test false rule.counted w.0.left refl)))
-    c.if1.branch
+    (λ w. (omega arith, l.loop-f.invariant.1, omega (arith, l.loop-f.invariant.2, w.links-is), omega (arith, w.links-is, turn l test true false w.if-rule.true w.if-rule-2.false)))
+    (λ w. (omega arith, l.loop-f.invariant.1, omega (arith, l.loop-f.invariant.2, w.links-is), omega (arith, w.links-is, turn l test false rule.counted w.if-rule.false refl)))
+    c.if-rule.branch-raw
 
-returns-2 : tie.Need-returns-2 invariant-loop decreases-loop
+returns-2 : tie.Need-returns invariant-loop decreases-loop
 returns-2 c = let l = c.before in
-    omega (arith, l.loop.invariant.3, links_end l.before.args.t1 l.loop.f l.before.args.count (omega (arith, l.loop.invariant.1, c.loop-test.false)))
+    omega (arith, l.loop-f.invariant.3, links_end l.before.args.own l.loop-f.f l.before.args.count (omega (arith, l.loop-f.invariant.1, c.loop-f-test.false)))
 
-pub link-count-spec : {M : Type 1} → statement M
-link-count-spec =
+pub link_count_spec : {M : Type 1} → statement M
+link_count_spec =
     tie.close
     (tie.spec
     invariant-loop

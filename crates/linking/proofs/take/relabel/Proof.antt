@@ -12,55 +12,55 @@ use Rattle.linking.proofs.Loops.{relabel-hit, relabel-miss}
 use Rattle.linking.proofs.take.relabel.Statement.{statement}
 use Rattle.linking.proofs.take.relabel.Tie as tie
 
-abbrev invariant-loop : tie.invariant-loop
+abbrev invariant-loop : tie.invariant-loop-i
 invariant-loop classes₀ n from to i₀ classes i = (i ≤ n) × (length classes ≡ length classes₀) × (classes ≡ mapped (relabelled from to) i classes₀)
 
-abbrev decreases-loop : tie.decreases-loop
+abbrev decreases-loop : tie.decreases-loop-i
 decreases-loop classes₀ n from to i₀ classes i = n - i
 
-loop-holds : tie.Need-loop-init invariant-loop decreases-loop
+loop-holds : tie.Need-loop-i-init invariant-loop decreases-loop
 loop-holds c = search rules
 
-mul-label : tie.Need-overflow-mul-label invariant-loop decreases-loop
+mul-label : tie.Need-offset_bounds-classes-i invariant-loop decreases-loop
 mul-label c = search rules
 
-slice-read-label : tie.Need-slice-read-label invariant-loop decreases-loop
+slice-read-label : tie.Need-bounds-classes-i invariant-loop decreases-loop
 slice-read-label c = search rules
 
-mul-classes : tie.Need-overflow-mul-classes invariant-loop decreases-loop
+mul-classes : tie.Need-offset_bounds-classes-i-in-loop-i invariant-loop decreases-loop
 mul-classes c = search rules
 
-slice-write-classes : tie.Need-slice-write-classes invariant-loop decreases-loop
+slice-write-classes : tie.Need-bounds-classes-i-in-loop-i invariant-loop decreases-loop
 slice-write-classes c = search rules
 
-add-i : tie.Need-overflow-add-i invariant-loop decreases-loop
+add-i : tie.Need-overflow_add-i invariant-loop decreases-loop
 add-i c = search rules
 
-loop-less : tie.Need-loop-smaller invariant-loop decreases-loop
+loop-less : tie.Need-loop-i-smaller invariant-loop decreases-loop
 loop-less c = search rules
 
-loop-again : tie.Need-loop-preserved invariant-loop decreases-loop
+loop-again : tie.Need-loop-i-preserved invariant-loop decreases-loop
 loop-again c = let l = c.before.before.before in
     let a = l.before.args in
-    let h : l.loop.i < length a.classes.now = omega (arith, l.before.requires, c.before.before.loop-test.true) in (
+    let h : l.loop-i.i < length a.classes.now = omega (arith, l.before.requires, c.before.before.loop-i-test.true) in (
       search rules,
-      simp length-set l.loop.invariant.1,
+      simp length-set l.loop-i.invariant.1,
       ⊎_elim
-          (λ w. ap (set l.loop.classes l.loop.i) w.1 ∙ relabel-hit a.from a.to a.classes.now l.loop.classes l.loop.i h l.loop.invariant.2 w.0.taken)
-          (λ w. ap (set l.loop.classes l.loop.i) w.1 ∙ set-get_or l.loop.classes l.loop.i 0 ∙ relabel-miss a.from a.to a.classes.now l.loop.classes l.loop.i h l.loop.invariant.2 w.0.left)
-          c.if1.branch,
+          (λ w. ap (set l.loop-i.classes l.loop-i.i) w.label-is ∙ relabel-hit a.from a.to a.classes.now l.loop-i.classes l.loop-i.i h l.loop-i.invariant.2 w.if-label-from.true)
+          (λ w. ap (set l.loop-i.classes l.loop-i.i) w.label-is ∙ set-get_or l.loop-i.classes l.loop-i.i 0 ∙ relabel-miss a.from a.to a.classes.now l.loop-i.classes l.loop-i.i h l.loop-i.invariant.2 w.if-label-from.false)
+          c.if-label-from.branch-raw,
     )
 
-same_length : tie.Need-same-length invariant-loop decreases-loop
+same_length : tie.Need-shape_of-classes invariant-loop decreases-loop
 same_length c = search rules
 
 returns : tie.Need-returns invariant-loop decreases-loop
 returns c = let l = c.before in
-    let e : l.loop.i ≡ l.before.args.n = omega arith in
-    rw e at l.loop.invariant.2
+    let e : l.loop-i.i ≡ l.before.args.n = omega arith in
+    rw e at l.loop-i.invariant.2
 
-pub relabel-spec : {M : Type 1} → statement M
-relabel-spec =
+pub relabel_spec : {M : Type 1} → statement M
+relabel_spec =
     tie.close
     (tie.spec
     invariant-loop

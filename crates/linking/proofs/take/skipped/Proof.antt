@@ -10,43 +10,43 @@ use Rattle.linking.proofs.Loops.{index-lacks}
 use Rattle.linking.proofs.take.skipped.Statement.{statement}
 use Rattle.linking.proofs.take.skipped.Tie as tie
 
-abbrev invariant-loop : tie.invariant-loop
+abbrev invariant-loop : tie.invariant-loop-i
 invariant-loop s n x i₀ i = (i ≤ n) × (index_of x (take n s) ≡ i + index_of x (drop i (take n s)))
 
-abbrev decreases-loop : tie.decreases-loop
+abbrev decreases-loop : tie.decreases-loop-i
 decreases-loop s n x i₀ i = n - i
 
-loop-holds : tie.Need-loop-init invariant-loop decreases-loop
+loop-holds : tie.Need-loop-i-init invariant-loop decreases-loop
 loop-holds c = search rules
 
-sub-loop : tie.Need-overflow-sub-loop invariant-loop decreases-loop
+sub-loop : tie.Need-overflow_sub-n invariant-loop decreases-loop
 sub-loop c = search rules
 
-among-eight-requires : tie.Need-among-eight-requires invariant-loop decreases-loop
+among-eight-requires : tie.Need-among_eight-requires invariant-loop decreases-loop
 among-eight-requires c κs = search rules
 
-returns : tie.Need-returns invariant-loop decreases-loop
-returns c = c.before.before.before.loop.invariant
+returns : tie.Need-returns-then-among_eight invariant-loop decreases-loop
+returns c = c.before.before.before.loop-i.invariant
 
-add-i : tie.Need-overflow-add-i invariant-loop decreases-loop
+add-i : tie.Need-overflow_add-i invariant-loop decreases-loop
 add-i c = search rules
 
-loop-less : tie.Need-loop-smaller invariant-loop decreases-loop
+loop-less : tie.Need-loop-i-smaller invariant-loop decreases-loop
 loop-less c = search rules
 
-loop-again : tie.Need-loop-preserved invariant-loop decreases-loop
+loop-again : tie.Need-loop-i-preserved invariant-loop decreases-loop
 loop-again c = let l = c.before.before.before in
     let a = l.before.before.args in
     let s = a.s.now in
     let n = a.n in
     let len : length (take n s) ≡ n = length-take-le n s l.before.before.requires in
-    let lacks = c.before.among-eight.ensures c.if1.false in (
+    let lacks = c.before.among_eight.ensures c.if-among_eight.false in (
       omega arith,
-      omega (arith, l.loop.invariant.1, index-lacks (take n s) a.x l.loop.i 8 (omega arith) (λ k h e. lacks k h (sym (get_or-take n s (l.loop.i + k) 0 (omega arith)) ∙ e))),
+      omega (arith, l.loop-i.invariant.1, index-lacks (take n s) a.x l.loop-i.i 8 (omega arith) (λ k h e. lacks k h (sym (get_or-take n s (l.loop-i.i + k) 0 (omega arith)) ∙ e))),
     )
 
-returns-2 : tie.Need-returns-2 invariant-loop decreases-loop
-returns-2 c = c.before.loop.invariant
+returns-2 : tie.Need-returns invariant-loop decreases-loop
+returns-2 c = c.before.loop-i.invariant
 
-pub skipped-spec : {M : Type 1} → statement M
-skipped-spec = tie.close (tie.spec invariant-loop decreases-loop loop-holds sub-loop among-eight-requires returns add-i loop-less loop-again returns-2)
+pub skipped_spec : {M : Type 1} → statement M
+skipped_spec = tie.close (tie.spec invariant-loop decreases-loop loop-holds sub-loop among-eight-requires returns add-i loop-less loop-again returns-2)

@@ -6,32 +6,32 @@ use Rattle.rows.proofs.Rows.{context-ranged}
 use Rattle.rows.proofs.entry.row_ports.Statement.{statement}
 use Rattle.rows.proofs.entry.row_ports.Tie as tie
 
-is-context-requires : tie.Need-is-context-requires
+is-context-requires : tie.Need-is_context-requires
 is-context-requires c κs = search rules
 
-returns : tie.Need-returns
-returns c = rw (sym c.before.is-context.ensures ∙ not-true _ c.if1.true)
+returns : tie.Need-returns-then-not-is_context
+returns c = rw (sym c.before.is_context.ensures ∙ not-true _ c.if-not-is_context.true-raw)
 
-array-read-ports-with : tie.Need-array-read-ports-with
+array-read-ports-with : tie.Need-bounds-nums-0
 array-read-ports-with c = search rules
 
-cast-ports-with : tie.Need-overflow-cast-ports-with
+cast-ports-with : tie.Need-overflow_cast-nums
 cast-ports-with c = search rules
 
-array-read-ports-with-2 : tie.Need-array-read-ports-with-2
+array-read-ports-with-2 : tie.Need-bounds-nums-1
 array-read-ports-with-2 c = search rules
 
-add-ports-with : tie.Need-overflow-add-ports-with
-add-ports-with c = omega (arith, (context-ranged c.before.before.before.args.row c.before.before.before.requires (sym c.before.before.is-context.ensures ∙ not-false _ c.before.if1.false)).1)
+add-ports-with : tie.Need-overflow_add-nums
+add-ports-with c = omega (arith, (context-ranged c.before.before.before.args.row c.before.before.before.requires (sym c.before.before.is_context.ensures ∙ not-false _ c.before.if-not-is_context.false-raw)).1)
 
-ports-with-requires : tie.Need-ports-with-requires
-ports-with-requires c κs = (context-ranged c.before.before.before.args.row c.before.before.before.requires (sym c.before.before.is-context.ensures ∙ not-false _ c.before.if1.false)).0
+ports-with-requires : tie.Need-ports_with-requires
+ports-with-requires c κs = (context-ranged c.before.before.before.args.row c.before.before.before.requires (sym c.before.before.is_context.ensures ∙ not-false _ c.before.if-not-is_context.false-raw)).0
 
-returns-2 : tie.Need-returns-2
-returns-2 c = rw (sym c.before.before.before.is-context.ensures ∙ not-false _ c.before.before.if1.false) c.ports-with.ensures
+returns-2 : tie.Need-returns
+returns-2 c = rw (sym c.before.before.before.is_context.ensures ∙ not-false _ c.before.before.if-not-is_context.false-raw) c.ports_with.ensures
 
-pub row-ports-spec : {M : Type 1} → statement M
-row-ports-spec =
+pub row_ports_spec : {M : Type 1} → statement M
+row_ports_spec =
     tie.close
     (tie.spec
     is-context-requires

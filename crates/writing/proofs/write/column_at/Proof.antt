@@ -4,20 +4,20 @@ use borrow.Author.Rules.{rules}
 use Rattle.writing.proofs.write.column_at.Statement.{statement}
 use Rattle.writing.proofs.write.column_at.Tie as tie
 
-returns : tie.Need-returns
-returns c = rw (lt-ltb _ _ c.if1.true)
+returns : tie.Need-returns-then-n-place
+returns c = rw (lt-ltb _ _ c.if-n-place.true)
 
 div-result : tie.Need-nonzero-div-result
 div-result c = search rules
 
-cast-result : tie.Need-overflow-cast-result
+cast-result : tie.Need-overflow_cast-result
 cast-result c = search rules
 
-add-result : tie.Need-overflow-add-result
+add-result : tie.Need-overflow_add-result
 add-result c = search rules
 
-returns-2 : tie.Need-returns-2
-returns-2 c = rw (le-ltb _ _ c.if1.false)
+returns-2 : tie.Need-returns
+returns-2 c = rw (le-ltb _ _ c.if-n-place.false)
 
-pub column-at-spec : {M : Type 1} → statement M
-column-at-spec = tie.close (tie.spec returns div-result cast-result add-result returns-2)
+pub column_at_spec : {M : Type 1} → statement M
+column_at_spec = tie.close (tie.spec returns div-result cast-result add-result returns-2)

@@ -5,43 +5,43 @@ use borrow.Author.Rules.{rules}
 use Rattle.writing.proofs.write.put_field.Statement.{statement}
 use Rattle.writing.proofs.write.put_field.Tie as tie
 
-column-at-requires : tie.Need-column-at-requires
+column-at-requires : tie.Need-column_at-thousands-requires
 column-at-requires c κs = search rules
 
-column-at-requires-2 : tie.Need-column-at-requires-2
+column-at-requires-2 : tie.Need-column_at-hundreds-requires
 column-at-requires-2 c κs = search rules
 
-column-at-requires-3 : tie.Need-column-at-requires-3
+column-at-requires-3 : tie.Need-column_at-tens-requires
 column-at-requires-3 c κs = search rules
 
-cast-put-columns : tie.Need-overflow-cast-put-columns
+cast-put-columns : tie.Need-overflow_cast-n
 cast-put-columns c = search rules
 
-add-put-columns : tie.Need-overflow-add-put-columns
+add-put-columns : tie.Need-overflow_add-n
 add-put-columns c = search rules
 
-put-columns-requires : tie.Need-put-columns-requires
+put-columns-requires : tie.Need-put_columns-requires
 put-columns-requires c κs = search rules
 
-put-columns-requires-2 : tie.Need-put-columns-requires-2
+put-columns-requires-2 : tie.Need-put_columns-requires-else-filled
 put-columns-requires-2 c κs = search rules
 
-same_length : tie.Need-same-length
+same_length : tie.Need-shape_of-out-then-filled
 same_length c = search rules
 
-returns : tie.Need-returns
+returns : tie.Need-returns-then-filled
 unfolding field_bytes
 returns c = let k = c.before.before.before.before in
-    c.before.before.put-columns.ensures ∙ rw (k.before.before.before.if1.true, k.column-at3.ensures, k.before.column-at2.ensures, k.before.before.column-at.ensures)
+    c.before.before.put_columns.ensures ∙ rw (k.before.before.before.if-filled.true, k.column_at-tens.ensures, k.before.column_at-hundreds.ensures, k.before.before.column_at-thousands.ensures)
 
-same-length-2 : tie.Need-same-length-2
+same-length-2 : tie.Need-shape_of-out-else-filled
 same-length-2 c = search rules
 
-returns-2 : tie.Need-returns-2
-returns-2 c = c.before.before.put-columns2.ensures ∙ rw c.before.before.before.before.if1.false
+returns-2 : tie.Need-returns-else-filled
+returns-2 c = c.before.before.put_columns-else-filled.ensures ∙ rw c.before.before.before.before.if-filled.false
 
-pub put-field-spec : {M : Type 1} → statement M
-put-field-spec =
+pub put_field_spec : {M : Type 1} → statement M
+put_field_spec =
     tie.close
     (tie.spec
     column-at-requires

@@ -12,58 +12,58 @@ use borrow.Author.Rules.{rules}
 use Rattle.writing.proofs.write.put_fields.Statement.{statement}
 use Rattle.writing.proofs.write.put_fields.Tie as tie
 
-abbrev invariant-loop : tie.invariant-loop
+abbrev invariant-loop : tie.invariant-loop-f
 invariant-loop out₀ at count nums f₀ out f = (f ≤ field_count) × (length out ≡ length out₀) × (out ≡ over out₀ at (fields_bytes f (take count nums)) (f * field_width))
 
-abbrev decreases-loop : tie.decreases-loop
+abbrev decreases-loop : tie.decreases-loop-f
 decreases-loop out₀ at count nums f₀ out f = field_count - f
 
-loop-holds : tie.Need-loop-init invariant-loop decreases-loop
+loop-holds : tie.Need-loop-f-init invariant-loop decreases-loop
 unfolding fields_bytes
 loop-holds c = (omega arith, refl, over_none c.before.args.out.now c.before.args.at)
 
-mul-put-field : tie.Need-overflow-mul-put-field invariant-loop decreases-loop
+mul-put-field : tie.Need-overflow_mul-f invariant-loop decreases-loop
 mul-put-field c = search rules
 
-add-put-field : tie.Need-overflow-add-put-field invariant-loop decreases-loop
+add-put-field : tie.Need-overflow_add-at invariant-loop decreases-loop
 add-put-field c = search rules
 
-mul-put-field-2 : tie.Need-overflow-mul-put-field-2 invariant-loop decreases-loop
+mul-put-field-2 : tie.Need-offset_bounds-nums-f invariant-loop decreases-loop
 mul-put-field-2 c = search rules
 
-array-read-put-field : tie.Need-array-read-put-field invariant-loop decreases-loop
+array-read-put-field : tie.Need-bounds-nums-f invariant-loop decreases-loop
 array-read-put-field c = search rules
 
-put-field-requires : tie.Need-put-field-requires invariant-loop decreases-loop
+put-field-requires : tie.Need-put_field-requires invariant-loop decreases-loop
 put-field-requires c κs = let l = c.before.before in
     let s = l.before.before in
-    (omega (arith, l.loop.invariant.1, s.requires.0), λ e. s.requires.1.1 l.loop.f (ltb-true _ _ e))
+    (omega (arith, l.loop-f.invariant.1, s.requires.0), λ e. s.requires.1.1 l.loop-f.f (ltb-true _ _ e))
 
-add-f : tie.Need-overflow-add-f invariant-loop decreases-loop
+add-f : tie.Need-overflow_add-f invariant-loop decreases-loop
 add-f c = search rules
 
-loop-less : tie.Need-loop-smaller invariant-loop decreases-loop
+loop-less : tie.Need-loop-f-smaller invariant-loop decreases-loop
 loop-less c = search rules
 
-loop-again : tie.Need-loop-preserved invariant-loop decreases-loop
-loop-again c = let p = c.before.before.put-field in
+loop-again : tie.Need-loop-f-preserved invariant-loop decreases-loop
+loop-again c = let p = c.before.before.put_field in
     let l = c.before.before.before.before.before in
     let s = l.before.before in
-    let w : length s.args.t3 ≡ field_count = search rules in (
+    let w : length s.args.nums ≡ field_count = search rules in (
       omega arith,
-      p.auto.0 ∙ l.loop.invariant.1,
-      fields-put s.args.out.now p.new.0 s.args.at s.args.t3 s.args.count l.loop.f (omega (arith, s.requires.1.0)) c.before.before.before.before.loop-test.true s.requires.0 (rw l.loop.invariant.2 at p.ensures),
+      p.auto.0 ∙ l.loop-f.invariant.1,
+      fields-put s.args.out.now p.new.0 s.args.at s.args.nums s.args.count l.loop-f.f (omega (arith, s.requires.1.0)) c.before.before.before.before.loop-f-test.true s.requires.0 (rw l.loop-f.invariant.2 at p.ensures),
     )
 
-same_length : tie.Need-same-length invariant-loop decreases-loop
+same_length : tie.Need-shape_of-out invariant-loop decreases-loop
 same_length c = search rules
 
 returns : tie.Need-returns invariant-loop decreases-loop
-returns c = let e : c.before.loop.f ≡ field_count = omega arith in
-    rw e at c.before.loop.invariant.2
+returns c = let e : c.before.loop-f.f ≡ field_count = omega arith in
+    rw e at c.before.loop-f.invariant.2
 
-pub put-fields-spec : {M : Type 1} → statement M
-put-fields-spec =
+pub put_fields_spec : {M : Type 1} → statement M
+put_fields_spec =
     tie.close
     (tie.spec
     invariant-loop

@@ -7,36 +7,36 @@ use borrow.Author.Rules.{rules}
 use Rattle.writing.proofs.write.put_row.Statement.{statement}
 use Rattle.writing.proofs.write.put_row.Tie as tie
 
-slice-write-out : tie.Need-slice-write-out
+slice-write-out : tie.Need-bounds-out-at
 slice-write-out c = search rules
 
-add-put-fields : tie.Need-overflow-add-put-fields
+add-put-fields : tie.Need-overflow_add-at
 add-put-fields c = search rules
 
-put-fields-requires : tie.Need-put-fields-requires
+put-fields-requires : tie.Need-put_fields-requires
 put-fields-requires c κs = let s = c.before.before in
     (simp length-set (omega (arith, s.requires.0)), s.requires.1)
 
-add-out : tie.Need-overflow-add-out
+add-out : tie.Need-overflow_add-out
 add-out c = search rules
 
-sub_out : tie.Need-overflow-sub-out
+sub_out : tie.Need-overflow_sub-out
 sub_out c = search rules
 
-slice-write-out-2 : tie.Need-slice-write-out-2
+slice-write-out-2 : tie.Need-bounds-out-at-2
 slice-write-out-2 c = let s = c.before.before.before.before.before in
-    omega (arith, c.before.before.put-fields.auto.0, length-set s.args.out.now s.args.at s.args.letter, s.requires.0)
+    omega (arith, c.before.before.put_fields.auto.0, length-set s.args.out.now s.args.at s.args.letter, s.requires.0)
 
-same_length : tie.Need-same-length
-same_length c = simp length-set (simp length-set at c.before.before.put-fields.auto.0)
+same_length : tie.Need-shape_of-out
+same_length c = simp length-set (simp length-set at c.before.before.put_fields.auto.0)
 
 returns : tie.Need-returns
-returns c = let p = c.before.before.put-fields in
+returns c = let p = c.before.before.put_fields in
     let s = c.before.before.before.before.before in
     row_put s.args.out.now p.new.0 s.args.at s.args.letter (take s.args.count s.args.nums) s.requires.0 p.ensures
 
-pub put-row-spec : {M : Type 1} → statement M
-put-row-spec =
+pub put_row_spec : {M : Type 1} → statement M
+put_row_spec =
     tie.close
     (tie.spec
     slice-write-out

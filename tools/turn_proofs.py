@@ -1,0 +1,133 @@
+#!/usr/bin/env python3
+"""Turns the names in a crate's hand-written proofs (proofs/F/Proof.antt) to those that today's check gives.
+
+usage: turn_proofs.py CRATE NAMES.json
+
+NAMES.json is what `rt check --generated DIR --old-names` writes, run in the crate's folder: for each function the old and
+the new name of each goal, place, step and loop. A proof keeps its text but for these names; what they don't settle the
+check says.
+"""
+
+import json
+import os
+import re
+import sys
+
+
+def norm(name):
+    return name.replace("_", "-")
+
+
+class Names:
+    def __init__(self, entry):
+        self.needs = {norm(a): b for a, b in entry["needs"]}
+        self.loops = {norm(l[0][0]): l[0][1] for l in entry["loops"]}
+        self.places, self.steps, self.fields = {}, {}, {}
+        for place, new in zip(entry["places"], entry["places_by_name"]):
+            self.places[norm(place[0])] = new
+            old_step, new_step = place[2]
+            if old_step:
+                self.steps[norm(old_step)] = new_step
+            if place[4]:
+                self.fields.setdefault(norm(old_step), {}).update({norm(a): b for a, b in place[4]})
+        # An argument that had no name, and an arm's facts.
+        self.texts = {}
+        for old, new in entry["args"]:
+            self.texts["." + old.replace(" ", "").lstrip(".")] = "." + new.replace(" ", "").lstrip(".")
+        for arm in entry["arms"]:
+            for new_field, old_step, old_path in arm[2] if arm else []:
+                if old_path:
+                    self.texts[f".in_default.{'.'.join(old_path)}"] = self.texts[f".{old_step}.{'.'.join(old_path)}"] = f".{arm[0]}.{new_field}"
+                else:
+                    self.texts[".in_default.rest"] = f".in_default.{new_field}.rest"
+
+    def of_tie(self, name):
+        for head in ("invariant-", "decreases-"):
+            if name.startswith(head):
+                loop = norm(name[len(head):])
+                return head + self.loops[loop] if loop in self.loops else None
+        if name.startswith("Need-"):
+            need = norm(name[5:])
+            for form in (need, re.sub(r"^overflow-", "", need)):
+                if form in self.needs:
+                    return "Need-" + self.needs[form]
+            return None
+        return self.places.get(norm(name))
+
+
+WORD = r"[^\s(){}\[\],;.@\"λ:=]+"
+
+
+def place_variables(text):
+    """The variables that stand for a place: an answer's own, a helper's argument of such a type, and what is let to be a way up from one."""
+    found = {"c", "l"}
+    for m in re.finditer(r"\((" + WORD + r"(?: " + WORD + r")*) : tie\.", text):
+        found.update(m.group(1).split())
+    for m in re.finditer(r"(?m)^\s*(?:abbrev |pub |unfoldable )*(" + WORD + r") : tie\.(?!Need-|invariant-|decreases-)", text):
+        name = re.escape(m.group(1))
+        for n in re.finditer(r"(?m)^\s*" + name + r"((?: " + WORD + r")+) =", text):
+            found.update(n.group(1).split())
+    ways = {m.group(1) for m in re.finditer(r"(?m)^\s*(?:abbrev |pub )*(" + WORD + r") : [^\n]*→ tie\.", text)}
+    for _ in range(4):
+        for m in re.finditer(r"let (" + WORD + r") = (" + WORD + r")((?:\.before)+| (?:" + WORD + r")(?:\.before)*)? in", text):
+            head, rest = m.group(2), m.group(3) or ""
+            if (head in found and not rest.startswith(" ")) or (head in ways and rest.startswith(" ")):
+                found.add(m.group(1))
+    return found
+
+
+def turn(text, names, missing):
+    def tie(m):
+        new = names.of_tie(m.group(1))
+        if new is None:
+            missing.append("tie." + m.group(1))
+            return m.group(0)
+        return "tie." + new
+
+    variables = place_variables(text)
+    text = re.sub(r"(?<![\w.])tie\.(" + WORD + r")", lambda m: m.group(0) if m.group(1) in ("close", "spec") else tie(m), text)
+
+    def step(m):
+        head, ups, name, field = m.group(1), m.group(2), m.group(3), m.group(4)
+        if not ups and head not in variables and head != ")":
+            return m.group(0)
+        old = norm(name)
+        if old not in names.steps:
+            return m.group(0)
+        fields = names.fields.get(old, {})
+        if field:
+            field = "." + fields.get(norm(field[1:]), field[1:])
+        return head + ups + "." + names.steps[old] + (field or "")
+
+    text = re.sub(r"(" + WORD + r"|\))((?:\.before)*)\.(" + WORD + r")(\." + WORD + r")?", step, text)
+    for old in sorted(names.texts, key=len, reverse=True):
+        text = re.sub(re.escape(old) + r"(?![\w'-])", lambda m: names.texts[old], text)
+    return text.replace(".branch", ".branch-raw") if ".branch-raw" not in text else text
+
+
+def main(crate, path):
+    with open(path) as f:
+        entries = json.load(f)
+    top = f"crates/{crate}/proofs"
+    for key, entry in entries.items():
+        if not key.startswith(f"Rattle-{crate}-proofs."):
+            continue
+        way = key.split(".", 1)[1].rsplit(".", 1)[0]
+        proof = os.path.join(top, *way.split("."), "Proof.antt")
+        if not os.path.exists(proof):
+            continue
+        with open(proof) as f:
+            text = f.read()
+        missing = []
+        out = turn(text, Names(entry), missing)
+        name = way.split(".")[-1].lstrip("+")
+        out = re.sub(r"(?m)^(pub )?" + re.escape(norm(name)) + r"-spec\b", lambda m: (m.group(1) or "") + name + "_spec", out)
+        if missing:
+            print(f"{proof}: no new name for {', '.join(missing)}")
+        if out != text:
+            with open(proof, "w") as f:
+                f.write(out)
+
+
+if __name__ == "__main__":
+    main(*sys.argv[1:])
