@@ -13,14 +13,7 @@ import os
 import re
 import sys
 
-
-def ways(lts):
-    """For each step at which branches join, the fields of each branch's record, in order."""
-    found = {}
-    for m in re.finditer(r"pub record By-\d+-Joined-?(\S+) : Type 0 where\n((?:            +.*\n|\n)+)", lts):
-        fields = re.findall(r"(?m)^            pub (\S+) :", m.group(2))
-        found.setdefault(m.start(), (m.group(1), fields))
-    return [found[k] for k in sorted(found)]
+from turn_proofs import Names, by_parameter
 
 
 def joins(lts):
@@ -59,6 +52,7 @@ def main(crate, names, generated):
             continue
         with open(lts) as f:
             all_joins = dict(joins(f.read()))
+        calls = Names(entry)
         raw = {}
         for p in entry["places"]:
             if p[4]:
@@ -69,7 +63,10 @@ def main(crate, names, generated):
             if not steps:
                 out.append(part)
                 continue
-            lambdas = [m for m in re.finditer(r"λ (\w+)\.", part) if re.search(r"\b" + m.group(1) + r"\.\d", part[m.end():])]
+            lambdas = []
+            for m in re.finditer(r"λ (\w+)( \w+)*\.", part):
+                if re.search(r"(?<![\w.])" + m.group(1) + r"\.(\d|taken|left|true|false|result|ensures)", part[m.end():]) and "⊎_elim" in part[:m.start()]:
+                    lambdas.append(m)
             wanted = []
             for s in steps:
                 name = s.split("-", 1)[1] if "-" in s else s
@@ -91,6 +88,9 @@ def main(crate, names, generated):
                 body = part[at:end]
 
                 def name(n, fields=flat[k], var=m.group(1)):
+                    if n.group(1) is None:
+                        rest = {".taken": ".true", ".left": ".false"}.get(n.group(3), n.group(3))
+                        return f"{var}.{fields[0]}.{raw.get(fields[0], {}).get(rest[1:], rest[1:])}"
                     i = int(n.group(1))
                     if i >= len(fields):
                         print(f"{proof}: {var}.{i} past {fields}")
@@ -101,7 +101,9 @@ def main(crate, names, generated):
                     rest = "." + raw.get(field, {}).get(rest[1:], rest[1:]) if rest else ""
                     return f"{var}.{field}{rest}"
 
-                pieces.append(re.sub(r"\b" + m.group(1) + r"\.(\d+)(\.[a-z]+)?", name, body))
+                one = r"|(\.(?:taken|left|true|false|result|ensures)\b)" if len(flat[k]) == 1 else r"|(?!)()"
+                body = re.sub(r"(?<![\w.])" + m.group(1) + r"(?:\.(\d+)(\.[a-z]+)?" + one + ")", name, body)
+                pieces.append(by_parameter(body, calls))
                 at = end
             pieces.append(part[at:])
             out.append("".join(pieces))

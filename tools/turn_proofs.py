@@ -32,8 +32,12 @@ class Names:
                 self.fields.setdefault(norm(old_step), {}).update({norm(a): b for a, b in place[4]})
         # An argument that had no name, and an arm's facts.
         self.texts = {}
+        # What a call wrote or kept, by the names of the callee's parameters.
+        self.calls = {p[2][1]: entry["params"].get(p[3], []) for p in entry["places"] if p[3]}
         for old, new in entry["args"]:
             self.texts["." + old.replace(" ", "").lstrip(".")] = "." + new.replace(" ", "").lstrip(".")
+            if re.fullmatch(r"\.args \.t\d+", old):
+                self.texts[old.split()[1]] = new.split()[1]
         for arm in entry["arms"]:
             for new_field, old_step, old_path in arm[2] if arm else []:
                 if old_path:
@@ -48,7 +52,7 @@ class Names:
                 return head + self.loops[loop] if loop in self.loops else None
         if name.startswith("Need-"):
             need = norm(name[5:])
-            for form in (need, re.sub(r"^overflow-", "", need)):
+            for form in (need, re.sub(r"^(overflow|nonzero|bounds)-", "", need)):
                 if form in self.needs:
                     return "Need-" + self.needs[form]
             return None
@@ -76,6 +80,39 @@ def place_variables(text):
     return found
 
 
+def flat(text):
+    """A place has the steps of all before it: no way up in front of a step, nor to a place that only gives steps."""
+    text = re.sub(r"(?:\.before)+(?=\.(?!before\b))", "", text)
+    parts = re.split(r"(?m)^(?=\S)", text)
+    for k, part in enumerate(parts):
+        for m in re.finditer(r"let (" + WORD + r") = (" + WORD + r")(?:\.before)+ in", part):
+            name = re.escape(m.group(1))
+            uses = re.findall(r"(?<![\w.'₀-₉-])" + name + r"(?![\w'₀-₉-])(\.?)", part[m.end():])
+            if all(uses):
+                part = part.replace(m.group(0), f"let {m.group(1)} = {m.group(2)} in")
+        parts[k] = part
+    return "".join(parts)
+
+
+def by_parameter(text, names):
+    def name(m, step):
+        given = names.calls.get(step) or []
+        at = len(re.findall(r"\.1", m.group("ones")))
+        if at >= len(given):
+            return m.group(0)
+        return m.group("head") + "." + {"last": "new"}.get(m.group("kind"), m.group("kind")) + "." + given[at]
+
+    tail = r"\.(?P<kind>new|last|auto)(?P<ones>(?:\.1)*)\.0(?!\d)"
+    text = re.sub(r"(?P<head>\.(?P<step>[^\s().,]+))" + tail, lambda m: name(m, m.group("step")), text)
+    parts = re.split(r"(?m)^(?=\S)", text)
+    for k, part in enumerate(parts):
+        for m in re.finditer(r"let (" + WORD + r") = " + WORD + r"\.(" + WORD + r") in", part):
+            if m.group(2) in names.calls:
+                part = re.sub(r"(?P<head>(?<![\w.])" + re.escape(m.group(1)) + r")" + tail, lambda n, s=m.group(2): name(n, s), part)
+        parts[k] = part
+    return "".join(parts)
+
+
 def turn(text, names, missing):
     def tie(m):
         new = names.of_tie(m.group(1))
@@ -100,6 +137,7 @@ def turn(text, names, missing):
         return head + ups + "." + names.steps[old] + (field or "")
 
     text = re.sub(r"(" + WORD + r"|\))((?:\.before)*)\.(" + WORD + r")(\." + WORD + r")?", step, text)
+    text = by_parameter(flat(text), names)
     for old in sorted(names.texts, key=len, reverse=True):
         text = re.sub(re.escape(old) + r"(?![\w'-])", lambda m: names.texts[old], text)
     return text.replace(".branch", ".branch-raw") if ".branch-raw" not in text else text

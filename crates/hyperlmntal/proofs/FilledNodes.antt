@@ -53,8 +53,8 @@ module _ (P Q : Type 0) where
   filled-cells θ i (c ∷ l) n m = side (on-join (fill_with (entry_for θ c.label (length c.ports)) i c) (fill_cells θ (suc i) l) m) (λ k. filled-cells θ (suc i) l n k)
     where
       side : On n (fill_with (entry_for θ c.label (length c.ports)) i c) ⊎ On n (fill_cells θ (suc i) l) → (On n (fill_cells θ (suc i) l) → Filled (λ m. m ∈ port_nodes l) (suc i) (suc i + length l) n) → Filled (λ m. m ∈ port_nodes (c ∷ l)) i (i + length (c ∷ l)) n
-      side (inl k) g = filled_more _ _ i i (suc i) (i + length (c ∷ l)) (λ a j. Memᴰ.append_left (port_nodes l) j) (omega arith) (omega arith) n (filled-with (entry_for θ c.label (length c.ports)) i c n k)
-      side (inr k) g = filled_more _ _ (suc i) i (suc i + length l) (i + length (c ∷ l)) (λ a j. Memᴰ.append_right c.ports j) (omega arith) (omega arith) n (g k)
+      side (inl k) g = filled_more (λ m. m ∈ c.ports) (λ m. m ∈ port_nodes (c ∷ l)) i i (suc i) (i + length (c ∷ l)) (λ a j. Memᴰ.append_left (port_nodes l) j) (omega arith) (omega arith) n (filled-with (entry_for θ c.label (length c.ports)) i c n k)
+      side (inr k) g = filled_more (λ m. m ∈ port_nodes l) (λ m. m ∈ port_nodes (c ∷ l)) (suc i) i (suc i + length l) (i + length (c ∷ l)) (λ a j. Memᴰ.append_right c.ports j) (omega arith) (omega arith) n (g k)
 
   pub filled-nodes : (θ : List (Entry (Flat Q))) (F : Flat P) (n : Node (Spot P Q)) → On n (fill_flat θ F) → Filled (λ m. On m F) 0 (length F.atoms) n
   filled-nodes θ F n m = side (on-join (fill_cells θ 0 F.atoms) fusions m)
@@ -63,5 +63,5 @@ module _ (P Q : Type 0) where
       fusions = record { atoms = []; fusions = map (map_fusion outer_node) F.fusions }
 
       side : On n (fill_cells θ 0 F.atoms) ⊎ On n fusions → Filled (λ m. On m F) 0 (length F.atoms) n
-      side (inl k) = filled_more _ _ 0 0 (0 + length F.atoms) (length F.atoms) (λ a j. Memᴰ.append_left (end_nodes F.fusions) j) (omega arith) (omega arith) n (filled-cells θ 0 F.atoms n k)
-      side (inr k) = let t : (a : Node P) × (a ∈ end_nodes F.fusions) × (outer_node a ≡ n) = Memᴰ.of_map outer_node (end_nodes F.fusions) (subst (λ l. n ∈ l) (end_nodes-map outer_node F.fusions) k) in subst (Filled (λ m. On m F) 0 (length F.atoms)) t.2 (filled-outer _ 0 (length F.atoms) t.0 (Memᴰ.append_right (port_nodes F.atoms) t.1))
+      side (inl k) = filled_more (λ m. m ∈ port_nodes F.atoms) (λ m. On m F) 0 0 (0 + length F.atoms) (length F.atoms) (λ a j. Memᴰ.append_left (end_nodes F.fusions) j) (omega arith) (omega arith) n (filled-cells θ 0 F.atoms n k)
+      side (inr k) = let t : (a : Node P) × (a ∈ end_nodes F.fusions) × (outer_node a ≡ n) = Memᴰ.of_map outer_node (end_nodes F.fusions) (subst (λ l. n ∈ l) (end_nodes-map outer_node F.fusions) k) in subst (Filled (λ m. On m F) 0 (length F.atoms)) t.2 (filled-outer (λ m. On m F) 0 (length F.atoms) t.0 (Memᴰ.append_right (port_nodes F.atoms) t.1))

@@ -146,8 +146,8 @@ exact-row h r l A =
     row_by h r (λ g. (n : Node ℕ) → Known g.wiring n ↔ (n ∈ nodes (graph_of g)))
     (λ e. exact-more h (with_atom h r.nums) _ (gains-links h.wiring (links_of r.nums)) (nodes-atom h r.nums) A)
     (λ e. exact-more h (with_context h r.nums) _ (gains-links h.wiring (links_of r.nums)) (nodes-context h r.nums) A)
-    (λ e. exact-more h (with_fusion_row h a b) _ (gains-then _ _ _ _ _ (gains-links h.wiring (a ∷ b ∷ [])) (gains-merged _ _ _)) (nodes-fusion h a b) A)
-    (λ e. exact-more h (with_edge_row h a b) _ (gains-then _ _ _ _ _ (gains-links h.wiring (a ∷ [])) (gains-mark _ _ _)) (nodes-edge h a b) A)
+    (λ e. exact-more h (with_fusion_row h a b) _ (gains-then h.wiring (with_links h.wiring (a ∷ b ∷ [])) (with_fusion_row h a b).wiring _ _ (gains-links h.wiring (a ∷ b ∷ [])) (gains-merged _ _ _)) (nodes-fusion h a b) A)
+    (λ e. exact-more h (with_edge_row h a b) _ (gains-then h.wiring (with_links h.wiring (a ∷ [])) (with_edge_row h a b).wiring _ _ (gains-links h.wiring (a ∷ [])) (gains-mark _ _ _)) (nodes-edge h a b) A)
     (λ e. absurd (omega arith))
   where
     a : ℕ

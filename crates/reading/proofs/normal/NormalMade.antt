@@ -1,6 +1,6 @@
 -- What the steps of making a normal form come to: the normal form of what the sheet holds.
 use Prim.Native.Nat.{ℕ, suc, ◌+◌, ◌<◌}
-use mathlib.Core.Path.{◌≡◌, refl, sym, ap, ◌∙◌}
+use mathlib.Core.Path.{◌≡◌, refl, sym, subst, ap, ◌∙◌}
 use mathlib.Core.List.Memᴰ
 use mathlib.Core.List.{List, [], ◌∷◌, ◌++◌, map, map-map, map-append}
 use mathlib.Core.Bool.{Bool, true, false}
@@ -53,7 +53,7 @@ once-list (x ∷ l) o = (first, once-list l rest)
     first m =
         let k = index_below x l m in
         let e : index_of (get_or l (index_of x l) 0) (x ∷ l) ≡ suc (index_of x l) = o (suc (index_of x l)) (omega arith) in
-        let z : pick (eqb x x) 0 (suc (index_of x l)) ≡ suc (index_of x l) = rw (at-index_of x l k) at e in
+        let z : pick (eqb x x) 0 (suc (index_of x l)) ≡ suc (index_of x l) = subst (λ v. index_of v (x ∷ l) ≡ suc (index_of x l)) (at-index_of x l k) e in
         let y : 0 ≡ suc (index_of x l) = rw (eq-eqb x x refl) at z in
         omega arith
 

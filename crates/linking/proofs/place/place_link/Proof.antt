@@ -11,10 +11,10 @@ place-of-requires : tie.Need-place_of-p-requires
 place-of-requires c κs = search rules
 
 add-hints : tie.Need-overflow_add-hints
-add-hints c = let a = c.before.before.before.before.before.args in search (rules, c.place_of-p.ensures, place-within a.links.now a.n a.x a.hints.now)
+add-hints c = let a = c.args in search (rules, c.place_of-p.ensures, place-within a.links.now a.n a.x a.hints.now)
 
 cast-hints : tie.Need-overflow_cast-hints
-cast-hints c = let a = c.before.before.before.before.before.args in search (rules, c.place_of-p.ensures, place-within a.links.now a.n a.x a.hints.now)
+cast-hints c = let a = c.args in search (rules, c.place_of-p.ensures, place-within a.links.now a.n a.x a.hints.now)
 
 hint-at-requires : tie.Need-hint_at-requires
 hint-at-requires c κs = search rules
@@ -26,10 +26,10 @@ same_length : tie.Need-shape_of-links-then-p-n
 same_length c = search rules
 
 returns : tie.Need-returns-then-p-n
-returns c = let s = c.before.before.before.before.before.before.before in
+returns c = let s = c in
     let a = s.args in
-    let p = c.before.before.place_of-p in
-    let h = c.before.hint_at in
+    let p = c.place_of-p in
+    let h = c.hint_at in
     (omega arith, λ w wired k. link-old w wired a.links.now a.classes.now a.n k a.x p.result (λ once. p.ensures ∙ place_found a.links.now a.n a.x a.hints.now (omega (arith, s.requires.0, s.requires.1)) s.requires.3 once) c.if-p-n.true, hinted-old a.hints.now a.links.now a.n s.requires.3 a.x h.result p.result h.ensures.1 h.ensures.0 p.result c.if-p-n.true)
 
 mul-links : tie.Need-offset_bounds-links-n
@@ -54,10 +54,10 @@ same-length-3 : tie.Need-shape_of-classes
 same-length-3 c = search rules
 
 returns-2 : tie.Need-returns
-returns-2 c = let s = c.before.before.before.before.before.before.before in
+returns-2 c = let s = c in
     let a = s.args in
-    let p = c.before.before.place_of-p in
-    let h = c.before.hint_at in
+    let p = c.place_of-p in
+    let h = c.hint_at in
     (omega arith, λ w wired k. link-added w wired a.links.now a.classes.now a.n k a.x p.result (λ once. p.ensures ∙ place_found a.links.now a.n a.x a.hints.now (omega (arith, s.requires.0, s.requires.1)) s.requires.3 once) c.if-p-n.false (omega (arith, p.ensures, place-within a.links.now a.n a.x a.hints.now)) s.requires.0, hinted-new a.hints.now a.links.now a.n s.requires.3 a.x h.result p.result h.ensures.1 h.ensures.0 (omega (arith, s.requires.0, s.requires.1)))
 
 pub place_link_spec : {M : Type 1} → statement M

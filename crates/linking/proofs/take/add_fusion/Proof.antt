@@ -13,20 +13,20 @@ count-with-requires : tie.Need-count_with-m-requires
 count-with-requires c κs = search rules
 
 place-link-requires-2 : tie.Need-place_link-j-requires
-place-link-requires-2 c κs = let s = c.before.before.before.before.before.before.before.before.before.before.before.before.before.before in
-    let x = c.before.before.before.before.before.before.before.before.place_link-i in
-    (omega (arith, s.requires.0, c.before.before.before.count_with-m.ensures.0), x.auto.0 ∙ s.requires.1, x.auto.1.0 ∙ s.requires.2, rw c.before.before.before.count_with-m.ensures.1 x.ensures.2)
+place-link-requires-2 c κs = let s = c in
+    let x = c.place_link-i in
+    (omega (arith, s.requires.0, c.count_with-m.ensures.0), x.auto.links ∙ s.requires.1, x.auto.classes ∙ s.requires.2, rw c.count_with-m.ensures.1 x.ensures.2)
 
 count-with-requires-2 : tie.Need-count_with-count-requires
-count-with-requires-2 c κs = omega (arith, c.before.before.before.before.before.before.before.before.before.before.before.before.before.before.before.before.before.before.before.requires.0, c.before.before.before.before.before.before.before.before.count_with-m.ensures.0)
+count-with-requires-2 c κs = omega (arith, c.requires.0, c.count_with-m.ensures.0)
 
 merge-requires : tie.Need-merge-requires
-merge-requires c κs = let s = c.before.before.before.before.before.before.before.before.before.before.before.before.before.before.before.before.before.before.before.before.before in
-    let x = c.before.before.before.before.before.before.before.before.before.before.before.before.before.before.before.place_link-i in
-    let m = c.before.before.before.before.before.before.before.before.before.before.count_with-m.ensures.0 in
-    let y = c.before.before.before.before.before.before.place_link-j in
-    let wide = y.auto.1.0 ∙ x.auto.1.0 ∙ s.requires.2 in
-    (omega (arith, wide, s.requires.0, m, c.before.count_with-count.ensures.0), omega (arith, wide, s.requires.0, x.ensures.0), omega (arith, wide, s.requires.0, m, y.ensures.0))
+merge-requires c κs = let s = c in
+    let x = c.place_link-i in
+    let m = c.count_with-m.ensures.0 in
+    let y = c.place_link-j in
+    let wide = y.auto.classes ∙ x.auto.classes ∙ s.requires.2 in
+    (omega (arith, wide, s.requires.0, m, c.count_with-count.ensures.0), omega (arith, wide, s.requires.0, x.ensures.0), omega (arith, wide, s.requires.0, m, y.ensures.0))
 
 same_length : tie.Need-shape_of-links
 same_length c = search rules
@@ -35,13 +35,13 @@ same-length-2 : tie.Need-shape_of-classes
 same-length-2 c = search rules
 
 returns : tie.Need-returns
-returns c = let a = c.before.before.before.before.before.before.before.before.before.before.before.before.before.before.before.before.before.before.before.before.before.before.before.before.args in
-    let x = c.before.before.before.before.before.before.before.before.before.before.before.before.before.before.before.before.before.before.place_link-i in
-    let m = c.before.before.before.before.before.before.before.before.before.before.before.before.before.count_with-m in
-    let y = c.before.before.before.before.before.before.before.before.before.place_link-j in
-    let o = c.before.before.before.before.count_with-count in (
-      links-fused a.links.now a.classes.now a.n x.new.0 x.new.1.0 m.result y.new.0 y.new.1.0 o.result a.a a.b x.result y.result c.before.before.merge.new.0
-          x.ensures.1 m.ensures.1 y.ensures.1 o.ensures.1 c.before.before.merge.ensures,
+returns c = let a = c.args in
+    let x = c.place_link-i in
+    let m = c.count_with-m in
+    let y = c.place_link-j in
+    let o = c.count_with-count in (
+      links-fused a.links.now a.classes.now a.n x.new.links x.new.classes m.result y.new.links y.new.classes o.result a.a a.b x.result y.result c.merge.new.classes
+          x.ensures.1 m.ensures.1 y.ensures.1 o.ensures.1 c.merge.ensures,
       rw o.ensures.1 y.ensures.2,
     )
 

@@ -15,7 +15,7 @@ same-length-2 : tie.Need-shape_of-classes
 same-length-2 c = search rules
 
 returns : tie.Need-returns
-returns c = (c.count_with.ensures.0, λ w wired k. rw c.count_with.ensures.1 (c.before.before.before.before.before.place_link-p.ensures.1 w wired k).1, rw c.count_with.ensures.1 c.before.before.before.before.before.place_link-p.ensures.2)
+returns c = (c.count_with.ensures.0, λ w wired k. rw c.count_with.ensures.1 (c.place_link-p.ensures.1 w wired k).1, rw c.count_with.ensures.1 c.place_link-p.ensures.2)
 
 pub add_link_spec : {M : Type 1} → statement M
 add_link_spec =

@@ -20,7 +20,7 @@ abbrev decreases-loop : tie.decreases-loop-k
 decreases-loop links₀ classes₀ n from count hints₀ nums m₀ k₀ links classes hints m k = count - k
 
 loop-holds : tie.Need-loop-k-init invariant-loop decreases-loop
-loop-holds c = (search rules, search rules, search rules, search rules, search rules, links-none _ _ _, c.before.before.requires.5)
+loop-holds c = (search rules, search rules, search rules, search rules, search rules, links-none _ _ _, c.requires.5)
 
 add-add-link : tie.Need-overflow_add-from invariant-loop decreases-loop
 add-add-link c = search rules
@@ -32,7 +32,7 @@ array-read-add-link : tie.Need-bounds-nums-from invariant-loop decreases-loop
 array-read-add-link c = search rules
 
 add-link-requires : tie.Need-add_link-m-requires invariant-loop decreases-loop
-add-link-requires c κs = (search rules, search rules, search rules, c.before.before.before.before.loop-k.invariant.6)
+add-link-requires c κs = (search rules, search rules, search rules, c.loop-k.invariant.6)
 
 add-k : tie.Need-overflow_add-k invariant-loop decreases-loop
 add-k c = search rules
@@ -41,17 +41,17 @@ loop-less : tie.Need-loop-k-smaller invariant-loop decreases-loop
 loop-less c = search rules
 
 loop-again : tie.Need-loop-k-preserved invariant-loop decreases-loop
-loop-again c = let p = c.before.before.before.before.add_link-m in
-    let l = c.before.before.before.before.before.before.before.before.before in
-    let s = l.before.before.before in
+loop-again c = let p = c.add_link-m in
+    let l = c in
+    let s = l in
     let a = s.args in
     let k = l.loop-k.k in (
-      omega (arith, l.loop-k.invariant.0, c.before.before.before.before.before.before.before.before.loop-k-test.true),
+      omega (arith, l.loop-k.invariant.0, c.loop-k-test.true),
       l.loop-k.invariant.1,
       omega (arith, l.loop-k.invariant.2, p.ensures.0),
-      p.auto.0 ∙ l.loop-k.invariant.3,
-      p.auto.1.0 ∙ l.loop-k.invariant.4,
-      rw (row-link a.t4 a.from k (omega (arith, l.loop-k.invariant.1, s.requires.2, c.before.before.before.before.before.before.before.before.loop-k-test.true))) (links-more a.links.now a.classes.now a.n l.loop-k.links l.loop-k.classes l.loop-k.m _ _ p.result (take k (drop a.from a.t4)) (get_or a.t4 (a.from + k) 0) l.loop-k.invariant.5 p.ensures.1),
+      p.auto.links ∙ l.loop-k.invariant.3,
+      p.auto.classes ∙ l.loop-k.invariant.4,
+      rw (row-link a.nums a.from k (omega (arith, l.loop-k.invariant.1, s.requires.2, c.loop-k-test.true))) (links-more a.links.now a.classes.now a.n l.loop-k.links l.loop-k.classes l.loop-k.m _ _ p.result (take k (drop a.from a.nums)) (get_or a.nums (a.from + k) 0) l.loop-k.invariant.5 p.ensures.1),
       p.ensures.2,
     )
 
@@ -62,8 +62,8 @@ same-length-2 : tie.Need-shape_of-classes invariant-loop decreases-loop
 same-length-2 c = search rules
 
 returns : tie.Need-returns invariant-loop decreases-loop
-returns c = let l = c.before in
-    let e : l.loop-k.k ≡ l.before.before.before.args.count = omega (arith, l.loop-k.invariant.0, c.loop-k-test.false) in
+returns c = let l = c in
+    let e : l.loop-k.k ≡ l.args.count = omega (arith, l.loop-k.invariant.0, c.loop-k-test.false) in
     (omega (arith, e, l.loop-k.invariant.2), rw e at l.loop-k.invariant.5, l.loop-k.invariant.6)
 
 pub add_links_spec : {M : Type 1} → statement M

@@ -19,12 +19,12 @@ slice-read-place : tie.Need-bounds-marked-p
 slice-read-place c = search rules
 
 cast-place : tie.Need-overflow_cast-place
-cast-place c = omega (arith, c.before.before.before.before.before.before.before.before.before.requires.2 c.before.before.index_of-p.result)
+cast-place c = omega (arith, c.requires.2 c.index_of-p.result)
 
 merge-requires : tie.Need-merge-requires
-merge-requires c κs = let s = c.before.before.before.before.before.before.before.before.before.before in
+merge-requires c κs = let s = c in
     let a = s.args in
-    (omega (arith, s.requires.0, s.requires.4), omega (arith, s.requires.4, s.requires.2 c.before.before.before.index_of-p.result), omega (arith, s.requires.0, s.requires.4, c.before.before.before.before.before.index_of-i.ensures, index_below a.a a.n a.links.now))
+    (omega (arith, s.requires.0, s.requires.4), omega (arith, s.requires.4, s.requires.2 c.index_of-p.result), omega (arith, s.requires.0, s.requires.4, c.index_of-i.ensures, index_below a.a a.n a.links.now))
 
 same_length : tie.Need-shape_of-classes-then-p-m
 same_length c = search rules
@@ -33,10 +33,10 @@ same-length-2 : tie.Need-shape_of-marks-then-p-m
 same-length-2 c = search rules
 
 returns : tie.Need-returns-then-p-m
-returns c = let a = c.before.before.before.before.before.before.before.before.before.before.before.before.before.args in
-    let i = c.before.before.before.before.before.before.before.before.index_of-i in
-    let p = c.before.before.before.before.before.before.index_of-p in
-    λ w wired t. mark-merged w wired a.links.now a.classes.now a.n t.0 a.marks.now a.marked.now a.m t.1 a.a a.mark i.result p.result c.before.before.merge.new.0 i.ensures p.ensures c.before.before.before.before.before.if-p-m.true c.before.before.merge.ensures
+returns c = let a = c.args in
+    let i = c.index_of-i in
+    let p = c.index_of-p in
+    λ w wired t. mark-merged w wired a.links.now a.classes.now a.n t.0 a.marks.now a.marked.now a.m t.1 a.a a.mark i.result p.result c.merge.new.classes i.ensures p.ensures c.if-p-m.true c.merge.ensures
 
 mul-marks : tie.Need-offset_bounds-marks-m
 mul-marks c = search rules
@@ -45,8 +45,8 @@ slice-write-marks : tie.Need-bounds-marks-m
 slice-write-marks c = search rules
 
 cast-marked : tie.Need-overflow_cast-marked
-cast-marked c = let s = c.before.before.before.before.before.before.before.before in
-    omega (arith, c.before.before.before.index_of-i.ensures, index_below s.args.a s.args.n s.args.links.now, s.requires.0)
+cast-marked c = let s = c in
+    omega (arith, c.index_of-i.ensures, index_below s.args.a s.args.n s.args.links.now, s.requires.0)
 
 mul-marked : tie.Need-offset_bounds-marked-m
 mul-marked c = search rules
@@ -64,10 +64,10 @@ same-length-4 : tie.Need-shape_of-marked
 same-length-4 c = search rules
 
 returns-2 : tie.Need-returns
-returns-2 c = let s = c.before.before.before.before.before.before.before.before in
+returns-2 c = let s = c in
     let a = s.args in
-    let i = c.before.before.before.index_of-i in
-    λ w wired t. mark-added w wired a.links.now a.classes.now a.n t.0 a.marks.now a.marked.now a.m t.1 a.a a.mark i.result i.ensures (rw c.before.index_of-p.ensures at c.if-p-m.false) (omega (arith, s.requires.1))
+    let i = c.index_of-i in
+    λ w wired t. mark-added w wired a.links.now a.classes.now a.n t.0 a.marks.now a.marked.now a.m t.1 a.a a.mark i.result i.ensures (rw c.index_of-p.ensures at c.if-p-m.false) (omega (arith, s.requires.1))
 
 pub add_mark_spec : {M : Type 1} → statement M
 add_mark_spec =

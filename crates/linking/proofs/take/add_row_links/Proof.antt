@@ -12,14 +12,14 @@ use Rattle.linking.proofs.take.add_row_links.Statement.{statement}
 use Rattle.linking.proofs.take.add_row_links.Tie as tie
 
 -- the first link's field and the count of links are those of the row's letter
-from_is : (c : tie.After-first_link-from) → c.first_link-from.result ≡ first_link c.before.before.before.before.before.before.before.before.before.before.before.before.args.row.letter
-from_is c = c.first_link-from.ensures ∙ ap first_link_in c.before.rules_of-own.ensures
+from_is : (c : tie.After-first_link-from) → c.first_link-from.result ≡ first_link c.args.row.letter
+from_is c = c.first_link-from.ensures ∙ ap first_link_in c.rules_of-own.ensures
 
-count-is : (c : tie.After-link_count-count) → let r = c.before.before.before.before.before.before.before.before.before.before.before.before.before.before.args.row in c.link_count-count.result ≡ link_total r.letter r.nums
-count-is c = c.link_count-count.ensures ∙ ap (λ (own : List Rule). link_count_in own (get_or c.before.before.before.before.before.before.before.before.before.before.before.before.before.before.args.row.nums 1 0)) c.before.before.before.rules_of-own.ensures
+count-is : (c : tie.After-link_count-count) → let r = c.args.row in c.link_count-count.result ≡ link_total r.letter r.nums
+count-is c = c.link_count-count.ensures ∙ ap (λ (own : List Rule). link_count_in own (get_or c.args.row.nums 1 0)) c.rules_of-own.ensures
 
-from_zero : (c : tie.Then-letter-eq-FUSION) → c.before.first_link-from.result ≡ 0
-from_zero c = from_is c.before ∙ fusion-first c.before.before.before.before.before.before.before.before.before.before.before.before.before.args.row.letter c.if-letter-eq-FUSION.true
+from_zero : (c : tie.Then-letter-eq-FUSION) → c.first_link-from.result ≡ 0
+from_zero c = from_is c.before ∙ fusion-first c.args.row.letter c.if-letter-eq-FUSION.true
 
 clear-gone-requires : tie.Need-clear_gone-kept-requires
 clear-gone-requires c κs = search rules
@@ -46,9 +46,9 @@ array-read-add-fusion-2 : tie.Need-bounds-nums-from-then-letter-eq-FUSION
 array-read-add-fusion-2 c = search (rules, from_zero c.before.before)
 
 add-fusion-requires : tie.Need-add_fusion-requires
-add-fusion-requires c κs = let s = c.before.before.before.before.before.before.before.before.before.before.before.before.before.before.before.before in
-    let x = c.before.before.before.before.before.before.before.before.before.before.clear_gone-kept in
-    (search rules, x.auto.0 ∙ s.requires.2, x.auto.1.0 ∙ s.requires.3, hinted-left s.args.hints.now s.args.links.now s.args.n s.requires.4 s.args.row.letter x.result x.new.0 x.ensures.0 x.ensures.1)
+add-fusion-requires c κs = let s = c in
+    let x = c.clear_gone-kept in
+    (search rules, x.auto.a ∙ s.requires.2, x.auto.b ∙ s.requires.3, hinted-left s.args.hints.now s.args.links.now s.args.n s.requires.4 s.args.row.letter x.result x.new.a x.ensures.0 x.ensures.1)
 
 same_length : tie.Need-shape_of-links-then-letter-eq-FUSION
 same_length c = search rules
@@ -57,12 +57,12 @@ same-length-2 : tie.Need-shape_of-classes-then-letter-eq-FUSION
 same-length-2 c = search rules
 
 returns : tie.Need-returns-then-letter-eq-FUSION
-returns c = let s = c.before.before.before.before.before.before.before.before.before.before.before.before.before.before.before.before.before.before.before.before.before in
+returns c = let s = c in
     let a = s.args in
-    let x = c.before.before.before.before.before.before.before.before.before.before.before.before.before.before.before.clear_gone-kept in
-    let y = c.before.before.before.before.add_fusion in
-    let two = c.before.before.before.before.before.before.before.before.if-letter-eq-FUSION.true in
-    (λ e. absurd (omega (arith, two, e)), row-fused a.row a.links.now a.classes.now a.n x.result x.new.0 x.new.1.0 y.new.0 y.new.1.0 y.result s.requires.0 x.ensures.0 x.ensures.1 x.ensures.2 (search rules) two c.before.before.before.before.before.before.before.before.before.first_link-from.result (from_is c.before.before.before.before.before.before.before.before.before) y.ensures.0, y.ensures.1)
+    let x = c.clear_gone-kept in
+    let y = c.add_fusion in
+    let two = c.if-letter-eq-FUSION.true in
+    (λ e. absurd (omega (arith, two, e)), row-fused a.row a.links.now a.classes.now a.n x.result x.new.a x.new.b y.new.links y.new.classes y.result s.requires.0 x.ensures.0 x.ensures.1 x.ensures.2 (search rules) two c.first_link-from.result (from_is c.before.before.before.before.before.before.before.before.before) y.ensures.0, y.ensures.1)
 
 array-read-link-count : tie.Need-bounds-nums-1
 array-read-link-count c = search rules
@@ -71,13 +71,13 @@ link-count-requires : tie.Need-link_count-count-requires
 link-count-requires c κs = search rules
 
 add-links-requires : tie.Need-add_links-requires
-add-links-requires c κs = let s = c.before.before.before.before.before.before.before.before.before.before.before.before.before.before.before.before.before in
+add-links-requires c κs = let s = c in
     let r = s.args.row in
     let fits = count_fits r.letter r.nums s.requires.1.known s.requires.1.atom (λ e. (s.requires.1.context e).1) in
-    let x = c.before.before.before.before.before.before.before.before.before.before.before.clear_gone-kept in
+    let x = c.clear_gone-kept in
     let from = from_is c.before.before.before.before.before in
     let count = count-is c.before.before.before in
-    (omega (arith, s.requires.0, x.ensures.0), omega (arith, count, fits.0), omega (arith, from, count, fits.1), x.auto.0 ∙ s.requires.2, x.auto.1.0 ∙ s.requires.3, hinted-left s.args.hints.now s.args.links.now s.args.n s.requires.4 r.letter x.result x.new.0 x.ensures.0 x.ensures.1)
+    (omega (arith, s.requires.0, x.ensures.0), omega (arith, count, fits.0), omega (arith, from, count, fits.1), x.auto.a ∙ s.requires.2, x.auto.b ∙ s.requires.3, hinted-left s.args.hints.now s.args.links.now s.args.n s.requires.4 r.letter x.result x.new.a x.ensures.0 x.ensures.1)
 
 same-length-3 : tie.Need-shape_of-links
 same-length-3 c = search rules
@@ -86,13 +86,13 @@ same-length-4 : tie.Need-shape_of-classes
 same-length-4 c = search rules
 
 returns-2 : tie.Need-returns
-returns-2 c = let s = c.before.before.before.before.before.before.before.before.before.before.before.before.before.before.before.before.before.before.before.before.before.before in
+returns-2 c = let s = c in
     let a = s.args in
-    let x = c.before.before.before.before.before.before.before.before.before.before.before.before.before.before.before.before.clear_gone-kept in
+    let x = c.clear_gone-kept in
     let from = c.before.before.before.before.before.before.before.before.before.before in
     let count = c.before.before.before.before.before.before.before.before in
-    let y = c.before.before.before.before.add_links in
-    (λ e. omega (arith, count-is count, count-one a.row.letter a.row.nums e, y.ensures.0, x.ensures.0), row-linked a.row a.links.now a.classes.now a.n x.result x.new.0 x.new.1.0 y.new.0 y.new.1.0 y.result s.requires.0 x.ensures.0 x.ensures.1 x.ensures.2 from.first_link-from.result count.link_count-count.result (from_is from) (count-is count) y.ensures.1 c.before.before.before.before.before.before.before.before.before.if-letter-eq-FUSION.false, y.ensures.2)
+    let y = c.add_links in
+    (λ e. omega (arith, count-is count, count-one a.row.letter a.row.nums e, y.ensures.0, x.ensures.0), row-linked a.row a.links.now a.classes.now a.n x.result x.new.a x.new.b y.new.links y.new.classes y.result s.requires.0 x.ensures.0 x.ensures.1 x.ensures.2 from.first_link-from.result count.link_count-count.result (from_is from) (count-is count) y.ensures.1 c.if-letter-eq-FUSION.false, y.ensures.2)
 
 pub add_row_links_spec : {M : Type 1} → statement M
 add_row_links_spec =

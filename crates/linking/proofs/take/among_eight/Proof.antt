@@ -34,17 +34,17 @@ loop-less : tie.Need-loop-k-smaller invariant-loop decreases-loop
 loop-less c = search rules
 
 loop-again : tie.Need-loop-k-preserved invariant-loop decreases-loop
-loop-again c = let l = c.before.before.before in
-    let a = l.before.args in (
+loop-again c = let l = c in
+    let a = l.args in (
       omega arith,
       ⊎_elim
-          (λ w e. absurd (true≢false (sym w.1 ∙ e)))
-          (λ w e. lacks-more a.s.now a.i a.x l.loop-k.k (l.loop-k.invariant.1 (sym w.1 ∙ e)) w.0.left)
+          (λ w e. absurd (true≢false (sym w.found-is ∙ e)))
+          (λ w e. lacks-more a.s.now a.i a.x l.loop-k.k (l.loop-k.invariant.1 (sym w.found-is ∙ e)) w.if-s-i.false)
           c.if-s-i.branch-raw,
     )
 
 returns : tie.Need-returns invariant-loop decreases-loop
-returns c e k h = c.before.loop-k.invariant.1 e k (omega arith)
+returns c e k h = c.loop-k.invariant.1 e k (omega arith)
 
 pub among_eight_spec : {M : Type 1} → statement M
 among_eight_spec = tie.close (tie.spec invariant-loop decreases-loop loop-holds add-if1 mul-if1 shared-slice-read-if1 add-k loop-less loop-again returns)

@@ -31,16 +31,16 @@ loop-less : tie.Need-loop-i-smaller invariant-loop decreases-loop
 loop-less c = search rules
 
 loop-again : tie.Need-loop-i-preserved invariant-loop decreases-loop
-loop-again c = let l = c.before in
-    let a = l.before.args in
-    (search rules, simp length-set l.loop-i.invariant.1, clear_next a.s.now l.loop-i.s l.loop-i.i (omega (arith, l.before.requires, c.loop-i-test.true)) l.loop-i.invariant.2)
+loop-again c = let l = c in
+    let a = l.args in
+    (search rules, simp length-set l.loop-i.invariant.1, clear_next a.s.now l.loop-i.s l.loop-i.i (omega (arith, l.requires, c.loop-i-test.true)) l.loop-i.invariant.2)
 
 same_length : tie.Need-shape_of-s invariant-loop decreases-loop
 same_length c = search rules
 
 returns : tie.Need-returns invariant-loop decreases-loop
-returns c = let l = c.before in
-    let e : l.loop-i.i ≡ l.before.args.n = omega arith in
+returns c = let l = c in
+    let e : l.loop-i.i ≡ l.args.n = omega arith in
     rw e at l.loop-i.invariant.2
 
 pub clear_spec : {M : Type 1} → statement M

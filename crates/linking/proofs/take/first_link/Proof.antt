@@ -26,8 +26,8 @@ element-copy-out-if1 : tie.Need-bounds-own-f invariant-loop decreases-loop
 element-copy-out-if1 c = search rules
 
 returns : tie.Need-returns-then-own-f invariant-loop decreases-loop
-returns c = let l = c.before.before in
-    omega (arith, l.loop-f.invariant.2, first-hit l.before.args.own l.loop-f.f (omega (arith, l.loop-f.invariant.1, c.before.loop-f-test.true)) c.if-own-f.true)
+returns c = let l = c in
+    omega (arith, l.loop-f.invariant.2, first-hit l.args.own l.loop-f.f (omega (arith, l.loop-f.invariant.1, c.loop-f-test.true)) c.if-own-f.true)
 
 add-f : tie.Need-overflow_add-f invariant-loop decreases-loop
 add-f c = search rules
@@ -36,15 +36,15 @@ loop-less : tie.Need-loop-f-smaller invariant-loop decreases-loop
 loop-less c = search rules
 
 loop-again : tie.Need-loop-f-preserved invariant-loop decreases-loop
-loop-again c = let l = c.before.before in (
-  omega (arith, c.before.loop-f-test.true),
+loop-again c = let l = c in (
+  omega (arith, c.loop-f-test.true),
   l.loop-f.invariant.1,
-  omega (arith, l.loop-f.invariant.2, first-miss l.before.args.own l.loop-f.f (omega (arith, l.loop-f.invariant.1, c.before.loop-f-test.true)) c.if-own-f.false),
+  omega (arith, l.loop-f.invariant.2, first-miss l.args.own l.loop-f.f (omega (arith, l.loop-f.invariant.1, c.loop-f-test.true)) c.if-own-f.false),
 )
 
 returns-2 : tie.Need-returns invariant-loop decreases-loop
-returns-2 c = let l = c.before in
-    omega (arith, l.loop-f.invariant.2, first-end l.before.args.own l.loop-f.f (omega (arith, l.loop-f.invariant.1, c.loop-f-test.false)))
+returns-2 c = let l = c in
+    omega (arith, l.loop-f.invariant.2, first-end l.args.own l.loop-f.f (omega (arith, l.loop-f.invariant.1, c.loop-f-test.false)))
 
 pub first_link_spec : {M : Type 1} → statement M
 first_link_spec =

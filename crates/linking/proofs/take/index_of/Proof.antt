@@ -29,11 +29,11 @@ shared-slice-read-if1 : tie.Need-bounds-s-i invariant-loop decreases-loop
 shared-slice-read-if1 c = search rules
 
 returns : tie.Need-returns-then-s-i invariant-loop decreases-loop
-returns c = let l = c.before.before.before in
-    let s = l.before.before.before.args.s.now in
-    let n = l.before.before.before.args.n in
-    let len : length (take n s) ≡ n = length-take-le n s l.before.before.before.requires in
-    omega (arith, l.loop-i.invariant.1, index-hit (take n s) l.before.before.before.args.x l.loop-i.i (omega arith) (get_or-take n s l.loop-i.i 0 (search rules) ∙ c.if-s-i.true))
+returns c = let l = c in
+    let s = l.args.s.now in
+    let n = l.args.n in
+    let len : length (take n s) ≡ n = length-take-le n s l.requires in
+    omega (arith, l.loop-i.invariant.1, index-hit (take n s) l.args.x l.loop-i.i (omega arith) (get_or-take n s l.loop-i.i 0 (search rules) ∙ c.if-s-i.true))
 
 add-i : tie.Need-overflow_add-i invariant-loop decreases-loop
 add-i c = search rules
@@ -42,18 +42,18 @@ loop-less : tie.Need-loop-i-smaller invariant-loop decreases-loop
 loop-less c = search rules
 
 loop-again : tie.Need-loop-i-preserved invariant-loop decreases-loop
-loop-again c = let l = c.before.before.before in
-    let s = l.before.before.before.args.s.now in
-    let n = l.before.before.before.args.n in
-    let len : length (take n s) ≡ n = length-take-le n s l.before.before.before.requires in
-    (search rules, omega (arith, l.loop-i.invariant.1, index-miss (take n s) l.before.before.before.args.x l.loop-i.i (omega arith) (λ e. c.if-s-i.false (sym (get_or-take n s l.loop-i.i 0 (search rules)) ∙ e))))
+loop-again c = let l = c in
+    let s = l.args.s.now in
+    let n = l.args.n in
+    let len : length (take n s) ≡ n = length-take-le n s l.requires in
+    (search rules, omega (arith, l.loop-i.invariant.1, index-miss (take n s) l.args.x l.loop-i.i (omega arith) (λ e. c.if-s-i.false (sym (get_or-take n s l.loop-i.i 0 (search rules)) ∙ e))))
 
 returns-2 : tie.Need-returns invariant-loop decreases-loop
-returns-2 c = let l = c.before in
-    let s = l.before.before.before.args.s.now in
-    let n = l.before.before.before.args.n in
-    let len : length (take n s) ≡ n = length-take-le n s l.before.before.before.requires in
-    omega (arith, l.loop-i.invariant.1, index-end (take n s) l.before.before.before.args.x l.loop-i.i (omega arith))
+returns-2 c = let l = c in
+    let s = l.args.s.now in
+    let n = l.args.n in
+    let len : length (take n s) ≡ n = length-take-le n s l.requires in
+    omega (arith, l.loop-i.invariant.1, index-end (take n s) l.args.x l.loop-i.i (omega arith))
 
 pub index_of_spec : {M : Type 1} → statement M
 index_of_spec =

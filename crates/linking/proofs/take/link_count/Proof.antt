@@ -21,12 +21,12 @@ decreases-loop count own links₀ f₀ links f = field_count - f
 
 -- what is counted in all, by whether the field at f holds a link, and a counted one
 turn : (l : tie.At-loop-f invariant-loop decreases-loop) →
-    let own = l.before.args.own in
-    let count = l.before.args.count in
+    let own = l.args.own in
+    let count = l.args.count in
     l.loop-f.f < field_count → (link counted : Bool) → (get_or own l.loop-f.f blank).link ≡ link → (get_or own l.loop-f.f blank).counted ≡ counted
     → link_count_in own count ≡ l.loop-f.links + pick link (pick counted count (suc (link_count_in (drop (l.loop-f.f + 1) own) count))) (link_count_in (drop (l.loop-f.f + 1) own) count)
 turn l h link counted e k =
-    l.loop-f.invariant.3 ∙ ap (λ (n : ℕ). l.loop-f.links + n) (links-next l.before.args.own l.loop-f.f (omega (arith, l.loop-f.invariant.1)) l.before.args.count link counted e k)
+    l.loop-f.invariant.3 ∙ ap (λ (n : ℕ). l.loop-f.links + n) (links-next l.args.own l.loop-f.f (omega (arith, l.loop-f.invariant.1)) l.args.count link counted e k)
 
 loop-holds : tie.Need-loop-f-init invariant-loop decreases-loop
 loop-holds c = (omega arith, search rules, omega arith, omega arith)
@@ -42,7 +42,7 @@ add-result c = search rules
 
 returns : tie.Need-returns-then-rule-2 invariant-loop decreases-loop
 returns c = let l = c.before.before.before.before in
-    sym (turn l c.before.before.before.loop-f-test.true true true c.before.if-rule.true c.if-rule-2.true)
+    sym (turn l c.loop-f-test.true true true c.if-rule.true c.if-rule-2.true)
 
 add-links : tie.Need-overflow_add-links invariant-loop decreases-loop
 add-links c = search rules
@@ -55,16 +55,16 @@ loop-less c = search rules
 
 loop-again : tie.Need-loop-f-preserved invariant-loop decreases-loop
 loop-again c = let l = c.before.before.before in
-    let test = c.before.before.loop-f-test.true in
-    let rule = get_or l.before.args.own l.loop-f.f blank in
+    let test = c.loop-f-test.true in
+    let rule = get_or l.args.own l.loop-f.f blank in
     ⊎_elim
     (λ w. (omega arith, l.loop-f.invariant.1, omega (arith, l.loop-f.invariant.2, w.links-is), omega (arith, w.links-is, turn l test true false w.if-rule.true w.if-rule-2.false)))
     (λ w. (omega arith, l.loop-f.invariant.1, omega (arith, l.loop-f.invariant.2, w.links-is), omega (arith, w.links-is, turn l test false rule.counted w.if-rule.false refl)))
     c.if-rule.branch-raw
 
 returns-2 : tie.Need-returns invariant-loop decreases-loop
-returns-2 c = let l = c.before in
-    omega (arith, l.loop-f.invariant.3, links_end l.before.args.own l.loop-f.f l.before.args.count (omega (arith, l.loop-f.invariant.1, c.loop-f-test.false)))
+returns-2 c = let l = c in
+    omega (arith, l.loop-f.invariant.3, links_end l.args.own l.loop-f.f l.args.count (omega (arith, l.loop-f.invariant.1, c.loop-f-test.false)))
 
 pub link_count_spec : {M : Type 1} → statement M
 link_count_spec =

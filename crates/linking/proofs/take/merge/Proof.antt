@@ -17,7 +17,7 @@ slice-read-to : tie.Need-bounds-classes-i
 slice-read-to c = search rules
 
 returns : tie.Need-returns-then-from-to
-returns c = let a = c.before.before.before.before.args in
+returns c = let a = c.args in
     relabel-none _ _ a.n a.classes.now c.if-from-to.true
 
 relabel-requires : tie.Need-relabel-requires

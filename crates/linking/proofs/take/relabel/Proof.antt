@@ -40,9 +40,9 @@ loop-less : tie.Need-loop-i-smaller invariant-loop decreases-loop
 loop-less c = search rules
 
 loop-again : tie.Need-loop-i-preserved invariant-loop decreases-loop
-loop-again c = let l = c.before.before.before in
-    let a = l.before.args in
-    let h : l.loop-i.i < length a.classes.now = omega (arith, l.before.requires, c.before.before.loop-i-test.true) in (
+loop-again c = let l = c in
+    let a = l.args in
+    let h : l.loop-i.i < length a.classes.now = omega (arith, l.requires, c.loop-i-test.true) in (
       search rules,
       simp length-set l.loop-i.invariant.1,
       ⊎_elim
@@ -55,8 +55,8 @@ same_length : tie.Need-shape_of-classes invariant-loop decreases-loop
 same_length c = search rules
 
 returns : tie.Need-returns invariant-loop decreases-loop
-returns c = let l = c.before in
-    let e : l.loop-i.i ≡ l.before.args.n = omega arith in
+returns c = let l = c in
+    let e : l.loop-i.i ≡ l.args.n = omega arith in
     rw e at l.loop-i.invariant.2
 
 pub relabel_spec : {M : Type 1} → statement M

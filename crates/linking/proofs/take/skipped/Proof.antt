@@ -26,7 +26,7 @@ among-eight-requires : tie.Need-among_eight-requires invariant-loop decreases-lo
 among-eight-requires c κs = search rules
 
 returns : tie.Need-returns-then-among_eight invariant-loop decreases-loop
-returns c = c.before.before.before.loop-i.invariant
+returns c = c.loop-i.invariant
 
 add-i : tie.Need-overflow_add-i invariant-loop decreases-loop
 add-i c = search rules
@@ -35,18 +35,18 @@ loop-less : tie.Need-loop-i-smaller invariant-loop decreases-loop
 loop-less c = search rules
 
 loop-again : tie.Need-loop-i-preserved invariant-loop decreases-loop
-loop-again c = let l = c.before.before.before in
-    let a = l.before.before.args in
+loop-again c = let l = c in
+    let a = l.args in
     let s = a.s.now in
     let n = a.n in
-    let len : length (take n s) ≡ n = length-take-le n s l.before.before.requires in
-    let lacks = c.before.among_eight.ensures c.if-among_eight.false in (
+    let len : length (take n s) ≡ n = length-take-le n s l.requires in
+    let lacks = c.among_eight.ensures c.if-among_eight.false in (
       omega arith,
       omega (arith, l.loop-i.invariant.1, index-lacks (take n s) a.x l.loop-i.i 8 (omega arith) (λ k h e. lacks k h (sym (get_or-take n s (l.loop-i.i + k) 0 (omega arith)) ∙ e))),
     )
 
 returns-2 : tie.Need-returns invariant-loop decreases-loop
-returns-2 c = c.before.loop-i.invariant
+returns-2 c = c.loop-i.invariant
 
 pub skipped_spec : {M : Type 1} → statement M
 skipped_spec = tie.close (tie.spec invariant-loop decreases-loop loop-holds sub-loop among-eight-requires returns add-i loop-less loop-again returns-2)

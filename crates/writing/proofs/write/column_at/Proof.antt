@@ -7,7 +7,7 @@ use Rattle.writing.proofs.write.column_at.Tie as tie
 returns : tie.Need-returns-then-n-place
 returns c = rw (lt-ltb _ _ c.if-n-place.true)
 
-div-result : tie.Need-nonzero-div-result
+div-result : tie.Need-nonzero_div-result
 div-result c = search rules
 
 cast-result : tie.Need-overflow_cast-result

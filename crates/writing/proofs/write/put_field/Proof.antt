@@ -31,14 +31,14 @@ same_length c = search rules
 
 returns : tie.Need-returns-then-filled
 unfolding field_bytes
-returns c = let k = c.before.before.before.before in
-    c.before.before.put_columns.ensures ∙ rw (k.before.before.before.if-filled.true, k.column_at-tens.ensures, k.before.column_at-hundreds.ensures, k.before.before.column_at-thousands.ensures)
+returns c = let k = c in
+    c.put_columns.ensures ∙ rw (k.if-filled.true, k.column_at-tens.ensures, k.column_at-hundreds.ensures, k.column_at-thousands.ensures)
 
 same-length-2 : tie.Need-shape_of-out-else-filled
 same-length-2 c = search rules
 
 returns-2 : tie.Need-returns-else-filled
-returns-2 c = c.before.before.put_columns-else-filled.ensures ∙ rw c.before.before.before.before.if-filled.false
+returns-2 c = c.put_columns-else-filled.ensures ∙ rw c.if-filled.false
 
 pub put_field_spec : {M : Type 1} → statement M
 put_field_spec =

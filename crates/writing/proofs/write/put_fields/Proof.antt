@@ -20,7 +20,7 @@ decreases-loop out₀ at count nums f₀ out f = field_count - f
 
 loop-holds : tie.Need-loop-f-init invariant-loop decreases-loop
 unfolding fields_bytes
-loop-holds c = (omega arith, refl, over_none c.before.args.out.now c.before.args.at)
+loop-holds c = (omega arith, refl, over_none c.args.out.now c.args.at)
 
 mul-put-field : tie.Need-overflow_mul-f invariant-loop decreases-loop
 mul-put-field c = search rules
@@ -35,8 +35,8 @@ array-read-put-field : tie.Need-bounds-nums-f invariant-loop decreases-loop
 array-read-put-field c = search rules
 
 put-field-requires : tie.Need-put_field-requires invariant-loop decreases-loop
-put-field-requires c κs = let l = c.before.before in
-    let s = l.before.before in
+put-field-requires c κs = let l = c in
+    let s = l in
     (omega (arith, l.loop-f.invariant.1, s.requires.0), λ e. s.requires.1.1 l.loop-f.f (ltb-true _ _ e))
 
 add-f : tie.Need-overflow_add-f invariant-loop decreases-loop
@@ -46,21 +46,21 @@ loop-less : tie.Need-loop-f-smaller invariant-loop decreases-loop
 loop-less c = search rules
 
 loop-again : tie.Need-loop-f-preserved invariant-loop decreases-loop
-loop-again c = let p = c.before.before.put_field in
-    let l = c.before.before.before.before.before in
-    let s = l.before.before in
+loop-again c = let p = c.put_field in
+    let l = c in
+    let s = l in
     let w : length s.args.nums ≡ field_count = search rules in (
       omega arith,
-      p.auto.0 ∙ l.loop-f.invariant.1,
-      fields-put s.args.out.now p.new.0 s.args.at s.args.nums s.args.count l.loop-f.f (omega (arith, s.requires.1.0)) c.before.before.before.before.loop-f-test.true s.requires.0 (rw l.loop-f.invariant.2 at p.ensures),
+      p.auto.out ∙ l.loop-f.invariant.1,
+      fields-put s.args.out.now p.new.out s.args.at s.args.nums s.args.count l.loop-f.f (omega (arith, s.requires.1.0)) c.loop-f-test.true s.requires.0 (rw l.loop-f.invariant.2 at p.ensures),
     )
 
 same_length : tie.Need-shape_of-out invariant-loop decreases-loop
 same_length c = search rules
 
 returns : tie.Need-returns invariant-loop decreases-loop
-returns c = let e : c.before.loop-f.f ≡ field_count = omega arith in
-    rw e at c.before.loop-f.invariant.2
+returns c = let e : c.loop-f.f ≡ field_count = omega arith in
+    rw e at c.loop-f.invariant.2
 
 pub put_fields_spec : {M : Type 1} → statement M
 put_fields_spec =

@@ -14,7 +14,7 @@ add-put-fields : tie.Need-overflow_add-at
 add-put-fields c = search rules
 
 put-fields-requires : tie.Need-put_fields-requires
-put-fields-requires c κs = let s = c.before.before in
+put-fields-requires c κs = let s = c in
     (simp length-set (omega (arith, s.requires.0)), s.requires.1)
 
 add-out : tie.Need-overflow_add-out
@@ -24,16 +24,16 @@ sub_out : tie.Need-overflow_sub-out
 sub_out c = search rules
 
 slice-write-out-2 : tie.Need-bounds-out-at-2
-slice-write-out-2 c = let s = c.before.before.before.before.before in
-    omega (arith, c.before.before.put_fields.auto.0, length-set s.args.out.now s.args.at s.args.letter, s.requires.0)
+slice-write-out-2 c = let s = c in
+    omega (arith, c.put_fields.auto.out, length-set s.args.out.now s.args.at s.args.letter, s.requires.0)
 
 same_length : tie.Need-shape_of-out
-same_length c = simp length-set (simp length-set at c.before.before.put_fields.auto.0)
+same_length c = simp length-set (simp length-set at c.put_fields.auto.out)
 
 returns : tie.Need-returns
-returns c = let p = c.before.before.put_fields in
-    let s = c.before.before.before.before.before in
-    row_put s.args.out.now p.new.0 s.args.at s.args.letter (take s.args.count s.args.nums) s.requires.0 p.ensures
+returns c = let p = c.put_fields in
+    let s = c in
+    row_put s.args.out.now p.new.out s.args.at s.args.letter (take s.args.count s.args.nums) s.requires.0 p.ensures
 
 pub put_row_spec : {M : Type 1} → statement M
 put_row_spec =
