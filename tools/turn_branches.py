@@ -19,8 +19,8 @@ from turn_proofs import Names, by_parameter
 def joins(lts):
     """Pairs of a join's name and its branches' fields."""
     out = []
-    for m in re.finditer(r"(?m)^ +pub data Came-Joined-?(\S+) : Type 0 where\n((?: +\S+ : By-.*(?:\n +→.*)*\n)+)", lts):
-        records = re.findall(r"(?m)^ +\S+ : (By-\d+-Joined\S*)", m.group(2))
+    for m in re.finditer(r"(?m)^ +pub data Came-Joined-?(\S+) : Type 0 where\n((?: +.*\n)+)", lts):
+        records = re.findall(r"(?m)^ +\S+ :\s+(By-\d+-Joined\S*)", m.group(2))
         each = []
         for r in records:
             k = re.search(r"pub record " + re.escape(r) + r" : Type 0 where\n((?:            +.*\n|\n)+)", lts)
@@ -70,7 +70,7 @@ def main(crate, names, generated):
             wanted = []
             for s in steps:
                 name = s.split("-", 1)[1] if "-" in s else s
-                each = all_joins.get(name) or all_joins.get(s)
+                each = all_joins.get(name) or all_joins.get(name + "-unread") or all_joins.get(s)
                 if each is None:
                     print(f"{proof}: no join {s} among {list(all_joins)}")
                     each = []

@@ -8,6 +8,7 @@ the new name of each goal, place, step and loop. A proof keeps its text but for 
 check says.
 """
 
+import glob
 import json
 import os
 import re
@@ -15,7 +16,7 @@ import sys
 
 
 def norm(name):
-    return name.replace("_", "-")
+    return name.replace("_", "-").lower()
 
 
 class Names:
@@ -31,7 +32,12 @@ class Names:
             if place[4]:
                 self.fields.setdefault(norm(old_step), {}).update({norm(a): b for a, b in place[4]})
         # An argument that had no name, and an arm's facts.
-        self.texts = {}
+        self.texts, self.arms = {}, {}
+        # The place of each goal, and how many places lie between one and another above it.
+        self.at = {need[1]: at[1] for need, at in zip(entry["needs"], entry["asked_at"])}
+        by_old = dict(zip((p[0] for p in entry["places"]), entry["places_by_name"]))
+        self.above = {by_old[p[0]]: by_old.get(p[1]) for p in entry["places"]}
+        self.settled = {norm(n) for n in entry["settled"]}
         # What a call wrote or kept, by the names of the callee's parameters.
         self.calls = {p[2][1]: entry["params"].get(p[3], []) for p in entry["places"] if p[3]}
         for old, new in entry["args"]:
@@ -41,23 +47,39 @@ class Names:
         for arm in entry["arms"]:
             for new_field, old_step, old_path in arm[2] if arm else []:
                 if old_path:
-                    self.texts[f".in_default.{'.'.join(old_path)}"] = self.texts[f".{old_step}.{'.'.join(old_path)}"] = f".{arm[0]}.{new_field}"
+                    self.arms[f"{norm(old_step)}.{'.'.join(old_path)}"] = f".{arm[0]}.{new_field}"
+                    if old_step == "match":
+                        self.arms[f"in-default.{'.'.join(old_path)}"] = f".{arm[0]}.{new_field}"
                 else:
-                    self.texts[".in_default.rest"] = f".in_default.{new_field}.rest"
+                    self.arms["in-default.rest"] = f".in_default.{new_field}.rest"
 
-    def of_tie(self, name):
+    def ups(self, place, above):
+        """How many ways up lead from a place to another one, or None."""
+        count = 0
+        while place is not None:
+            if place == above:
+                return count
+            place, count = self.above.get(place), count + 1
+        return None
+
+    def of_tie(self, name, own):
         for head in ("invariant-", "decreases-"):
             if name.startswith(head):
                 loop = norm(name[len(head):])
                 return head + self.loops[loop] if loop in self.loops else None
         if name.startswith("Need-"):
             need = norm(name[5:])
-            for form in (need, re.sub(r"^(overflow|nonzero|bounds)-", "", need)):
+            for form in (need, re.sub(r"^(overflow|nonzero|bounds)-", "", need), norm(own)):
                 if form in self.needs:
                     return "Need-" + self.needs[form]
             return None
         return self.places.get(norm(name))
 
+
+RUST = set()
+for _path in glob.glob("crates/*/src/**/*.rt", recursive=True):
+    with open(_path) as _f:
+        RUST.update(re.findall(r"[a-z]\w*", _f.read()))
 
 WORD = r"[^\s(){}\[\],;.@\"λ:=]+"
 
@@ -80,16 +102,52 @@ def place_variables(text):
     return found
 
 
-def flat(text):
-    """A place has the steps of all before it: no way up in front of a step, nor to a place that only gives steps."""
+def helpers(text):
+    """The lemmas whose first argument is a place, with it, and with the place that they give, if so."""
+    found = {}
+    for m in re.finditer(r"(?m)^\s*(?:abbrev |pub |unfoldable )*(" + WORD + r") : \(?(?:" + WORD + r" : )?tie\.(" + WORD + r")([^\n]*)", text):
+        if not m.group(2).startswith(("Need-", "invariant-", "decreases-")):
+            gives = re.search(r"→ tie\.(" + WORD + r")", m.group(3))
+            found[m.group(1)] = (m.group(2), gives.group(1) if gives else None)
+    return found
+
+
+def flat(text, names):
+    """A place has the steps of all before it: no way up in front of a step; in front of a lemma, as many as lead to its place."""
     text = re.sub(r"(?:\.before)+(?=\.(?!before\b))", "", text)
+    known = helpers(text)
     parts = re.split(r"(?m)^(?=\S)", text)
+    place, owner = None, None
     for k, part in enumerate(parts):
-        for m in re.finditer(r"let (" + WORD + r") = (" + WORD + r")(?:\.before)+ in", part):
+        head = re.match(r"(?:abbrev |pub |unfoldable )*(" + WORD + r") :", part)
+        if head:
+            owner = head.group(1)
+            need = re.match(r"(?:abbrev |pub |unfoldable )*" + WORD + r" : tie\.Need-(" + WORD + ")", part)
+            place = names.at.get(need.group(1)) if need else known.get(owner, (None,))[0]
+            continue
+        body = re.match(re.escape(owner or "?") + r" (" + WORD + r")\b", part)
+        if not body or place is None:
+            continue
+        at = {body.group(1): place}
+        for m in list(re.finditer(r"let (" + WORD + r") = (" + WORD + r")((?:\.before)*) in", part)):
             name = re.escape(m.group(1))
-            uses = re.findall(r"(?<![\w.'₀-₉-])" + name + r"(?![\w'₀-₉-])(\.?)", part[m.end():])
-            if all(uses):
+            uses = re.findall(r"(" + WORD + r" )?(?<![\w.'₀-₉-])" + name + r"(?![\w'₀-₉-])(\.?)", part.split(m.group(0), 1)[1])
+            if m.group(2) in at and all(u[1] or u[0].strip() in known for u in uses):
                 part = part.replace(m.group(0), f"let {m.group(1)} = {m.group(2)} in")
+                at[m.group(1)] = at[m.group(2)]
+
+        def call(m):
+            count = names.ups(at.get(m.group(2)), known[m.group(1)][0])
+            return m.group(0) if count is None else f"{m.group(1)} {m.group(2)}" + ".before" * count
+
+        if known:
+            words = "|".join(re.escape(h) for h in sorted(known, key=len, reverse=True))
+            part = re.sub(r"(?<![\w.'-])(" + words + r") (" + WORD + r")(?:\.before)*(?![\w.'-])", call, part)
+        gives = known.get(owner, (None, None))[1]
+        if gives:
+            count = names.ups(place, gives)
+            if count is not None:
+                part = re.sub(r"= " + re.escape(body.group(1)) + r"(?:\.before)*(?=\s*$)", "= " + body.group(1) + ".before" * count, part, flags=re.M)
         parts[k] = part
     return "".join(parts)
 
@@ -115,14 +173,27 @@ def by_parameter(text, names):
 
 def turn(text, names, missing):
     def tie(m):
-        new = names.of_tie(m.group(1))
-        if new is None:
-            missing.append("tie." + m.group(1))
+        name = m.group(2)
+        if name in ("close", "spec"):
             return m.group(0)
-        return "tie." + new
+        new = names.of_tie(name, m.group(1) or "")
+        if new is None:
+            if name.startswith("Need-"):
+                gone.append(m.group(1))
+            missing.append("tie." + name)
+            return m.group(0)
+        return (f"{m.group(1)} : " if m.group(1) else "") + "tie." + new
 
+    gone = []
     variables = place_variables(text)
-    text = re.sub(r"(?<![\w.])tie\.(" + WORD + r")", lambda m: m.group(0) if m.group(1) in ("close", "spec") else tie(m), text)
+    text = re.sub(r"(?<![\w.])(?:(" + WORD + r") : )?tie\.(" + WORD + r")", tie, text)
+    for name in gone:
+        # A goal that is settled now: its answer goes.
+        text = re.sub(r"(?ms)^" + re.escape(name) + r" : .*?(?=^(?:pub |abbrev |unfoldable )*(?!" + re.escape(name) + r"\b)\S+ :|^-- )", "", text)
+        text = re.sub(r"(?m)(?<=[\s(])" + re.escape(name) + r"(?=[\s)])[ ]?", "", text)
+    for old, new in sorted(names.arms.items(), key=lambda it: -len(it[0])):
+        form = "".join("[-_]" if ch == "-" else re.escape(ch) for ch in old)
+        text = re.sub(r"\." + form + r"(?![\w'-])", lambda m, new=new: new, text, flags=re.I)
 
     def step(m):
         head, ups, name, field = m.group(1), m.group(2), m.group(3), m.group(4)
@@ -137,9 +208,11 @@ def turn(text, names, missing):
         return head + ups + "." + names.steps[old] + (field or "")
 
     text = re.sub(r"(" + WORD + r"|\))((?:\.before)*)\.(" + WORD + r")(\." + WORD + r")?", step, text)
-    text = by_parameter(flat(text), names)
+    text = by_parameter(flat(text, names), names)
     for old in sorted(names.texts, key=len, reverse=True):
         text = re.sub(re.escape(old) + r"(?![\w'-])", lambda m: names.texts[old], text)
+    # Names from .rt code, in which a dash came to stand.
+    text = re.sub(r"(?<=\.)([a-z]\w*(?:-\w+)+)(?![\w'-])", lambda m: m.group(1).replace("-", "_") if m.group(1).replace("-", "_") in RUST and m.group(1) not in names.steps.values() else m.group(1), text)
     return text.replace(".branch", ".branch-raw") if ".branch-raw" not in text else text
 
 

@@ -19,17 +19,17 @@ module _ (S F : NormalForm) (sheet : List ℕ) (n : ℕ) (figure : List ℕ) (m 
   fitting : (l : List ℕ) (i t : ℕ) → i < m → t < n → Fitting (atom_at F i) (atom_at S t) l → Fitting (laid_atom figure i) (laid_atom sheet t) l
   fitting l i t h u f = subst (λ (w : Atom). Fitting w (laid_atom sheet t) l) (sym (of.atoms i h)) (subst (λ (w : Atom). Fitting (atom_at F i) w l) (sym (os.atoms t u)) f)
 
-  given : (row k y : ℕ) → Given (laid_atom sheet) n row k y
-  given row k y =
-      let d = 𝓛.1 in
-      let u : 𝓛.0 < n = omega (arith, d.sheet-atom, os.count) in
-      let e = sym (os.atoms 𝓛.0 u) in
-      (𝓛.0, record { sheet-atom = u; may = d.may; place = subst (λ (w : Atom). k < w.count) e d.place; there = subst (λ (w : Atom). link_of w k ≡ y + 1) e d.there })
+  given : (row k y : ℕ) → Given (atom_at S) S.atom_count row k y → Given (laid_atom sheet) n row k y
+  given row k y g =
+      let d = g.1 in
+      let u : g.0 < n = omega (arith, d.sheet-atom, os.count) in
+      let e = sym (os.atoms g.0 u) in
+      (g.0, record { sheet-atom = u; may = d.may; place = subst (λ (w : Atom). k < w.count) e d.place; there = subst (λ (w : Atom). link_of w k ≡ y + 1) e d.there })
 
   given-row : (i : ℕ) (here : Atom) → i < m → here ≡ laid_atom figure i → (row z y : ℕ) → GivenRow (atom_at S) S.atom_count (atom_at F i) row z y → GivenRow (laid_atom sheet) n here row z y
   given-row i here h e row z y f k u q =
       let w = e ∙ of.atoms i h in
-      given row k y
+      given row k y (f k (subst (λ (b : Atom). k < b.count) w u) (subst (λ (b : Atom). link_of b k ≡ z + 1) w q))
 
 module _ (kin sheet : List ℕ) (n : ℕ) (figure : List ℕ) (m : ℕ) where
   -- atoms by their links

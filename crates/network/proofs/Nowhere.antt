@@ -20,6 +20,7 @@ use Rattle.network.specs.Begun.{Begins, Begun, test_after, bounds_after}
 
 within-drop : (pre m bs : List ℕ) → Within bs (pre ++ m) → Within (drop (length pre) bs) m
 within-drop [] m bs w = w
+within-drop (x ∷ pre) m [] w = elim w [ ]
 within-drop (x ∷ pre) m (b ∷ bs) (also h w) = within-drop pre m bs w
 
 drop-same : (b n k : ℕ) (bs : List ℕ) → k < n → drop k (replicate n b ++ bs) ≡ b ∷ drop (suc k) (replicate n b ++ bs)

@@ -74,10 +74,12 @@ module _ (test : List ℕ → Bool) (b : ℕ) (bs : List ℕ) where
   tried-hit v l h t a = record { within = also h a.within; passes = a.passes; none_before = go }
     where
       go : (m : List ℕ) → Within (b ∷ bs) m → Before m (v ∷ l) → test m ≡ false
+      go [] w d = elim w [ ]
       go (x ∷ m) (also c w) (here d) = t x m d w
       go (x ∷ m) (also c w) (later e d) = rw e (a.none_before m w d)
 
   pub tried-all : Tried test (suc b) bs → Answer test (b ∷ bs) none
+  tried-all t [] w = elim w [ ]
   tried-all t (x ∷ m) (also c w) = t x m (omega arith) w
 
   pub first_from-answer : (rest : ℕ → Option (List ℕ)) (n v : ℕ) → v + n ≡ suc b → Tried test v bs → ((x : ℕ) → x ≤ b → Answer (after x test) bs (rest x))
@@ -100,6 +102,7 @@ answer-nil test = go (test []) refl
       where
         nil : (m : List ℕ) → Within [] m → test m ≡ false
         nil [] nothing = e
+        nil (x ∷ m) w = elim w [ ]
 
 -- What first_list gives is the answer.
 pub first-answer : (test : List ℕ → Bool) (bs : List ℕ) → Answer test bs (first_list test bs)

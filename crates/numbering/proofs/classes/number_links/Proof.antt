@@ -14,76 +14,76 @@ use Rattle.numbering.proofs.Kept.{pass-count, pass-left, pass-stored}
 use Rattle.numbering.proofs.classes.number_links.Statement.{statement}
 use Rattle.numbering.proofs.classes.number_links.Tie as tie
 
-abbrev invariant-loop : tie.invariant-loop
+abbrev invariant-loop : tie.invariant-loop-k
 invariant-loop numbers₀ count₀ links classes n port-count hints ports numbered₀ k₀ numbers count numbered k = (k ≤ port-count) × (length ports ≡ most_links) × (length numbered ≡ most_links) × (count ≤ count₀ + k)
     × (with_classes (numbering numbers count) (map (label_in links classes n) (drop k (take port-count ports))) ≡ with_classes (numbering numbers₀ count₀) (link_labels (label_in links classes n) port-count ports))
     × ((later : List ℕ) → numbered ≡ links_by (with_classes (with_classes (numbering numbers₀ count₀) (link_labels (label_in links classes n) port-count ports)) later).numbers (label_in links classes n) k ports)
 
-abbrev decreases-loop : tie.decreases-loop
+abbrev decreases-loop : tie.decreases-loop-k
 decreases-loop numbers₀ count₀ links classes n port-count hints ports numbered₀ k₀ numbers count numbered k = port-count - k
 
-loop-holds : tie.Need-loop-init invariant-loop decreases-loop
+loop-holds : tie.Need-loop-k-init invariant-loop decreases-loop
 unfolding padded
 loop-holds c = (search rules, search rules, search rules, search rules, refl, λ later. refl)
 
-mul-label-of : tie.Need-overflow-mul-label-of invariant-loop decreases-loop
+mul-label-of : tie.Need-offset_bounds-ports-k invariant-loop decreases-loop
 mul-label-of c = search rules
 
-array-read-label-of : tie.Need-array-read-label-of invariant-loop decreases-loop
+array-read-label-of : tie.Need-bounds-ports-k invariant-loop decreases-loop
 array-read-label-of c = search rules
 
-label-of-requires : tie.Need-label-of-requires invariant-loop decreases-loop
+label-of-requires : tie.Need-label_of-label-requires invariant-loop decreases-loop
 label-of-requires c κs = search rules
 
-number-class-requires : tie.Need-number-class-requires invariant-loop decreases-loop
-number-class-requires c κs = let s = c.before.before.before.before.before.before.before in
+number-class-requires : tie.Need-number_class-requires invariant-loop decreases-loop
+number-class-requires c κs = let s = c in
     let a = s.args in
-    (omega (arith, c.before.before.label_of.ensures, s.requires.0.2 (index_of (get_or a.t6 c.before.before.before.before.loop.k 0) (take a.n a.links.now))), omega (arith, s.requires.2, s.requires.1))
+    (omega (arith, c.label_of-label.ensures, s.requires.0.2 (index_of (get_or a.ports c.loop-k.k 0) (take a.n a.links.now))), omega (arith, s.requires.2, s.requires.1))
 
-mul-numbered : tie.Need-overflow-mul-numbered invariant-loop decreases-loop
+mul-numbered : tie.Need-offset_bounds-numbered-k invariant-loop decreases-loop
 mul-numbered c = search rules
 
-array-write-numbered : tie.Need-array-write-numbered invariant-loop decreases-loop
+array-write-numbered : tie.Need-bounds-numbered-k invariant-loop decreases-loop
 array-write-numbered c = search rules
 
-add-k : tie.Need-overflow-add-k invariant-loop decreases-loop
+add-k : tie.Need-overflow_add-k invariant-loop decreases-loop
 add-k c = search rules
 
-loop-less : tie.Need-loop-smaller invariant-loop decreases-loop
+loop-less : tie.Need-loop-k-smaller invariant-loop decreases-loop
 loop-less c = search rules
 
-loop-again : tie.Need-loop-preserved invariant-loop decreases-loop
-loop-again c = let l = c.before.before.before.before.before in
-    let a = l.before.before.before.args in
+loop-again : tie.Need-loop-k-preserved invariant-loop decreases-loop
+loop-again c = let l = c in
+    let a = l.args in
     let f = label_in a.links.now a.classes.now a.n in
-    let v = l.loop in
-    let p = c.number-class in
+    let v = l.loop-k in
+    let p = c.number_class in
     let n = numbering v.numbers v.count in
-    let n' = numbering p.new.0 p.new.1.0 in
-    let all = with_classes (numbering a.numbers.now a.count.now) (link_labels f a.port-count a.t6) in
-    let g = c.before.before.before.label_of in
-    let fits : a.port-count ≤ length a.t6 = omega (arith, v.invariant.1, l.before.before.before.requires.1) in
-    let h : v.k < a.port-count = omega arith in (
+    let n' = numbering p.new.numbers p.new.count in
+    let all = with_classes (numbering a.numbers.now a.count.now) (link_labels f a.port_count a.ports) in
+    let g = c.label_of-label in
+    let fits : a.port_count ≤ length a.ports = omega (arith, v.invariant.1, l.requires.1) in
+    let h : v.k < a.port_count = omega arith in (
       search rules,
       v.invariant.1,
       simp length-set v.invariant.2,
-      omega (arith, v.invariant.3, pass-count f a.t6 a.port-count v.k fits h n n' all g.result p.result g.ensures p.ensures.0 v.invariant.4),
-      pass-left f a.t6 a.port-count v.k fits h n n' all g.result p.result g.ensures p.ensures.0 v.invariant.4,
-      λ later. pass-stored f a.t6 a.port-count v.k fits h n n' all g.result p.result g.ensures p.ensures.0 v.invariant.4 most_links later v.numbered p.ensures.1 (omega (arith, l.before.before.before.requires.1)) (v.invariant.5 later),
+      omega (arith, v.invariant.3, pass-count f a.ports a.port_count v.k fits h n n' all g.result p.result g.ensures p.ensures.0 v.invariant.4),
+      pass-left f a.ports a.port_count v.k fits h n n' all g.result p.result g.ensures p.ensures.0 v.invariant.4,
+      λ later. pass-stored f a.ports a.port_count v.k fits h n n' all g.result p.result g.ensures p.ensures.0 v.invariant.4 most_links later v.numbered p.ensures.1 (omega (arith, l.requires.1)) (v.invariant.5 later),
     )
 
 returns : tie.Need-returns invariant-loop decreases-loop
-returns c = let l = c.before in
-    let a = l.before.before.before.args in
-    let v = l.loop in
+returns c = let l = c in
+    let a = l.args in
+    let v = l.loop-k in
     let f = label_in a.links.now a.classes.now a.n in
-    let e : v.k ≡ a.port-count = omega arith in
-    let d : numbering v.numbers v.count ≡ with_classes (numbering a.numbers.now a.count.now) (link_labels f a.port-count a.t6)
-    = sym (classes-end f a.t6 a.port-count v.k (numbering v.numbers v.count) (omega arith)) ∙ v.invariant.4 in
+    let e : v.k ≡ a.port_count = omega arith in
+    let d : numbering v.numbers v.count ≡ with_classes (numbering a.numbers.now a.count.now) (link_labels f a.port_count a.ports)
+    = sym (classes-end f a.ports a.port_count v.k (numbering v.numbers v.count) (omega arith)) ∙ v.invariant.4 in
     (d, λ later. rw d (rw e at (v.invariant.5 later)))
 
-pub number-links-spec : {M : Type 1} → statement M
-number-links-spec =
+pub number_links_spec : {M : Type 1} → statement M
+number_links_spec =
     tie.close
     (tie.spec
     invariant-loop

@@ -6,32 +6,32 @@ use borrow.Author.Rules.{rules}
 use Rattle.numbering.proofs.labels.mark_label.Statement.{statement}
 use Rattle.numbering.proofs.labels.mark_label.Tie as tie
 
-index-of-requires : tie.Need-index-of-requires
+index-of-requires : tie.Need-index_of-p-requires
 index-of-requires c κs = search rules
 
-mul-i : tie.Need-overflow-mul-i
-mul-i c = let a = c.before.before.before.before.args in omega (arith, c.index_of.ensures, index_below a.m a.n a.marks.now)
+mul-i : tie.Need-offset_bounds-marked-p
+mul-i c = let a = c.args in omega (arith, c.index_of-p.ensures, index_below a.m a.n a.marks.now)
 
-shared-slice-read-i : tie.Need-shared-slice-read-i
-shared-slice-read-i c = let a = c.before.before.before.before.before.args in omega (arith, c.before.index_of.ensures, index_below a.m a.n a.marks.now)
+shared-slice-read-i : tie.Need-bounds-marked-p
+shared-slice-read-i c = let a = c.args in omega (arith, c.index_of-p.ensures, index_below a.m a.n a.marks.now)
 
-cast-i : tie.Need-overflow-cast-i
-cast-i c = let s = c.before.before.before.before.before in search (rules, s.requires.3 c.before.index_of.result)
+cast-i : tie.Need-overflow_cast-i
+cast-i c = let s = c in search (rules, s.requires.3 c.index_of-p.result)
 
-mul-result : tie.Need-overflow-mul-result
-mul-result c = let s = c.before.before.before.before.before in omega (arith, s.requires.3 c.before.index_of.result)
+mul-result : tie.Need-offset_bounds-classes-i
+mul-result c = let s = c in omega (arith, s.requires.3 c.index_of-p.result)
 
-shared-slice-read-result : tie.Need-shared-slice-read-result
-shared-slice-read-result c = let s = c.before.before.before.before.before.before in omega (arith, s.requires.3 c.before.before.index_of.result)
+shared-slice-read-result : tie.Need-bounds-classes-i
+shared-slice-read-result c = let s = c in omega (arith, s.requires.3 c.index_of-p.result)
 
-cast-result : tie.Need-overflow-cast-result
-cast-result c = let s = c.before.before.before.before.before.before in search (rules, s.requires.4 (get_or s.args.marked.now c.before.before.index_of.result 0))
+cast-result : tie.Need-overflow_cast-result
+cast-result c = let s = c in search (rules, s.requires.4 (get_or s.args.marked.now c.index_of-p.result 0))
 
 returns : tie.Need-returns
-returns c = rw c.before.before.index_of.ensures
+returns c = rw c.index_of-p.ensures
 
-pub mark-label-spec : {M : Type 1} → statement M
-mark-label-spec =
+pub mark_label_spec : {M : Type 1} → statement M
+mark_label_spec =
     tie.close
     (tie.spec
     index-of-requires

@@ -22,85 +22,85 @@ none = record { number = 0; count = 0; links = []; row = 0 }
 abbrev linked : Context → List ℕ → Context
 linked a w = record { number = a.number; count = a.count; links = w; row = a.row }
 
-abbrev invariant-loop : tie.invariant-loop
+abbrev invariant-loop : tie.invariant-loop-i
 invariant-loop numbers₀ count₀ links classes n context-count hints contexts₀ i₀ numbers count contexts i = (i ≤ context-count) × (length contexts₀ ≡ context_room) × (count ≤ count₀ + most_links * i)
     × (with_classes (numbering numbers count) (context_labels (label_in links classes n) (drop i (take context-count contexts₀))) ≡ with_classes (numbering numbers₀ count₀) (context_labels (label_in links classes n) (take context-count contexts₀)))
     × ((later : List ℕ) → contexts ≡ mapped (context_numbered (with_classes (with_classes (numbering numbers₀ count₀) (context_labels (label_in links classes n) (take context-count contexts₀))) later).numbers (label_in links classes n)) i contexts₀)
 
-abbrev decreases-loop : tie.decreases-loop
+abbrev decreases-loop : tie.decreases-loop-i
 decreases-loop numbers₀ count₀ links classes n context-count hints contexts₀ i₀ numbers count contexts i = context-count - i
 
-loop-holds : tie.Need-loop-init invariant-loop decreases-loop
+loop-holds : tie.Need-loop-i-init invariant-loop decreases-loop
 loop-holds c = (search rules, search (rules, unmapped), search rules, refl, λ later. refl)
 
-mul-context : tie.Need-overflow-mul-context invariant-loop decreases-loop
+mul-context : tie.Need-offset_bounds-contexts-i invariant-loop decreases-loop
 mul-context c = search rules
 
-array-copy-out-context : tie.Need-array-copy-out-context invariant-loop decreases-loop
+array-copy-out-context : tie.Need-bounds-contexts-i invariant-loop decreases-loop
 array-copy-out-context c = search rules
 
-cast-number-links : tie.Need-overflow-cast-number-links invariant-loop decreases-loop
+cast-number-links : tie.Need-overflow_cast-context invariant-loop decreases-loop
 cast-number-links c = search rules
 
-number-links-requires : tie.Need-number-links-requires invariant-loop decreases-loop
-number-links-requires c κs = let l = c.before.before.before.before.before.before in
-    let s = l.before.before.before in
+number-links-requires : tie.Need-number_links-port_numbers-requires invariant-loop decreases-loop
+number-links-requires c κs = let l = c in
+    let s = l in
     let a = s.args in
     let f = label_in a.links.now a.classes.now a.n in
-    let v = l.loop in
-    let all = with_classes (numbering a.numbers.now a.count.now) (context_labels f (take a.context-count a.t6)) in
-    let e = pass_same none (λ b. b.count) (λ b. b.links) linked f all a.t6 v.contexts v.i (omega (arith, v.invariant.1, s.requires.0.1)) v.invariant.4 in
+    let v = l.loop-i in
+    let all = with_classes (numbering a.numbers.now a.count.now) (context_labels f (take a.context_count a.contexts)) in
+    let e = pass_same none (λ b. b.count) (λ b. b.links) linked f all a.contexts v.contexts v.i (omega (arith, v.invariant.1, s.requires.0.1)) v.invariant.4 in
     let few : (get_or v.contexts v.i none).count ≤ most_links = rw e (s.requires.1 v.i) in
     (s.requires.0.0, few, omega (arith, v.invariant.2, s.requires.0.2))
 
-mul-contexts : tie.Need-overflow-mul-contexts invariant-loop decreases-loop
+mul-contexts : tie.Need-offset_bounds-contexts-i-in-loop-i invariant-loop decreases-loop
 mul-contexts c = search rules
 
-array-set-from-contexts : tie.Need-array-set-from-contexts invariant-loop decreases-loop
+array-set-from-contexts : tie.Need-bounds-contexts-i-in-loop-i invariant-loop decreases-loop
 array-set-from-contexts c = search rules
 
-add-i : tie.Need-overflow-add-i invariant-loop decreases-loop
+add-i : tie.Need-overflow_add-i invariant-loop decreases-loop
 add-i c = search rules
 
-loop-less : tie.Need-loop-smaller invariant-loop decreases-loop
+loop-less : tie.Need-loop-i-smaller invariant-loop decreases-loop
 loop-less c = search rules
 
-loop-again : tie.Need-loop-preserved invariant-loop decreases-loop
-loop-again c = let l = c.before.before.before.before.before.before.before in
-    let t = c.before.before.before.before.before.before.loop-test.true in
-    let s = l.before.before.before in
+loop-again : tie.Need-loop-i-preserved invariant-loop decreases-loop
+loop-again c = let l = c in
+    let t = c.loop-i-test.true in
+    let s = l in
     let a = s.args in
     let f = label_in a.links.now a.classes.now a.n in
-    let v = l.loop in
-    let p = c.number-links in
+    let v = l.loop-i in
+    let p = c.number_links-port_numbers in
     let n = numbering v.numbers v.count in
-    let n' = numbering p.new.0 p.new.1.0 in
-    let all = with_classes (numbering a.numbers.now a.count.now) (context_labels f (take a.context-count a.t6)) in
-    let rest = context_labels f (drop (v.i + 1) (take a.context-count a.t6)) in
-    let h : v.i < length a.t6 = omega (arith, v.invariant.1, s.requires.0.1) in
-    let b = get_or a.t6 v.i none in
-    let e = pass_same none (λ b. b.count) (λ b. b.links) linked f all a.t6 v.contexts v.i h v.invariant.4 in
+    let n' = numbering p.new.numbers p.new.count in
+    let all = with_classes (numbering a.numbers.now a.count.now) (context_labels f (take a.context_count a.contexts)) in
+    let rest = context_labels f (drop (v.i + 1) (take a.context_count a.contexts)) in
+    let h : v.i < length a.contexts = omega (arith, v.invariant.1, s.requires.0.1) in
+    let b = get_or a.contexts v.i none in
+    let e = pass_same none (λ b. b.count) (λ b. b.links) linked f all a.contexts v.contexts v.i h v.invariant.4 in
     let next : n' ≡ with_classes n (link_labels f b.count b.links) = rw e at p.ensures.0 in
-    let left : with_classes n' rest ≡ all = rw next (sym (contexts-next f a.t6 a.context-count v.i n none (omega (arith, v.invariant.1, s.requires.0.1)) (omega arith)) ∙ v.invariant.3) in (
+    let left : with_classes n' rest ≡ all = rw next (sym (contexts-next f a.contexts a.context_count v.i n none (omega (arith, v.invariant.1, s.requires.0.1)) (omega arith)) ∙ v.invariant.3) in (
       search rules,
       v.invariant.1,
       omega (arith, v.invariant.2, ap (λ m. m.count) next, with-links-count n f b.count b.links, s.requires.1 v.i),
       left,
-      pass-put none (λ b. b.count) (λ b. b.links) linked f all a.t6 v.contexts v.i h v.invariant.4 n' rest p.result left p.ensures.1,
+      pass-put none (λ b. b.count) (λ b. b.links) linked f all a.contexts v.contexts v.i h v.invariant.4 n' rest p.result left p.ensures.1,
     )
 
 returns : tie.Need-returns invariant-loop decreases-loop
-returns c = let l = c.before in
-    let a = l.before.before.before.args in
-    let v = l.loop in
+returns c = let l = c in
+    let a = l.args in
+    let v = l.loop-i in
     let f = label_in a.links.now a.classes.now a.n in
-    let e : v.i ≡ a.context-count = omega arith in
-    let d : numbering v.numbers v.count ≡ with_classes (numbering a.numbers.now a.count.now) (context_labels f (take a.context-count a.t6))
-    = sym (contexts-end f a.t6 a.context-count v.i (numbering v.numbers v.count) (omega arith)) ∙ v.invariant.3 in
+    let e : v.i ≡ a.context_count = omega arith in
+    let d : numbering v.numbers v.count ≡ with_classes (numbering a.numbers.now a.count.now) (context_labels f (take a.context_count a.contexts))
+    = sym (contexts-end f a.contexts a.context_count v.i (numbering v.numbers v.count) (omega arith)) ∙ v.invariant.3 in
     (d, (omega (arith, v.invariant.2), λ later. rw d (rw e at (v.invariant.4 later))))
 
-pub numbered-contexts-spec : {M : Type 1} → statement M
-numbered-contexts-spec =
+pub numbered_contexts_spec : {M : Type 1} → statement M
+numbered_contexts_spec =
     tie.close
     (tie.spec
     invariant-loop

@@ -8,31 +8,31 @@ use Rattle.sheet.proofs.read.Judged.{next-made}
 use Rattle.sheet.proofs.judge.next_row.Statement.{statement}
 use Rattle.sheet.proofs.judge.next_row.Tie as tie
 
-mul-is-ragged : tie.Need-overflow-mul-is-ragged
+mul-is-ragged : tie.Need-overflow_mul-k
 mul-is-ragged c = search rules
 
-is-ragged-requires : tie.Need-is-ragged-requires
+is-ragged-requires : tie.Need-is_ragged-cut-requires
 is-ragged-requires c κs = search rules
 
-mul-row-at : tie.Need-overflow-mul-row-at
+mul-row-at : tie.Need-overflow_mul-k-2
 mul-row-at c = search rules
 
-row-at-requires : tie.Need-row-at-requires
-row-at-requires c κs = let s = c.before.before in
-    λ e. whole-fits s.args.text.now (s.args.k * row_width) s.requires.1 (sym c.is-ragged.ensures ∙ e)
+row-at-requires : tie.Need-row_at-row-requires
+row-at-requires c κs = let s = c in
+    λ e. whole-fits s.args.text.now (s.args.k * row_width) s.requires.1 (sym c.is_ragged-cut.ensures ∙ e)
 
-early-answer-requires : tie.Need-early-answer-requires
+early-answer-requires : tie.Need-early_answer-answer-requires
 early-answer-requires c κs = search rules
 
 returns : tie.Need-returns
-returns c = let a = c.before.before.before.before.args in
-    let x = c.early-answer in
-    let r = c.before.row_at in
-    let g = c.before.before.is-ragged in
+returns c = let a = c.args in
+    let x = c.early_answer-answer in
+    let r = c.row_at-row in
+    let g = c.is_ragged-cut in
     next-made a.kind a.heads a.k (drop (a.k * row_width) a.text.now) g.result r.result x.result g.ensures r.ensures x.ensures
 
-pub next-row-spec : {M : Type 1} → statement M
-next-row-spec =
+pub next_row_spec : {M : Type 1} → statement M
+next_row_spec =
     tie.close
     (tie.spec
     mul-is-ragged

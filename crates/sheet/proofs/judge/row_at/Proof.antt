@@ -12,30 +12,30 @@ use Rattle.sheet.proofs.judge.row_at.Tie as tie
 none-requires : tie.Need-none-requires
 none-requires c κs = search rules
 
-returns : tie.Need-returns
-returns c = rw c.before.if1.true c.none.ensures
+returns : tie.Need-returns-then-cut
+returns c = rw c.if-cut.true c.none.ensures
 
-add-read-row : tie.Need-overflow-add-read-row
-add-read-row c = let s = c.before.before in omega (arith, s.requires c.if1.false)
+add-read-row : tie.Need-overflow_add-at
+add-read-row c = let s = c in omega (arith, s.requires c.if-cut.false)
 
-sub-read-row : tie.Need-overflow-sub-read-row
+sub-read-row : tie.Need-slice_bounds-read_row-count
 sub-read-row c = search rules
 
-part-read-row-start : tie.Need-slice-bounds-read-row-start
+part-read-row-start : tie.Need-slice_bounds-read_row-start
 part-read-row-start c = search rules
 
-part-read-row-end : tie.Need-slice-bounds-read-row-end
-part-read-row-end c = let s = c.before.before in omega (arith, s.requires c.if1.false)
+part-read-row-end : tie.Need-slice_bounds-read_row-end
+part-read-row-end c = let s = c in omega (arith, s.requires c.if-cut.false)
 
-read-row-requires : tie.Need-read-row-requires
+read-row-requires : tie.Need-read_row-requires
 read-row-requires c κs = search rules
 
-returns-2 : tie.Need-returns-2
-returns-2 c = let a = c.before.before.before.before.args in
-    rw c.before.before.if1.false (c.read-row.ensures ∙ ap (λ (n : ℕ). row_of (take n (drop a.at a.text.now))) (add-sub_cancel_left a.at row_width))
+returns-2 : tie.Need-returns
+returns-2 c = let a = c.args in
+    rw c.if-cut.false (c.read_row.ensures ∙ ap (λ (n : ℕ). row_of (take n (drop a.at a.text.now))) (add-sub_cancel_left a.at row_width))
 
-pub row-at-spec : {M : Type 1} → statement M
-row-at-spec =
+pub row_at_spec : {M : Type 1} → statement M
+row_at_spec =
     tie.close
     (tie.spec
     none-requires

@@ -10,69 +10,66 @@ use Rattle.sheet.proofs.part.HeadRows.{Inside, from_first, heads_from, head_at, 
 use Rattle.sheet.proofs.part.head_at.Statement.{statement}
 use Rattle.sheet.proofs.part.head_at.Tie as tie
 
-abbrev invariant-loop : tie.invariant-loop
+abbrev invariant-loop : tie.invariant-loop-i
 invariant-loop list count number heads i₀ i = (i ≤ count) × (from_head (length list) number list ≡ from_first (heads_from list i) number list (drop (length list) list))
 
-abbrev decreases-loop : tie.decreases-loop
+abbrev decreases-loop : tie.decreases-loop-i
 decreases-loop list count number heads i₀ i = count - i
 
 few : (s : tie.Start invariant-loop decreases-loop) → s.args.count ≤ figure_contexts
-few s = heads-few s.args.list.now s.args.t2 s.args.count s.requires
+few s = heads-few s.args.list.now s.args.heads s.args.count s.requires
 
-inside : (c : tie.In-loop invariant-loop decreases-loop) → Inside c.before.before.args.list.now (head_at c.before.before.args.t2 c.before.loop.i)
-inside c = let s = c.before.before in
-    search-inside s.args.list.now s.args.t2 s.args.count s.requires s.args.number c.before.loop.i c.loop-test.true
+inside : (c : tie.In-loop-i invariant-loop decreases-loop) → Inside c.args.list.now (head_at c.args.heads c.loop-i.i)
+inside c = let s = c in
+    search-inside s.args.list.now s.args.heads s.args.count s.requires s.args.number c.loop-i.i c.loop-i-test.true
 
-loop-holds : tie.Need-loop-init invariant-loop decreases-loop
-loop-holds c = (omega arith, search-start c.args.list.now c.args.t2 c.args.count c.requires c.args.number)
+loop-holds : tie.Need-loop-i-init invariant-loop decreases-loop
+loop-holds c = (omega arith, search-start c.args.list.now c.args.heads c.args.count c.requires c.args.number)
 
-mul-if1 : tie.Need-overflow-mul-if1 invariant-loop decreases-loop
+mul-if1 : tie.Need-offset_bounds-heads-i invariant-loop decreases-loop
 mul-if1 c = omega (arith, few c.before.before)
 
-element-copy-out-if1 : tie.Need-element-copy-out-if1 invariant-loop decreases-loop
+element-copy-out-if1 : tie.Need-bounds-heads-i invariant-loop decreases-loop
 element-copy-out-if1 c = omega (arith, few c.before.before)
 
-mul-result : tie.Need-overflow-mul-result invariant-loop decreases-loop
+mul-result : tie.Need-offset_bounds-heads-i-then-heads-i invariant-loop decreases-loop
 mul-result c = omega (arith, few c.before.before.before)
 
-element-copy-out-result : tie.Need-element-copy-out-result invariant-loop decreases-loop
+element-copy-out-result : tie.Need-bounds-heads-i-then-heads-i invariant-loop decreases-loop
 element-copy-out-result c = omega (arith, few c.before.before.before)
 
-cast-result : tie.Need-overflow-cast-result invariant-loop decreases-loop
-cast-result c = omega (arith, inside c.before)
+sub-result : tie.Need-overflow_sub-result invariant-loop decreases-loop
+sub-result c = (inside c.before.before).0
 
-sub-result : tie.Need-overflow-sub-result invariant-loop decreases-loop
-sub-result c = (inside c.before).0
+mul-result-2 : tie.Need-overflow_mul-result invariant-loop decreases-loop
+mul-result-2 c = omega (arith, inside c.before.before)
 
-mul-result-2 : tie.Need-overflow-mul-result-2 invariant-loop decreases-loop
-mul-result-2 c = omega (arith, inside c.before)
-
-returns : tie.Need-returns invariant-loop decreases-loop
-returns c = let l = c.before.before in
-    let s = l.before in
+returns : tie.Need-returns-then-heads-i invariant-loop decreases-loop
+returns c = let l = c in
+    let s = l in
     let a = s.args in
-    (omega (arith, inside c.before), sym (l.loop.invariant.1 ∙ search-hit a.list.now a.t2 a.count s.requires a.number l.loop.i c.before.loop-test.true c.if1.true _))
+    (omega (arith, inside c.before.before), sym (l.loop-i.invariant.1 ∙ search-hit a.list.now a.heads a.count s.requires a.number l.loop-i.i c.loop-i-test.true c.if-heads-i.true _))
 
-add-i : tie.Need-overflow-add-i invariant-loop decreases-loop
+add-i : tie.Need-overflow_add-i invariant-loop decreases-loop
 add-i c = search rules
 
-loop-less : tie.Need-loop-smaller invariant-loop decreases-loop
+loop-less : tie.Need-loop-i-smaller invariant-loop decreases-loop
 loop-less c = search rules
 
-loop-again : tie.Need-loop-preserved invariant-loop decreases-loop
-loop-again c = let l = c.before.before in
-    let s = l.before in
+loop-again : tie.Need-loop-i-preserved invariant-loop decreases-loop
+loop-again c = let l = c in
+    let s = l in
     let a = s.args in
-    (omega arith, l.loop.invariant.1 ∙ search-miss a.list.now a.t2 a.count s.requires a.number l.loop.i c.before.loop-test.true c.if1.false _)
+    (omega arith, l.loop-i.invariant.1 ∙ search-miss a.list.now a.heads a.count s.requires a.number l.loop-i.i c.loop-i-test.true c.if-heads-i.false _)
 
-returns-2 : tie.Need-returns-2 invariant-loop decreases-loop
-returns-2 c = let l = c.before in
-    let s = l.before in
+returns-2 : tie.Need-returns invariant-loop decreases-loop
+returns-2 c = let l = c in
+    let s = l in
     let a = s.args in
-    (omega arith, sym (l.loop.invariant.1 ∙ search-end a.list.now a.t2 a.count s.requires a.number l.loop.i c.loop-test.false))
+    (omega arith, sym (l.loop-i.invariant.1 ∙ search-end a.list.now a.heads a.count s.requires a.number l.loop-i.i c.loop-i-test.false))
 
-pub head-at-spec : {M : Type 1} → statement M
-head-at-spec =
+pub head_at_spec : {M : Type 1} → statement M
+head_at_spec =
     tie.close
     (tie.spec
     invariant-loop
@@ -82,7 +79,7 @@ head-at-spec =
     element-copy-out-if1
     mul-result
     element-copy-out-result
-    cast-result
+    
     sub-result
     mul-result-2
     returns

@@ -10,48 +10,48 @@ use Rattle.sheet.proofs.part.FillingLaws.{before-short, before-row, Parted, part
 use Rattle.sheet.proofs.part.rows_end.Statement.{statement}
 use Rattle.sheet.proofs.part.rows_end.Tie as tie
 
-abbrev invariant-loop : tie.invariant-loop
+abbrev invariant-loop : tie.invariant-loop-at
 invariant-loop list from at₀ at = Parted list from at
 
-abbrev decreases-loop : tie.decreases-loop
+abbrev decreases-loop : tie.decreases-loop-at
 decreases-loop list from at₀ at = length list - at
 
-loop-holds : tie.Need-loop-init invariant-loop decreases-loop
+loop-holds : tie.Need-loop-at-init invariant-loop decreases-loop
 loop-holds c = parted-start c.args.list.now c.args.from c.requires
 
-sub-if1 : tie.Need-overflow-sub-if1 invariant-loop decreases-loop
+sub-if1 : tie.Need-overflow_sub-list invariant-loop decreases-loop
 sub-if1 c = search rules
 
-returns : tie.Need-returns invariant-loop decreases-loop
-returns c = let l = c.before.before in
-    let s = l.before.args.list.now in
-    parted-end s l.before.args.from l.loop.at l.loop.invariant (before-short s l.loop.at c.if1.true)
+returns : tie.Need-returns-then-list-at-lt-ROW invariant-loop decreases-loop
+returns c = let l = c in
+    let s = l.args.list.now in
+    parted-end s l.args.from l.loop-at.at l.loop-at.invariant (before-short s l.loop-at.at c.if-list-at-lt-ROW.true)
 
-shared-slice-read-if2 : tie.Need-shared-slice-read-if2 invariant-loop decreases-loop
+shared-slice-read-if2 : tie.Need-bounds-list-at invariant-loop decreases-loop
 shared-slice-read-if2 c = search rules
 
-returns-2 : tie.Need-returns-2 invariant-loop decreases-loop
-returns-2 c = let l = c.before.before.before.before in
-    let s = l.before.args.list.now in
-    parted-end s l.before.args.from l.loop.at l.loop.invariant (before-row s l.loop.at (omega arith) true (eq-eqb _ _ c.if2.true))
+returns-2 : tie.Need-returns-then-list-at-eq-HEAD_BYTE invariant-loop decreases-loop
+returns-2 c = let l = c in
+    let s = l.args.list.now in
+    parted-end s l.args.from l.loop-at.at l.loop-at.invariant (before-row s l.loop-at.at (omega arith) true (eq-eqb _ _ c.if-list-at-eq-HEAD_BYTE.true))
 
-add_at : tie.Need-overflow-add-at invariant-loop decreases-loop
+add_at : tie.Need-overflow_add-at invariant-loop decreases-loop
 add_at c = search rules
 
-loop-less : tie.Need-loop-smaller invariant-loop decreases-loop
+loop-less : tie.Need-loop-at-smaller invariant-loop decreases-loop
 loop-less c = search rules
 
-loop-again : tie.Need-loop-preserved invariant-loop decreases-loop
-loop-again c = let l = c.before.before.before.before in
-    parted-row l.before.args.list.now l.before.args.from l.loop.at l.loop.invariant (omega arith) c.if2.false
+loop-again : tie.Need-loop-at-preserved invariant-loop decreases-loop
+loop-again c = let l = c in
+    parted-row l.args.list.now l.args.from l.loop-at.at l.loop-at.invariant (omega arith) c.if-list-at-eq-HEAD_BYTE.false
 
-returns-3 : tie.Need-returns-3 invariant-loop decreases-loop
-returns-3 c = let l = c.before in
-    let s = l.before.args.list.now in
-    parted-end s l.before.args.from l.loop.at l.loop.invariant (before-short s l.loop.at (omega arith))
+returns-3 : tie.Need-returns invariant-loop decreases-loop
+returns-3 c = let l = c in
+    let s = l.args.list.now in
+    parted-end s l.args.from l.loop-at.at l.loop-at.invariant (before-short s l.loop-at.at (omega arith))
 
-pub rows-end-spec : {M : Type 1} → statement M
-rows-end-spec =
+pub rows_end_spec : {M : Type 1} → statement M
+rows_end_spec =
     tie.close
     (tie.spec
     invariant-loop
