@@ -76,6 +76,9 @@ class Names:
         return self.places.get(norm(name))
 
 
+# Fields that the port script left where it could not tell whose they are.
+OLDER = {"inv": "invariant", "taken": "true", "left": "false", "kept": "auto", "last": "new", "pre": "requires", "came": "branch", "good": "ensures", "gave": "result"}
+
 RUST = set()
 for _path in glob.glob("crates/*/src/**/*.rt", recursive=True):
     with open(_path) as _f:
@@ -95,9 +98,9 @@ def place_variables(text):
             found.update(n.group(1).split())
     ways = {m.group(1) for m in re.finditer(r"(?m)^\s*(?:abbrev |pub )*(" + WORD + r") : [^\n]*→ tie\.", text)}
     for _ in range(4):
-        for m in re.finditer(r"let (" + WORD + r") = (" + WORD + r")((?:\.before)+| (?:" + WORD + r")(?:\.before)*)? in", text):
+        for m in re.finditer(r"let (" + WORD + r") = (" + WORD + r")((?:\.before)*| [^\n=]*?)? in\b", text):
             head, rest = m.group(2), m.group(3) or ""
-            if (head in found and not rest.startswith(" ")) or (head in ways and rest.startswith(" ")):
+            if (head in found and not rest.startswith(" ")) or (head in ways and rest.startswith(" ") and not re.search(r"\)\.(?!before\b)", rest)):
                 found.add(m.group(1))
     return found
 
@@ -164,7 +167,9 @@ def by_parameter(text, names):
     text = re.sub(r"(?P<head>\.(?P<step>[^\s().,]+))" + tail, lambda m: name(m, m.group("step")), text)
     parts = re.split(r"(?m)^(?=\S)", text)
     for k, part in enumerate(parts):
-        for m in re.finditer(r"let (" + WORD + r") = " + WORD + r"\.(" + WORD + r") in", part):
+        for m in re.finditer(r"let (" + WORD + r") = [^\n=]*?\.(" + WORD + r") in", part):
+            if m.group(2) in names.steps.values():
+                part = re.sub(r"(?<![\w.])(" + re.escape(m.group(1)) + r")\.(inv|taken|kept|last)(?![\w'-])", lambda n: n.group(1) + "." + OLDER[n.group(2)], part)
             if m.group(2) in names.calls:
                 part = re.sub(r"(?P<head>(?<![\w.])" + re.escape(m.group(1)) + r")" + tail, lambda n, s=m.group(2): name(n, s), part)
         parts[k] = part
@@ -195,15 +200,27 @@ def turn(text, names, missing):
         form = "".join("[-_]" if ch == "-" else re.escape(ch) for ch in old)
         text = re.sub(r"\." + form + r"(?![\w'-])", lambda m, new=new: new, text, flags=re.I)
 
+    ways = {name for name, (_, gives) in helpers(text).items() if gives}
+
     def step(m):
         head, ups, name, field = m.group(1), m.group(2), m.group(3), m.group(4)
-        if not ups and head not in variables and head != ")":
+        if head == ")":
+            depth, at = 0, m.start()
+            while at >= 0:
+                depth += (m.string[at] == ")") - (m.string[at] == "(")
+                if depth == 0:
+                    break
+                at -= 1
+            if m.string[at + 1:m.start()].split(" ")[0] not in ways:
+                return m.group(0)
+        elif not ups and head not in variables:
             return m.group(0)
         old = norm(name)
         if old not in names.steps:
             return m.group(0)
         fields = names.fields.get(old, {})
         if field:
+            field = "." + OLDER.get(field[1:], field[1:])
             field = "." + fields.get(norm(field[1:]), field[1:])
         return head + ups + "." + names.steps[old] + (field or "")
 
