@@ -36,7 +36,13 @@ class Names:
         # The place of each goal, and how many places lie between one and another above it.
         self.at = {need[1]: at[1] for need, at in zip(entry["needs"], entry["asked_at"])}
         by_old = dict(zip((p[0] for p in entry["places"]), entry["places_by_name"]))
-        self.above = {by_old[p[0]]: by_old.get(p[1]) for p in entry["places"]}
+        parents = {p[0]: p[1] for p in entry["places"]}
+        self.above = {}
+        for place, arm in zip(entry["places"], entry["arms"] + [None] * len(entry["places"])):
+            up = place[0]
+            for _ in range(arm[1] if arm else 1):
+                up = parents.get(up)
+            self.above[by_old[place[0]]] = by_old.get(up)
         self.settled = {norm(n) for n in entry["settled"]}
         # What a call wrote or kept, by the names of the callee's parameters.
         self.calls = {p[2][1]: entry["params"].get(p[3], []) for p in entry["places"] if p[3]}
@@ -190,6 +196,13 @@ def turn(text, names, missing):
         return (f"{m.group(1)} : " if m.group(1) else "") + "tie." + new
 
     gone = []
+    # What a step gave, under a name of its own: its parts have names now.
+    for m in list(re.finditer(r"let (" + WORD + r") = (" + WORD + r"[^\s()]*\.given) in\s*", text)):
+        end = re.search(r"\n(?=\S)", text[text.index(m.group(0)) + len(m.group(0)):])
+        at = text.index(m.group(0))
+        stop = at + len(m.group(0)) + (end.start() if end else len(text))
+        body = re.sub(r"(?<![\w.'])" + re.escape(m.group(1)) + r"(?=\.)", m.group(2), text[at + len(m.group(0)):stop])
+        text = text[:at] + body + text[stop:]
     variables = place_variables(text)
     text = re.sub(r"(?<![\w.])(?:(" + WORD + r") : )?tie\.(" + WORD + r")", tie, text)
     for name in gone:
