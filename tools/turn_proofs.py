@@ -90,19 +90,24 @@ for _path in glob.glob("crates/*/src/**/*.rt", recursive=True):
     with open(_path) as _f:
         RUST.update(re.findall(r"[a-z]\w*", _f.read()))
 
+# Fields of records of our own with a dash in their names.
+FIELDS = set()
+for _path in glob.glob("crates/*/specs/**/*.antt", recursive=True) + glob.glob("crates/*/proofs/**/*.antt", recursive=True):
+    with open(_path) as _f:
+        FIELDS.update(re.findall(r"(?m)^\s+(?:pub )?([a-z]\w*(?:-\w+)+) :", _f.read()))
+
 WORD = r"[^\s(){}\[\],;.@\"λ:=]+"
 
 
-def place_variables(text):
-    """The variables that stand for a place: an answer's own, a helper's argument of such a type, and what is let to be a way up from one."""
-    found = {"c", "l"}
+def place_variables(text, known):
+    """The variables of a declaration that stand for a place: its own, and what is let to be a way up from one."""
+    found = {"c"}
     for m in re.finditer(r"\((" + WORD + r"(?: " + WORD + r")*) : tie\.", text):
         found.update(m.group(1).split())
-    for m in re.finditer(r"(?m)^\s*(?:abbrev |pub |unfoldable )*(" + WORD + r") : tie\.(?!Need-|invariant-|decreases-)", text):
-        name = re.escape(m.group(1))
-        for n in re.finditer(r"(?m)^\s*" + name + r"((?: " + WORD + r")+) =", text):
+    for name in known:
+        for n in re.finditer(r"(?m)^\s*" + re.escape(name) + r"((?: " + WORD + r")+) =", text):
             found.update(n.group(1).split())
-    ways = {m.group(1) for m in re.finditer(r"(?m)^\s*(?:abbrev |pub )*(" + WORD + r") : [^\n]*→ tie\.", text)}
+    ways = {name for name, (_, gives) in known.items() if gives}
     for _ in range(4):
         for m in re.finditer(r"let (" + WORD + r") = (" + WORD + r")((?:\.before)*| [^\n=]*?)? in\b", text):
             head, rest = m.group(2), m.group(3) or ""
@@ -203,7 +208,6 @@ def turn(text, names, missing):
         stop = at + len(m.group(0)) + (end.start() if end else len(text))
         body = re.sub(r"(?<![\w.'])" + re.escape(m.group(1)) + r"(?=\.)", m.group(2), text[at + len(m.group(0)):stop])
         text = text[:at] + body + text[stop:]
-    variables = place_variables(text)
     text = re.sub(r"(?<![\w.])(?:(" + WORD + r") : )?tie\.(" + WORD + r")", tie, text)
     for name in gone:
         # A goal that is settled now: its answer goes.
@@ -213,9 +217,10 @@ def turn(text, names, missing):
         form = "".join("[-_]" if ch == "-" else re.escape(ch) for ch in old)
         text = re.sub(r"\." + form + r"(?![\w'-])", lambda m, new=new: new, text, flags=re.I)
 
-    ways = {name for name, (_, gives) in helpers(text).items() if gives}
+    known = helpers(text)
+    ways = {name for name, (_, gives) in known.items() if gives}
 
-    def step(m):
+    def step(m, variables):
         head, ups, name, field = m.group(1), m.group(2), m.group(3), m.group(4)
         if head == ")":
             depth, at = 0, m.start()
@@ -237,12 +242,22 @@ def turn(text, names, missing):
             field = "." + fields.get(norm(field[1:]), field[1:])
         return head + ups + "." + names.steps[old] + (field or "")
 
-    text = re.sub(r"(" + WORD + r"|\))((?:\.before)*)\.(" + WORD + r")(\." + WORD + r")?", step, text)
+    parts = re.split(r"(?m)^(?=(?:abbrev |pub |unfoldable )*\S+ :)", text)
+    for k, part in enumerate(parts):
+        variables = place_variables(part, known)
+        parts[k] = re.sub(r"(" + WORD + r"|\))((?:\.before)*)\.(" + WORD + r")(\." + WORD + r")?", lambda m, v=variables: step(m, v), part)
+    text = "".join(parts).replace(".type-inv", ".type_inv")
     text = by_parameter(flat(text, names), names)
     for old in sorted(names.texts, key=len, reverse=True):
         text = re.sub(re.escape(old) + r"(?![\w'-])", lambda m: names.texts[old], text)
     # Names from .rt code, in which a dash came to stand.
-    text = re.sub(r"(?<=\.)([a-z]\w*(?:-\w+)+)(?![\w'-])", lambda m: m.group(1).replace("-", "_") if m.group(1).replace("-", "_") in RUST and m.group(1) not in names.steps.values() else m.group(1), text)
+    def from_code(m):
+        name = m.group(2).replace("-", "_")
+        if name not in RUST or m.group(2) in names.steps.values() or (m.group(2) in FIELDS and m.group(1) != "args."):
+            return m.group(0)
+        return m.group(1) + name
+
+    text = re.sub(r"((?:args)?\.)([a-z]\w*(?:-\w+)+)(?![\w'-])", from_code, text)
     return text.replace(".branch", ".branch-raw") if ".branch-raw" not in text else text
 
 
