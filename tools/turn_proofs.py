@@ -178,9 +178,13 @@ def by_parameter(text, names):
     text = re.sub(r"(?P<head>\.(?P<step>[^\s().,]+))" + tail, lambda m: name(m, m.group("step")), text)
     parts = re.split(r"(?m)^(?=\S)", text)
     for k, part in enumerate(parts):
-        for m in re.finditer(r"let (" + WORD + r") = [^\n=]*?\.(" + WORD + r") in", part):
+        for m in re.finditer(r"let (" + WORD + r") = [^\n=]*?\.(" + WORD + r")(?:\.(?:new|last))? in", part):
             if m.group(2) in names.steps.values():
                 part = re.sub(r"(?<![\w.])(" + re.escape(m.group(1)) + r")\.(inv|taken|kept|last)(?![\w'-])", lambda n: n.group(1) + "." + OLDER[n.group(2)], part)
+            for n in re.finditer(r"let (" + WORD + r") = [^\n=]*?\.(" + WORD + r")\.(?:new|last) in", part):
+                given = names.calls.get(n.group(2))
+                if given:
+                    part = re.sub(r"(?<![\w.])" + re.escape(n.group(1)) + r"((?:\.1)*)\.0(?!\d)", lambda o, g=given, n=n: n.group(1) + "." + g[len(o.group(1)) // 2] if len(o.group(1)) // 2 < len(g) else o.group(0), part)
             if m.group(2) in names.calls:
                 part = re.sub(r"(?P<head>(?<![\w.])" + re.escape(m.group(1)) + r")" + tail, lambda n, s=m.group(2): name(n, s), part)
         parts[k] = part
@@ -234,11 +238,14 @@ def turn(text, names, missing):
         elif not ups and head not in variables:
             return m.group(0)
         old = norm(name)
+        if old not in names.steps and old.endswith("-lem"):
+            old = old[:-4]
         if old not in names.steps:
             return m.group(0)
         fields = names.fields.get(old, {})
         if field:
-            field = "." + OLDER.get(field[1:], field[1:])
+            if not (names.steps[old].startswith("loop-") and not names.steps[old].endswith("-test") and field != ".inv"):
+                field = "." + OLDER.get(field[1:], field[1:])
             field = "." + fields.get(norm(field[1:]), field[1:])
         return head + ups + "." + names.steps[old] + (field or "")
 
@@ -246,7 +253,7 @@ def turn(text, names, missing):
     for k, part in enumerate(parts):
         variables = place_variables(part, known)
         parts[k] = re.sub(r"(" + WORD + r"|\))((?:\.before)*)\.(" + WORD + r")(\." + WORD + r")?", lambda m, v=variables: step(m, v), part)
-    text = "".join(parts).replace(".type-inv", ".type_inv")
+    text = re.sub(r"\.pre(?![\w'-])", ".requires", "".join(parts).replace(".type-inv", ".type_inv"))
     text = by_parameter(flat(text, names), names)
     for old in sorted(names.texts, key=len, reverse=True):
         text = re.sub(re.escape(old) + r"(?![\w'-])", lambda m: names.texts[old], text)
