@@ -91,9 +91,9 @@ module _ (t : ℕ) where
   completable-returns : completable-lts.Need-returns (completable-claims t) (completable-at t) completable.Post completable-Inv-loop completable-μ-loop
   completable-returns c = let b = c.before.before.before in
       let a = b.args in
-      let o = c.before.before.obstacle in
+      let o = c.obstacle-fault in
       λ sheet figure u. let n = u.over.nets-in in
-      found_none sheet figure n.ready a.taken.now a.to.now a.flags.now b.requires.1.1 a.bars.now o.result (o.ensures sheet figure u.over u.standing-in) (not-true _ c.if1.true)
+      found_none sheet figure n.ready a.taken.now a.to.now a.flags.now b.requires.1.1 a.bars.now o.result (o.ensures sheet figure u.over u.standing-in) (not-true _ c.if-not-fault.true)
 
   completable-loop-holds : completable-lts.Need-loop-init (completable-claims t) (completable-at t) completable.Post completable-Inv-loop completable-μ-loop
   completable-loop-holds c = let b = c.before.before.before.before.before in
@@ -103,55 +103,55 @@ module _ (t : ℕ) where
   completable-element-copy-out-if3 : completable-lts.Need-element-copy-out-if3 (completable-claims t) (completable-at t) completable.Post completable-Inv-loop completable-μ-loop
   completable-element-copy-out-if3 c = let b = c.before.before.before.before.before.before.before.before in
       let a = b.args in
-      omega (arith, c.if2.true, (ports-of b.requires.1.0.2.over.nets-in.contexts-in).links-few)
+      omega (arith, c.loop-x-test.true, (ports-of b.requires.1.0.2.over.nets-in.contexts-in).links-few)
 
   completable-mendable-requires : completable-lts.Need-mendable-requires (completable-claims t) (completable-at t) completable.Post completable-Inv-loop completable-μ-loop
   completable-mendable-requires c κs = let b = c.before.before.before.before.before.before.before.before.before.before.before.before in
-      (omega (arith, b.requires.0), (b.requires.1.0, b.requires.1.1, c.before.before.before.before.if2.true, c.before.before.if3.true))
+      (omega (arith, b.requires.0), (b.requires.1.0, b.requires.1.1, c.loop-x-test.true, c.if-flags-x-eq1.true))
 
   completable-returns-2 : completable-lts.Need-returns-2 (completable-claims t) (completable-at t) completable.Post completable-Inv-loop completable-μ-loop
   completable-returns-2 c = let b = c.before.before.before.before.before.before.before.before.before.before.before.before.before.before in
       let a = b.args in
-      let o = c.before.before.before.before.before.before.before.before.before.before.before.before.before.obstacle in
-      let l = c.before.before.before.before.before.before.before.before.loop in
-      let m = c.before.mendable in
+      let o = c.obstacle-fault in
+      let l = c.loop-x in
+      let m = c.mendable in
       λ sheet figure u. let n = u.over.nets-in in
-      found-tried sheet figure n.ready a.taken.now a.to.now a.flags.now b.requires.1.1 a.bars.now o.result (o.ensures sheet figure u.over u.standing-in) l.known l.x (omega (arith, c.before.before.before.before.before.before.if2.true, n.contexts-in.link-count)) c.before.before.before.before.if3.true
-      (subst (Mends sheet figure a.taken.now a.to.now a.flags.now l.known o.result.links l.x) c.if4.true (m.ensures sheet figure u).0)
+      found-tried sheet figure n.ready a.taken.now a.to.now a.flags.now b.requires.1.1 a.bars.now o.result (o.ensures sheet figure u.over u.standing-in) l.known l.x (omega (arith, c.loop-x-test.true, n.contexts-in.link-count)) c.if-flags-x-eq1.true
+      (subst (Mends sheet figure a.taken.now a.to.now a.flags.now l.known o.result.links l.x) c.if-mendable.true (m.ensures sheet figure u).0)
 
   completable-add-x : completable-lts.Need-overflow-add-x (completable-claims t) (completable-at t) completable.Post completable-Inv-loop completable-μ-loop
   completable-add-x c = let b = c.before.before.before.before.before.before.before.before.before.before in
       let a = b.args in
-      omega (arith, c.before.before.if2.true, (ports-of b.requires.1.0.2.over.nets-in.contexts-in).links-few)
+      omega (arith, c.loop-x-test.true, (ports-of b.requires.1.0.2.over.nets-in.contexts-in).links-few)
 
   completable-loop-less : completable-lts.Need-loop-smaller (completable-claims t) (completable-at t) completable.Post completable-Inv-loop completable-μ-loop
-  completable-loop-less c = omega (arith, c.before.before.if2.true)
+  completable-loop-less c = omega (arith, c.loop-x-test.true)
 
   completable-loop-again : completable-lts.Need-loop-preserved (completable-claims t) (completable-at t) completable.Post completable-Inv-loop completable-μ-loop
   completable-loop-again c = let b = c.before.before.before.before.before.before.before.before.before.before in
       let a = b.args in
-      let o = c.before.before.before.before.before.before.before.before.before.obstacle in
-      let l = c.before.before.before.before.loop in (
-        omega (arith, c.before.before.if2.true),
+      let o = c.obstacle-fault in
+      let l = c.loop-x in (
+        omega (arith, c.loop-x-test.true),
         λ sheet figure u. let n = u.over.nets-in in
             let i = l.invariant.1 sheet figure u in
-            let h : l.x < figure.class_count = omega (arith, c.before.before.if2.true, n.contexts-in.link-count) in
+            let h : l.x < figure.class_count = omega (arith, c.loop-x-test.true, n.contexts-in.link-count) in
             ⊎_elim
             (λ w. (
               subst (Keeps sheet figure a.taken.now a.to.now a.flags.now a.bars.now) (sym w.5) (keeps_then sheet figure a.taken.now a.to.now a.flags.now a.bars.now l.known w.3.last.1.1.1.1.1.1.1.1.1.1.0 l.x h w.0.taken i.0 (w.3.ensures sheet figure u).1),
               link-refused sheet figure a.taken.now a.to.now a.flags.now a.bars.now l.known i.0 o.result.links l.x i.1 h w.3.result w.4.left (w.3.ensures sheet figure u).0,
             ))
             (λ w. (subst (Keeps sheet figure a.taken.now a.to.now a.flags.now a.bars.now) (sym w.1) i.0, link-settled sheet figure a.taken.now a.to.now a.flags.now a.bars.now l.known i.0 o.result.links l.x i.1 w.0.left))
-            c.if3.branch,
+            c.if-flags-x-eq1.branch-raw,
       )
 
   completable-returns-3 : completable-lts.Need-returns-3 (completable-claims t) (completable-at t) completable.Post completable-Inv-loop completable-μ-loop
   completable-returns-3 c = let b = c.before.before.before.before.before.before.before.before in
       let a = b.args in
-      let o = c.before.before.before.before.before.before.before.obstacle in
-      let l = c.before.before.loop in
+      let o = c.obstacle-fault in
+      let l = c.loop-x in
       λ sheet figure u. let n = u.over.nets-in in
-      found-refused sheet figure n.ready a.taken.now a.to.now a.flags.now b.requires.1.1 a.bars.now o.result (o.ensures sheet figure u.over u.standing-in) (not-false _ c.before.before.before.before.before.if1.false) l.x (omega (arith, c.if2.false, n.contexts-in.link-count)) (l.invariant.1 sheet figure u).1
+      found-refused sheet figure n.ready a.taken.now a.to.now a.flags.now b.requires.1.1 a.bars.now o.result (o.ensures sheet figure u.over u.standing-in) (not-false _ c.if-not-fault.false) l.x (omega (arith, c.loop-x-test.false, n.contexts-in.link-count)) (l.invariant.1 sheet figure u).1
 
   mendable-loop-holds : mendable-lts.Need-loop-init (mendable-claims t) (mendable-at t) mendable.Post mendable-Inv-loop mendable-μ-loop
   mendable-loop-holds c = let b = c in
@@ -161,38 +161,38 @@ module _ (t : ℕ) where
   mendable-element-copy-out-if2 : mendable-lts.Need-element-copy-out-if2 (mendable-claims t) (mendable-at t) mendable.Post mendable-Inv-loop mendable-μ-loop
   mendable-element-copy-out-if2 c = let b = c.before.before.before in
       let a = b.args in
-      omega (arith, c.if1.true, links-few b.requires.1.0.2.over)
+      omega (arith, c.if-not-fault.true, links-few b.requires.1.0.2.over)
 
   mendable-tried-at-requires : mendable-lts.Need-tried-at-requires (mendable-claims t) (mendable-at t) mendable.Post mendable-Inv-loop mendable-μ-loop
   mendable-tried-at-requires c κs = let b = c.before.before.before.before.before.before in
       let a = b.args in
       let p = b.requires.1 in
-      (omega (arith, b.requires.0, flagged-fewer a.nets.count a.flags.now a.x p.2 (omega (arith, p.1, (ports-of b.requires.1.0.2.over.nets-in.contexts-in).links-few)) p.3), (p.0, p.1, p.2, c.before.before.before.if1.true))
+      (omega (arith, b.requires.0, flagged-fewer a.nets.count a.flags.now a.x p.2 (omega (arith, p.1, (ports-of b.requires.1.0.2.over.nets-in.contexts-in).links-few)) p.3), (p.0, p.1, p.2, c.if-not-fault.true))
 
   mendable-returns : mendable-lts.Need-returns (mendable-claims t) (mendable-at t) mendable.Post mendable-Inv-loop mendable-μ-loop
   mendable-returns c = let b = c.before.before.before.before.before.before.before.before in
       let a = b.args in
-      let l = c.before.before.before.before.before.before.before.loop in
-      let v = c.before.tried-at in
+      let l = c.loop-x in
+      let v = c.tried_at in
       λ sheet figure u. let n = u.over.nets-in in
       let h : a.x < figure.class_count = omega (arith, b.requires.1.2, n.contexts-in.link-count) in (
-        mends-found sheet figure n.ready a.taken.now a.to.now a.flags.now b.requires.1.1 a.bars.now a.x h a.links.now l.bars l.y (omega (arith, c.before.before.before.before.before.if1.true, n.sheet-links)) v.result c.if3.true (v.ensures sheet figure u).0,
-        tried_then sheet figure a.taken.now a.to.now a.flags.now a.bars.now l.bars v.new.1.1.1.1.1.1.1.1.1.1.0 a.x (l.invariant.1 sheet figure u).0 (v.ensures sheet figure u).1,
+        mends-found sheet figure n.ready a.taken.now a.to.now a.flags.now b.requires.1.1 a.bars.now a.x h a.links.now l.bars l.y (omega (arith, c.if-not-fault.true, n.sheet-links)) v.result c.if-flags-x-eq1.true (v.ensures sheet figure u).0,
+        tried_then sheet figure a.taken.now a.to.now a.flags.now a.bars.now l.bars v.new.bars a.x (l.invariant.1 sheet figure u).0 (v.ensures sheet figure u).1,
       )
 
   mendable-add-y : mendable-lts.Need-overflow-add-y (mendable-claims t) (mendable-at t) mendable.Post mendable-Inv-loop mendable-μ-loop
   mendable-add-y c = let b = c.before.before.before.before.before in
       let a = b.args in
-      omega (arith, c.before.before.if1.true, links-few b.requires.1.0.2.over)
+      omega (arith, c.if-not-fault.true, links-few b.requires.1.0.2.over)
 
   mendable-loop-less : mendable-lts.Need-loop-smaller (mendable-claims t) (mendable-at t) mendable.Post mendable-Inv-loop mendable-μ-loop
-  mendable-loop-less c = omega (arith, c.before.before.if1.true)
+  mendable-loop-less c = omega (arith, c.if-not-fault.true)
 
   mendable-loop-again : mendable-lts.Need-loop-preserved (mendable-claims t) (mendable-at t) mendable.Post mendable-Inv-loop mendable-μ-loop
   mendable-loop-again c = let b = c.before.before.before.before.before in
       let a = b.args in
-      let l = c.before.before.before.before.loop in (
-        omega (arith, c.before.before.if1.true),
+      let l = c.loop-x in (
+        omega (arith, c.if-not-fault.true),
         λ sheet figure u. let i = l.invariant.1 sheet figure u in
             ⊎_elim
             (λ w. (
@@ -200,17 +200,17 @@ module _ (t : ℕ) where
               tried-next sheet figure a.taken.now a.to.now a.flags.now a.bars.now l.bars a.x i.0 (λ z. get_or a.links.now z 0 ≡ 1) l.y i.1 w.2.result w.3.left (w.2.ensures sheet figure u).0,
             ))
             (λ w. (subst (KeepsBars sheet figure a.taken.now a.to.now a.flags.now a.bars.now a.x) (sym w.1) i.0, tried-skip sheet figure a.taken.now a.to.now a.flags.now a.bars.now l.bars a.x i.0 (λ z. get_or a.links.now z 0 ≡ 1) l.y i.1 w.0.left))
-            c.if2.branch,
+            c.loop-x-test.branch-raw,
       )
 
   mendable-returns-2 : mendable-lts.Need-returns-2 (mendable-claims t) (mendable-at t) mendable.Post mendable-Inv-loop mendable-μ-loop
   mendable-returns-2 c = let b = c.before.before.before in
       let a = b.args in
-      let l = c.before.before.loop in
+      let l = c.loop-x in
       λ sheet figure u. let n = u.over.nets-in in
       let h : a.x < figure.class_count = omega (arith, b.requires.1.2, n.contexts-in.link-count) in
       let i = l.invariant.1 sheet figure u in
-      (mends-none sheet figure n.ready a.taken.now a.to.now a.flags.now b.requires.1.1 a.bars.now a.x h a.links.now l.y (omega (arith, c.if1.false, n.sheet-links)) i.1, i.0)
+      (mends-none sheet figure n.ready a.taken.now a.to.now a.flags.now b.requires.1.1 a.bars.now a.x h a.links.now l.y (omega (arith, c.if-not-fault.false, n.sheet-links)) i.1, i.0)
 
   tried-at-barred-requires : tried-at-lts.Need-barred-requires (tried-at-claims t) (tried-at-at t) tried-at.Post
   tried-at-barred-requires c κs = let b = c.before in
@@ -223,7 +223,7 @@ module _ (t : ℕ) where
       λ sheet figure u. let n = u.over.nets-in in
       let h : a.x < figure.class_count = omega (arith, b.requires.1.2, n.contexts-in.link-count) in
       let k : a.y < sheet.class_count = omega (arith, b.requires.1.3, n.sheet-links) in
-      (at-barred sheet figure n.ready a.taken.now a.to.now a.flags.now b.requires.1.1 a.bars.now a.x h a.y k (c.before.barred.ensures.0 c.if1.true), tried_same sheet figure a.taken.now a.to.now a.flags.now a.bars.now a.x)
+      (at-barred sheet figure n.ready a.taken.now a.to.now a.flags.now b.requires.1.1 a.bars.now a.x h a.y k (c.barred.ensures.0 c.if-not-fault.true), tried_same sheet figure a.taken.now a.to.now a.flags.now a.bars.now a.x)
 
   tried-at-add-next : tried-at-lts.Need-overflow-add-next (tried-at-claims t) (tried-at-at t) tried-at.Post
   tried-at-add-next c = let b = c.before.before.before.before in
@@ -262,7 +262,7 @@ module _ (t : ℕ) where
       λ sheet figure u. let n = u.over.nets-in in
       let h : a.x < figure.class_count = omega (arith, b.requires.1.2, n.contexts-in.link-count) in
       let k : a.y < sheet.class_count = omega (arith, b.requires.1.3, n.sheet-links) in
-      (at-can sheet figure n.ready a.taken.now a.to.now a.flags.now b.requires.1.1 a.bars.now a.x h a.y k c.before.completable.result (c.before.completable.ensures sheet figure (tables-put u a.x a.y b.requires.1.2 b.requires.1.3)) c.if2.true, tried_same sheet figure a.taken.now a.to.now a.flags.now a.bars.now a.x)
+      (at-can sheet figure n.ready a.taken.now a.to.now a.flags.now b.requires.1.1 a.bars.now a.x h a.y k c.completable.result (c.completable.ensures sheet figure (tables-put u a.x a.y b.requires.1.2 b.requires.1.3)) c.loop-x-test.true, tried_same sheet figure a.taken.now a.to.now a.flags.now a.bars.now a.x)
 
   tried-at-bar-requires : tried-at-lts.Need-bar-requires (tried-at-claims t) (tried-at-at t) tried-at.Post
   tried-at-bar-requires c κs = let b = c.before.before.before.before.before.before.before.before.before.before.before in
@@ -276,14 +276,14 @@ module _ (t : ℕ) where
   tried-at-returns-3 : tried-at-lts.Need-returns-3 (tried-at-claims t) (tried-at-at t) tried-at.Post
   tried-at-returns-3 c = let b = c.before.before.before.before.before.before.before.before.before.before.before.before.before.before in
       let a = b.args in
-      let d = c.before.before.before.before.before.completable in
-      let v = c.bar-along in
+      let d = c.completable in
+      let v = c.bar_along in
       λ sheet figure u. let n = u.over.nets-in in
       let h : a.x < figure.class_count = omega (arith, b.requires.1.2, n.contexts-in.link-count) in
       let k : a.y < sheet.class_count = omega (arith, b.requires.1.3, n.sheet-links) in
       let e = d.ensures sheet figure (tables-put u a.x a.y b.requires.1.2 b.requires.1.3) in (
-        at-cannot sheet figure n.ready a.taken.now a.to.now a.flags.now b.requires.1.1 a.bars.now a.x h a.y k d.result e c.before.before.before.before.if2.false,
-        tried_then sheet figure a.taken.now a.to.now a.flags.now a.bars.now c.before.before.bar.new.0 v.new.1.1.1.1.1.1.1.1.1.0 a.x (at-barring sheet figure n.ready a.taken.now a.to.now a.flags.now b.requires.1.1 a.bars.now a.x h a.y k d.result e c.before.before.before.before.if2.false a.kinds.now u.kinds-in c.before.before.bar.new.0 c.before.before.bar.ensures) (v.ensures sheet figure a.flags.now u b.requires.1.1),
+        at-cannot sheet figure n.ready a.taken.now a.to.now a.flags.now b.requires.1.1 a.bars.now a.x h a.y k d.result e c.loop-x-test.false,
+        tried_then sheet figure a.taken.now a.to.now a.flags.now a.bars.now c.bar.new.bars v.new.y a.x (at-barring sheet figure n.ready a.taken.now a.to.now a.flags.now b.requires.1.1 a.bars.now a.x h a.y k d.result e c.loop-x-test.false a.kinds.now u.kinds-in c.bar.new.bars c.bar.ensures) (v.ensures sheet figure a.flags.now u b.requires.1.1),
       )
 
 pub +completable-mendable-tried-at-spec : {M : Type 1} → statement M

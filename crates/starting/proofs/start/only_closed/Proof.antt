@@ -58,8 +58,8 @@ loop-again c = let l = c in
     ⊎_elim
     (λ w. (
       search rules,
-      rw w.7 (rw w.links-is.ensures (links-put s.links.now l.loop-z.links P l.loop-z.invariant.1 l.loop-z.z w.set_pair.result
-          (λ v h p m. in-fewer-pair _ _ _ v h w.set_pair.ensures (subst (λ (k : List ℕ). InPair k v) (sym w.set_pair-arg-1.ensures) (pair-in l.loop-z.links l.loop-z.z v h m))
+      rw w.links-is (rw w.set_pair.ensures (links-put s.links.now l.loop-z.links P l.loop-z.invariant.1 l.loop-z.z w.without.result
+          (λ v h p m. in-fewer-pair _ _ _ v h w.without.ensures (subst (λ (k : List ℕ). InPair k v) (sym w.pair_at-before.ensures) (pair-in l.loop-z.links l.loop-z.z v h m))
           (λ i. ⊎_elim (empty-pair v) (λ e. w.if-z-x.true (p e w.if-closed-z-eq1.true)) (with-only _ _ small _ only.ensures v (in_pair h) i))))),
     ))
     (λ w. ⊎_elim (λ u. (search rules, rw u.links-is l.loop-z.invariant.1)) (λ u. (search rules, rw u.links-is l.loop-z.invariant.1)) w)
