@@ -273,22 +273,48 @@ def turn(text, names, missing):
     return text.replace(".branch", ".branch-raw") if ".branch-raw" not in text else text
 
 
+def turn_cycle(text, entries, missing):
+    """A cycle of functions: each declaration names its function's steps by an alias of that function's module."""
+    aliases = {}
+    for m in re.finditer(r"(?m)^use \S+\.Lts-(\S+) as (\S+)$", text):
+        aliases[m.group(2)] = Names(entries[m.group(1)])
+    parts = re.split(r"(?m)^(?= *(?:abbrev |pub )*\S+ : )", text)
+    for k, part in enumerate(parts):
+        used = [a for a in aliases if re.search(r"^ *(?:abbrev |pub )*\S+ : (?:\S+ → )?\(?(?:\w+ : )?" + re.escape(a) + r"\.", part)]
+        if len(used) != 1:
+            continue
+        indent = re.match(r" *", part).group(0)
+        body = re.sub(r"(?m)^" + indent, "", part) if indent else part
+        body = body.replace(used[0] + ".", "tie.")
+        body = turn(body, aliases[used[0]], missing)
+        body = re.sub(r"(?<![\w.])tie\.", used[0] + ".", body)
+        parts[k] = re.sub(r"(?m)^(?=.)", indent, body) if indent else body
+    return "".join(parts)
+
+
 def main(crate, path):
     with open(path) as f:
         entries = json.load(f)
-    top = f"crates/{crate}/proofs"
+    top, done = f"crates/{crate}/proofs", set()
     for key, entry in entries.items():
         if not key.startswith(f"Rattle-{crate}-proofs."):
             continue
-        way = key.split(".", 1)[1].rsplit(".", 1)[0]
+        way, last = key.split(".", 1)[1].rsplit(".", 1)
         proof = os.path.join(top, *way.split("."), "Proof.antt")
         if not os.path.exists(proof):
             continue
         with open(proof) as f:
             text = f.read()
         missing = []
-        out = turn(text, Names(entry), missing)
-        name = way.split(".")[-1].lstrip("+")
+        name = way.split(".")[-1]
+        if last.startswith("Lts-"):
+            if proof in done:
+                continue
+            done.add(proof)
+            head = key.rsplit("Lts-", 1)[0] + "Lts-"
+            out = turn_cycle(text, {k[len(head):]: v for k, v in entries.items() if k.startswith(head)}, missing)
+        else:
+            out = turn(text, Names(entry), missing)
         out = re.sub(r"(?m)^(pub )?" + re.escape(norm(name)) + r"-spec\b", lambda m: (m.group(1) or "") + name + "_spec", out)
         if missing:
             print(f"{proof}: no new name for {', '.join(missing)}")
