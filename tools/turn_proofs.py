@@ -36,7 +36,13 @@ class Names:
         # The place of each goal, and how many places lie between one and another above it.
         self.at = {need[1]: at[1] for need, at in zip(entry["needs"], entry["asked_at"])}
         by_old = dict(zip((p[0] for p in entry["places"]), entry["places_by_name"]))
-        self.above = {by_old[p[0]]: by_old.get(p[1]) for p in entry["places"]}
+        parents = {p[0]: p[1] for p in entry["places"]}
+        self.above = {}
+        for place, arm in zip(entry["places"], entry["arms"] + [None] * len(entry["places"])):
+            up = place[0]
+            for _ in range(arm[1] if arm else 1):
+                up = parents.get(up)
+            self.above[by_old[place[0]]] = by_old.get(up)
         self.settled = {norm(n) for n in entry["settled"]}
         # What a call wrote or kept, by the names of the callee's parameters.
         self.calls = {p[2][1]: entry["params"].get(p[3], []) for p in entry["places"] if p[3]}
@@ -76,28 +82,36 @@ class Names:
         return self.places.get(norm(name))
 
 
+# Fields that the port script left where it could not tell whose they are.
+OLDER = {"inv": "invariant", "taken": "true", "left": "false", "kept": "auto", "last": "new", "pre": "requires", "came": "branch", "good": "ensures", "gave": "result"}
+
 RUST = set()
 for _path in glob.glob("crates/*/src/**/*.rt", recursive=True):
     with open(_path) as _f:
         RUST.update(re.findall(r"[a-z]\w*", _f.read()))
 
+# Fields of records of our own with a dash in their names.
+FIELDS = set()
+for _path in glob.glob("crates/*/specs/**/*.antt", recursive=True) + glob.glob("crates/*/proofs/**/*.antt", recursive=True):
+    with open(_path) as _f:
+        FIELDS.update(re.findall(r"(?m)^\s+(?:pub )?([a-z]\w*(?:-\w+)+) :", _f.read()))
+
 WORD = r"[^\s(){}\[\],;.@\"λ:=]+"
 
 
-def place_variables(text):
-    """The variables that stand for a place: an answer's own, a helper's argument of such a type, and what is let to be a way up from one."""
-    found = {"c", "l"}
+def place_variables(text, known):
+    """The variables of a declaration that stand for a place: its own, and what is let to be a way up from one."""
+    found = {"c"}
     for m in re.finditer(r"\((" + WORD + r"(?: " + WORD + r")*) : tie\.", text):
         found.update(m.group(1).split())
-    for m in re.finditer(r"(?m)^\s*(?:abbrev |pub |unfoldable )*(" + WORD + r") : tie\.(?!Need-|invariant-|decreases-)", text):
-        name = re.escape(m.group(1))
-        for n in re.finditer(r"(?m)^\s*" + name + r"((?: " + WORD + r")+) =", text):
+    for name in known:
+        for n in re.finditer(r"(?m)^\s*" + re.escape(name) + r"((?: " + WORD + r")+) =", text):
             found.update(n.group(1).split())
-    ways = {m.group(1) for m in re.finditer(r"(?m)^\s*(?:abbrev |pub )*(" + WORD + r") : [^\n]*→ tie\.", text)}
+    ways = {name for name, (_, gives) in known.items() if gives}
     for _ in range(4):
-        for m in re.finditer(r"let (" + WORD + r") = (" + WORD + r")((?:\.before)+| (?:" + WORD + r")(?:\.before)*)? in", text):
+        for m in re.finditer(r"let (" + WORD + r") = (" + WORD + r")((?:\.before)*| [^\n=]*?)? in\b", text):
             head, rest = m.group(2), m.group(3) or ""
-            if (head in found and not rest.startswith(" ")) or (head in ways and rest.startswith(" ")):
+            if (head in found and not rest.startswith(" ")) or (head in ways and rest.startswith(" ") and not re.search(r"\)\.(?!before\b)", rest)):
                 found.add(m.group(1))
     return found
 
@@ -164,7 +178,9 @@ def by_parameter(text, names):
     text = re.sub(r"(?P<head>\.(?P<step>[^\s().,]+))" + tail, lambda m: name(m, m.group("step")), text)
     parts = re.split(r"(?m)^(?=\S)", text)
     for k, part in enumerate(parts):
-        for m in re.finditer(r"let (" + WORD + r") = " + WORD + r"\.(" + WORD + r") in", part):
+        for m in re.finditer(r"let (" + WORD + r") = [^\n=]*?\.(" + WORD + r") in", part):
+            if m.group(2) in names.steps.values():
+                part = re.sub(r"(?<![\w.])(" + re.escape(m.group(1)) + r")\.(inv|taken|kept|last)(?![\w'-])", lambda n: n.group(1) + "." + OLDER[n.group(2)], part)
             if m.group(2) in names.calls:
                 part = re.sub(r"(?P<head>(?<![\w.])" + re.escape(m.group(1)) + r")" + tail, lambda n, s=m.group(2): name(n, s), part)
         parts[k] = part
@@ -185,7 +201,13 @@ def turn(text, names, missing):
         return (f"{m.group(1)} : " if m.group(1) else "") + "tie." + new
 
     gone = []
-    variables = place_variables(text)
+    # What a step gave, under a name of its own: its parts have names now.
+    for m in list(re.finditer(r"let (" + WORD + r") = (" + WORD + r"[^\s()]*\.given) in\s*", text)):
+        end = re.search(r"\n(?=\S)", text[text.index(m.group(0)) + len(m.group(0)):])
+        at = text.index(m.group(0))
+        stop = at + len(m.group(0)) + (end.start() if end else len(text))
+        body = re.sub(r"(?<![\w.'])" + re.escape(m.group(1)) + r"(?=\.)", m.group(2), text[at + len(m.group(0)):stop])
+        text = text[:at] + body + text[stop:]
     text = re.sub(r"(?<![\w.])(?:(" + WORD + r") : )?tie\.(" + WORD + r")", tie, text)
     for name in gone:
         # A goal that is settled now: its answer goes.
@@ -195,24 +217,47 @@ def turn(text, names, missing):
         form = "".join("[-_]" if ch == "-" else re.escape(ch) for ch in old)
         text = re.sub(r"\." + form + r"(?![\w'-])", lambda m, new=new: new, text, flags=re.I)
 
-    def step(m):
+    known = helpers(text)
+    ways = {name for name, (_, gives) in known.items() if gives}
+
+    def step(m, variables):
         head, ups, name, field = m.group(1), m.group(2), m.group(3), m.group(4)
-        if not ups and head not in variables and head != ")":
+        if head == ")":
+            depth, at = 0, m.start()
+            while at >= 0:
+                depth += (m.string[at] == ")") - (m.string[at] == "(")
+                if depth == 0:
+                    break
+                at -= 1
+            if m.string[at + 1:m.start()].split(" ")[0] not in ways:
+                return m.group(0)
+        elif not ups and head not in variables:
             return m.group(0)
         old = norm(name)
         if old not in names.steps:
             return m.group(0)
         fields = names.fields.get(old, {})
         if field:
+            field = "." + OLDER.get(field[1:], field[1:])
             field = "." + fields.get(norm(field[1:]), field[1:])
         return head + ups + "." + names.steps[old] + (field or "")
 
-    text = re.sub(r"(" + WORD + r"|\))((?:\.before)*)\.(" + WORD + r")(\." + WORD + r")?", step, text)
+    parts = re.split(r"(?m)^(?=(?:abbrev |pub |unfoldable )*\S+ :)", text)
+    for k, part in enumerate(parts):
+        variables = place_variables(part, known)
+        parts[k] = re.sub(r"(" + WORD + r"|\))((?:\.before)*)\.(" + WORD + r")(\." + WORD + r")?", lambda m, v=variables: step(m, v), part)
+    text = "".join(parts).replace(".type-inv", ".type_inv")
     text = by_parameter(flat(text, names), names)
     for old in sorted(names.texts, key=len, reverse=True):
         text = re.sub(re.escape(old) + r"(?![\w'-])", lambda m: names.texts[old], text)
     # Names from .rt code, in which a dash came to stand.
-    text = re.sub(r"(?<=\.)([a-z]\w*(?:-\w+)+)(?![\w'-])", lambda m: m.group(1).replace("-", "_") if m.group(1).replace("-", "_") in RUST and m.group(1) not in names.steps.values() else m.group(1), text)
+    def from_code(m):
+        name = m.group(2).replace("-", "_")
+        if name not in RUST or m.group(2) in names.steps.values() or (m.group(2) in FIELDS and m.group(1) != "args."):
+            return m.group(0)
+        return m.group(1) + name
+
+    text = re.sub(r"((?:args)?\.)([a-z]\w*(?:-\w+)+)(?![\w'-])", from_code, text)
     return text.replace(".branch", ".branch-raw") if ".branch-raw" not in text else text
 
 

@@ -100,6 +100,8 @@ greater-at (suc k) (x ∷ l) (y ∷ m) l' m' h h' s t (later e d) = greater-at k
 
 -- nowhere less
 pub nowhere-less : (l m : List ℕ) → length l ≡ length m → ((i : ℕ) → i < length l → get_or m i 0 ≤ get_or l i 0) → ¬ Before l m
+nowhere-less [] m e h b = elim b [ ]
+nowhere-less (x ∷ l) [] e h b = elim b [ ]
 nowhere-less (x ∷ l) (y ∷ m) e h (here d) = let u : y ≤ x = h 0 (omega arith) in omega arith
 nowhere-less (x ∷ l) (y ∷ m) e h (later f d) = nowhere-less l m (omega arith) (λ i u. h (suc i) (omega arith)) d
 

@@ -83,7 +83,7 @@ module _ {sheet figure : form.Sheet} {nets : Nets} {laid chains to : List ℕ} (
       let t = w.two-apart n in
       let r = to-within t.0 t.2.first-in in
       let e : get_or to t.0 0 ≡ y = t.2.first-at in
-      let m : y ≢ none = t.2.not_None in
+      let m : y ≢ none = t.2.not_none in
       let h = none-room in
       omega (arith, r.0, r.1)
 

@@ -4,56 +4,56 @@ use mathlib.Core.Path.{◌∙◌}
 use Rattle.answers.proofs.of_claimed.Statement.{statement}
 use Rattle.answers.proofs.of_claimed.Tie as tie
 
-enum_told : tie.Need-enum-told
+enum_told : tie.Need-enum_told-1
 enum_told c = search rules
 
 decided-requires : tie.Need-decided-requires
 decided-requires c κs = search rules
 
-enum-told-2 : tie.Need-enum-told-2
+enum-told-2 : tie.Need-enum_told-in-Differs
 enum-told-2 c = search rules
 
-decided-requires-2 : tie.Need-decided-requires-2
+decided-requires-2 : tie.Need-decided-requires-in-Differs
 decided-requires-2 c κs = search rules
 
-enum-known-claimed : tie.Need-enum-known-claimed
+enum-known-claimed : tie.Need-enum_known-claimed
 enum-known-claimed c = search rules
 
-refusal-number-requires : tie.Need-refusal-number-requires
+refusal-number-requires : tie.Need-refusal_number-requires
 refusal-number-requires c κs = search rules
 
 denied-requires : tie.Need-denied-requires
 denied-requires c κs = search rules
 
-enum-known-claimed-2 : tie.Need-enum-known-claimed-2
+enum-known-claimed-2 : tie.Need-enum_known-claimed-in-BlankClash-1
 enum-known-claimed-2 c = search rules
 
-denied-requires-2 : tie.Need-denied-requires-2
+denied-requires-2 : tie.Need-denied-requires-in-BlankClash
 denied-requires-2 c κs = search rules
 
-enum-known-claimed-3 : tie.Need-enum-known-claimed-3
+enum-known-claimed-3 : tie.Need-enum_known-claimed-in-EdgeDiffers-1
 enum-known-claimed-3 c = search rules
 
-denied-requires-3 : tie.Need-denied-requires-3
+denied-requires-3 : tie.Need-denied-requires-in-EdgeDiffers
 denied-requires-3 c κs = search rules
 
-returns : tie.Need-returns
-returns c = rw c.before.enum_told.given.1 c.decided.ensures
+returns : tie.Need-returns-in-Holds
+returns c = rw c.in-Holds.is c.decided.ensures
 
-returns-2 : tie.Need-returns-2
-returns-2 c = rw c.before.enum-told2.given.1 c.decided2.ensures
+returns-2 : tie.Need-returns-in-Differs
+returns-2 c = rw c.in-Differs.is c.decided-in-Differs.ensures
 
-returns-3 : tie.Need-returns-3
-returns-3 c = rw c.before.before.before.claimed.given.1 (c.denied.ensures ∙ rw c.before.refusal-number.ensures)
+returns-3 : tie.Need-returns-in-Refused
+returns-3 c = rw c.in-Refused.is (c.denied.ensures ∙ rw c.refusal_number.ensures)
 
-returns-4 : tie.Need-returns-4
-returns-4 c = rw c.before.before.claimed2.given.1 c.denied2.ensures
+returns-4 : tie.Need-returns-in-BlankClash
+returns-4 c = rw c.in-BlankClash.is c.denied-in-BlankClash.ensures
 
-returns-5 : tie.Need-returns-5
-returns-5 c = rw c.before.before.claimed3.given.1 c.denied3.ensures
+returns-5 : tie.Need-returns-in-EdgeDiffers
+returns-5 c = rw c.in-EdgeDiffers.is c.denied-in-EdgeDiffers.ensures
 
-pub of-claimed-spec : {M : Type 1} → statement M
-of-claimed-spec =
+pub of_claimed_spec : {M : Type 1} → statement M
+of_claimed_spec =
     tie.close
     (tie.spec
     enum_told

@@ -4,38 +4,38 @@ use mathlib.Core.Path.{◌∙◌}
 use Rattle.answers.proofs.of_compared.Statement.{statement}
 use Rattle.answers.proofs.of_compared.Tie as tie
 
-enum_told : tie.Need-enum-told
+enum_told : tie.Need-enum_told-1
 enum_told c = search rules
 
 decided-requires : tie.Need-decided-requires
 decided-requires c κs = search rules
 
-enum-told-2 : tie.Need-enum-told-2
+enum-told-2 : tie.Need-enum_told-in-Differs
 enum-told-2 c = search rules
 
-decided-requires-2 : tie.Need-decided-requires-2
+decided-requires-2 : tie.Need-decided-requires-in-Differs
 decided-requires-2 c κs = search rules
 
-enum-known-done : tie.Need-enum-known-done
+enum-known-done : tie.Need-enum_known-done
 enum-known-done c = search rules
 
-refusal-number-requires : tie.Need-refusal-number-requires
+refusal-number-requires : tie.Need-refusal_number-requires
 refusal-number-requires c κs = search rules
 
 denied-requires : tie.Need-denied-requires
 denied-requires c κs = search rules
 
-returns : tie.Need-returns
-returns c = rw c.before.enum_told.given.1 c.decided.ensures
+returns : tie.Need-returns-in-Same
+returns c = rw c.in-Same.is c.decided.ensures
 
-returns-2 : tie.Need-returns-2
-returns-2 c = rw c.before.enum-told2.given.1 c.decided2.ensures
+returns-2 : tie.Need-returns-in-Differs
+returns-2 c = rw c.in-Differs.is c.decided-in-Differs.ensures
 
-returns-3 : tie.Need-returns-3
-returns-3 c = rw c.before.before.before.done.given.1 (c.denied.ensures ∙ rw c.before.refusal-number.ensures)
+returns-3 : tie.Need-returns-in-Refused
+returns-3 c = rw c.in-Refused.is (c.denied.ensures ∙ rw c.refusal_number.ensures)
 
-pub of-compared-spec : {M : Type 1} → statement M
-of-compared-spec =
+pub of_compared_spec : {M : Type 1} → statement M
+of_compared_spec =
     tie.close
     (tie.spec
     enum_told

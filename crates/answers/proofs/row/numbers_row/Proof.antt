@@ -14,31 +14,31 @@ use Rattle.answers.specs.AnswerRow.{answer_letter, last_digits}
 use Rattle.answers.proofs.row.numbers_row.Statement.{statement}
 use Rattle.answers.proofs.row.numbers_row.Tie as tie
 
-array-write-nums : tie.Need-array-write-nums
+array-write-nums : tie.Need-bounds-nums-0
 array-write-nums c = search rules
 
-array-write-nums-2 : tie.Need-array-write-nums-2
+array-write-nums-2 : tie.Need-bounds-nums-1
 array-write-nums-2 c = search rules
 
-cast-nums : tie.Need-overflow-cast-nums
+cast-nums : tie.Need-overflow_cast-nums
 cast-nums c = search rules
 
-rem-nums : tie.Need-nonzero-rem-nums
+rem-nums : tie.Need-nonzero_rem-nums-3
 rem-nums c = search rules
 
-cast-nums-2 : tie.Need-overflow-cast-nums-2
+cast-nums-2 : tie.Need-overflow_cast-nums-2
 cast-nums-2 c = search rules
 
-array-write-nums-3 : tie.Need-array-write-nums-3
+array-write-nums-3 : tie.Need-bounds-nums-2
 array-write-nums-3 c = search rules
 
-cast-nums-3 : tie.Need-overflow-cast-nums-3
+cast-nums-3 : tie.Need-overflow_cast-nums-3
 cast-nums-3 c = search rules
 
-array-write-nums-4 : tie.Need-array-write-nums-4
+array-write-nums-4 : tie.Need-bounds-nums-3
 array-write-nums-4 c = search rules
 
-slice-aggregate-put-row : tie.Need-slice-aggregate-put-row
+slice-aggregate-put-row : tie.Need-slice_bounds-put_row-end
 slice-aggregate-put-row c = search rules
 
 bit : (b : Bool) → bool_byte b ≡ pick b 1 0
@@ -64,18 +64,18 @@ first a b c d l (suc (suc (suc zero))) h = refl
 first a b c d l (suc (suc (suc (suc zero)))) h = refl
 first a b c d l (suc (suc (suc (suc (suc n))))) h = absurd (omega arith)
 
-put-row-requires : tie.Need-put-row-requires
-put-row-requires c κs = let a = c.before.args in
+put-row-requires : tie.Need-put_row-requires
+put-row-requires c κs = let a = c.args in
     (omega arith, (omega arith, λ k h. within (last_digits a.number) (last_digits a.input) (last_digits a.row) (bool_byte a.yes) (0 ∷ 0 ∷ 0 ∷ 0 ∷ []) (omega arith) (omega arith) (omega arith) (small a.yes) k (omega arith)))
 
 returns : tie.Need-returns
-returns c = let a = c.before.before.before.args in
-    c.before.put-row.ensures ∙ append-nil _
+returns c = let a = c.args in
+    c.put_row.ensures ∙ append-nil _
     ∙ ap (row_bytes answer_letter) (first (last_digits a.number) (last_digits a.input) (last_digits a.row) (bool_byte a.yes) (0 ∷ 0 ∷ 0 ∷ 0 ∷ []) a.count (omega arith))
     ∙ ap (λ (y : ℕ). row_bytes answer_letter (take a.count (last_digits a.number ∷ last_digits a.input ∷ last_digits a.row ∷ y ∷ []))) (bit a.yes)
 
-pub numbers-row-spec : {M : Type 1} → statement M
-numbers-row-spec =
+pub numbers_row_spec : {M : Type 1} → statement M
+numbers_row_spec =
     tie.close
     (tie.spec
     array-write-nums

@@ -10,34 +10,34 @@ use borrow.Author.Rules.{rules}
 use Rattle.candidates.proofs.laid.lay_atom.Statement.{statement}
 use Rattle.candidates.proofs.laid.lay_atom.Tie as tie
 
-mul_at : tie.Need-overflow-mul-at
+mul_at : tie.Need-overflow_mul-at
 mul_at c = search rules
 
-mul-laid : tie.Need-overflow-mul-laid
+mul-laid : tie.Need-offset_bounds-laid-at
 mul-laid c = search rules
 
-element-write-laid : tie.Need-element-write-laid
+element-write-laid : tie.Need-bounds-laid-at
 element-write-laid c = search rules
 
-add-laid : tie.Need-overflow-add-laid
+add-laid : tie.Need-overflow_add-laid
 add-laid c = search rules
 
-mul-laid-2 : tie.Need-overflow-mul-laid-2
+mul-laid-2 : tie.Need-offset_bounds-laid-at-2
 mul-laid-2 c = search rules
 
-element-write-laid-2 : tie.Need-element-write-laid-2
+element-write-laid-2 : tie.Need-bounds-laid-at-2
 element-write-laid-2 c = search rules
 
-lay-links-requires : tie.Need-lay-links-requires
+lay-links-requires : tie.Need-lay_links-requires
 lay-links-requires c κs = search rules
 
 returns : tie.Need-returns
-returns c = let s = c.before.before.before in
+returns c = let s = c in
     let l = s.args.laid.now in
     let a = s.args.atom in
     let at = s.args.i * field_count in
     let one = set l at a.name in
-    let f = c.lay-links.ensures in (
+    let f = c.lay_links.ensures in (
       f.0,
       laid-row _ s.args.i a s.requires.1
           (f.2 at (λ k h e. omega (arith, e)) ∙ get_or-set_other one (at + 1) at a.count 0 (λ e. omega (arith, e)) ∙ get_or-set_same l at a.name 0 (omega (arith, s.requires.0, s.requires.2)))
@@ -45,8 +45,8 @@ returns c = let s = c.before.before.before in
       (λ q d. f.2 q (λ k h e. d (2 + k) (omega (arith, h)) e) ∙ get_or-set_other one (at + 1) q a.count 0 (λ e. d 1 (omega arith) e) ∙ get_or-set_other l at q a.name 0 (λ e. d 0 (omega arith) (omega (arith, e)))),
     )
 
-pub lay-atom-spec : {M : Type 1} → statement M
-lay-atom-spec =
+pub lay_atom_spec : {M : Type 1} → statement M
+lay_atom_spec =
     tie.close
     (tie.spec
     mul_at

@@ -4,10 +4,10 @@ use Rattle.candidates.specs.Words.{empty_pair}
 use Rattle.candidates.proofs.pairs.is_empty.Statement.{statement}
 use Rattle.candidates.proofs.pairs.is_empty.Tie as tie
 
-array-read-result : tie.Need-array-read-result
+array-read-result : tie.Need-bounds-a-0
 array-read-result c = search rules
 
-array-read-result-2 : tie.Need-array-read-result-2
+array-read-result-2 : tie.Need-bounds-a-1
 array-read-result-2 c = search rules
 
 returns : tie.Need-returns

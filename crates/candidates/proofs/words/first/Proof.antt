@@ -7,7 +7,7 @@ use Rattle.candidates.proofs.Digits.{first-in}
 use Rattle.candidates.proofs.words.first.Statement.{statement}
 use Rattle.candidates.proofs.words.first.Tie as tie
 
-cast-result : tie.Need-overflow-cast-result
+cast-result : tie.Need-overflow_cast-result
 cast-result c = record { fits = omega (arith, trailing_le word_digits c.args.s) }
 
 returns : tie.Need-returns

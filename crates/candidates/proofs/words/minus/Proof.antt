@@ -8,5 +8,5 @@ returns : tie.Need-returns
 unfolding fewer
 returns c = refl
 
-pub minus-spec : {M : Type 1} → statement M
-minus-spec = tie.close (tie.spec returns)
+pub minus_spec : {M : Type 1} → statement M
+minus_spec = tie.close (tie.spec returns)

@@ -4,7 +4,7 @@ use Rattle.candidates.proofs.Digits.{shifted}
 use Rattle.candidates.proofs.words.one.Statement.{statement}
 use Rattle.candidates.proofs.words.one.Tie as tie
 
-shl-result : tie.Need-overflow-shl-result
+shl-result : tie.Need-overflow_shl-result
 shl-result c = search rules
 
 returns : tie.Need-returns

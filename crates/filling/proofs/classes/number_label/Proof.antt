@@ -14,45 +14,45 @@ use Rattle.filling.proofs.classes.number_label.Reads as reads
 use Rattle.filling.proofs.classes.number_label.Lts as lts
 use Rattle.linking.proofs.take.index_of.Reads as index-of-reads
 
-index-of-requires : tie.Need-index-of-requires
+index-of-requires : tie.Need-index_of-i-requires
 index-of-requires c κs = search rules
 
-mul-known : tie.Need-overflow-mul-known
+mul-known : tie.Need-offset_bounds-known-count
 mul-known c = search rules
 
-slice-write-known : tie.Need-slice-write-known
+slice-write-known : tie.Need-bounds-known-count
 slice-write-known c = search rules
 
-add-n : tie.Need-overflow-add-n
+add-n : tie.Need-overflow_add-n
 add-n c = search rules
 
-cast-result : tie.Need-overflow-cast-result
-cast-result c = let s = c.before.before.before.before.before in
-    omega (arith, c.before.index_of.ensures, index_below s.args.label s.args.n.now s.args.known.now, s.requires.0)
+cast-result : tie.Need-overflow_cast-result
+cast-result c = let s = c in
+    omega (arith, c.index_of-i.ensures, index_below s.args.label s.args.n.now s.args.known.now, s.requires.0)
 
-add-result : tie.Need-overflow-add-result
-add-result c = let s = c.before.before.before.before.before in
-    omega (arith, c.before.index_of.ensures, index_below s.args.label s.args.n.now s.args.known.now, s.requires.0)
+add-result : tie.Need-overflow_add-result
+add-result c = let s = c in
+    omega (arith, c.index_of-i.ensures, index_below s.args.label s.args.n.now s.args.known.now, s.requires.0)
 
-same_length : tie.Need-same-length
-same_length c = ⊎_elim (λ w. ap length w.2 ∙ simp length-set refl) (λ w. ⊎_elim (λ v. ap length v.2) (λ v. ap length v.1) w) c.if1.branch
+same_length : tie.Need-shape_of-known
+same_length c = ⊎_elim (λ w. ap length w.known-is ∙ simp length-set refl) (λ w. ⊎_elim (λ v. ap length v.known-is) (λ v. ap length v.known-is) w) c.if-i-count.branch-raw
 
 returns : tie.Need-returns
-returns c = let s = c.before.before.before.before.before in
-    let i = c.before.index_of in
+returns c = let s = c in
+    let i = c.index_of-i in
     let a = s.args in
     let l = a.known.now in
     let n = a.n.now in
-    let S : Sees l n c.if1.known c.if1.n (a.label ∷ []) = ⊎_elim
-    (λ w. seen-new l n a.label s.requires.1 s.requires.0 (sym i.ensures ∙ w.0.taken) w.1.taken c.if1.known c.if1.n w.2 w.3)
+    let S : Sees l n c.if-i-count.known c.if-i-count.n (a.label ∷ []) = ⊎_elim
+    (λ w. seen-new l n a.label s.requires.1 s.requires.0 (sym i.ensures ∙ w.if-i-count.true) w.if-count-lt-KNOWN.true c.if-i-count.known c.if-i-count.n w.known-is w.n-is)
     (λ w. ⊎_elim
-    (λ v. seen-full l n a.label s.requires.1 s.requires.0 (sym i.ensures ∙ v.0.taken) v.1.left c.if1.known c.if1.n v.2 v.3)
-    (λ v. seen-old l n a.label s.requires.1 s.requires.0 (λ q. v.0.left (i.ensures ∙ q)) c.if1.known c.if1.n v.1 v.2) w)
-    c.if1.branch in
-    (S, seen-number l n a.label s.requires.1 s.requires.0 c.if1.known c.if1.n i.result S i.ensures)
+    (λ v. seen-full l n a.label s.requires.1 s.requires.0 (sym i.ensures ∙ v.if-i-count.true) v.if-count-lt-KNOWN.false c.if-i-count.known c.if-i-count.n v.known-is v.n-is)
+    (λ v. seen-old l n a.label s.requires.1 s.requires.0 (λ q. v.if-i-count.false (i.ensures ∙ q)) c.if-i-count.known c.if-i-count.n v.known-is v.n-is) w)
+    c.if-i-count.branch-raw in
+    (S, seen-number l n a.label s.requires.1 s.requires.0 c.if-i-count.known c.if-i-count.n i.result S i.ensures)
 
-pub number-label-spec : {M : Type 1} → statement M
-number-label-spec =
+pub number_label_spec : {M : Type 1} → statement M
+number_label_spec =
     tie.close
     (tie.spec
     index-of-requires

@@ -13,36 +13,36 @@ use Rattle.filling.proofs.Making.{made_of}
 use Rattle.filling.proofs.filled.numbered_whole.Statement.{statement}
 use Rattle.filling.proofs.filled.numbered_whole.Tie as tie
 
-slice-aggregate-numbered-atoms : tie.Need-slice-aggregate-numbered-atoms
+slice-aggregate-numbered-atoms : tie.Need-slice_bounds-numbered_atoms-end
 slice-aggregate-numbered-atoms c = search rules
 
-numbered-atoms-requires : tie.Need-numbered-atoms-requires
-numbered-atoms-requires c κs = let s = c.before.before.before in
+numbered-atoms-requires : tie.Need-numbered_atoms-atoms-requires
+numbered-atoms-requires c κs = let s = c in
     ((search rules, search rules), s.requires.0, s.requires.1)
 
-slice-aggregate-numbered-marks : tie.Need-slice-aggregate-numbered-marks
+slice-aggregate-numbered-marks : tie.Need-slice_bounds-numbered_marks-end
 slice-aggregate-numbered-marks c = search rules
 
-numbered-marks-requires : tie.Need-numbered-marks-requires
-numbered-marks-requires c κs = let t = c.before.before.before in
-    let s = t.before.before.before.before in
-    (t.numbered-atoms.ensures.0.room, s.requires.2, λ k. omega (arith, s.requires.3 k))
+numbered-marks-requires : tie.Need-numbered_marks-marked-requires
+numbered-marks-requires c κs = let t = c in
+    let s = t in
+    (t.numbered_atoms-atoms.ensures.0.room, s.requires.2, λ k. omega (arith, s.requires.3 k))
 
-none-requires : tie.Need-none-requires
+none-requires : tie.Need-none-context-requires
 none-requires c κs = search rules
 
 returns : tie.Need-returns
-returns c = let k = c.before.before in
-    let t = k.before.before.before.before in
-    let s = t.before.before.before.before in
+returns c = let k = c in
+    let t = k in
+    let s = t in
     let a = s.args in
     λ list own figure e f g O P. let q : labels_at a.labels.now a.m a.places ≡ mark_labels a.labels.now figure = ap₂ (labels_at a.labels.now) (sym g) (sym f) in
-    made_of list figure own _ a.whole P _ t.numbered-atoms.new.1.0 k.numbered-marks.new.1.0 t.numbered-atoms.new.1.1.0 k.numbered-marks.new.1.1.0
-    t.numbered-atoms.ensures.0 (subst (Sees t.numbered-atoms.new.1.0 t.numbered-atoms.new.1.1.0 k.numbered-marks.new.1.0 k.numbered-marks.new.1.1.0) q k.numbered-marks.ensures.0) O t.numbered-atoms.ensures.1.1 _ t.numbered-atoms.ensures.1.0 refl refl (sym e)
-    (k.numbered-marks.ensures.1 ∙ ap (λ l. padded mark_room 0 (map (number_in (take k.numbered-marks.new.1.1.0 k.numbered-marks.new.1.0)) l)) q) (sym g) refl
+    made_of list figure own _ a.whole P _ t.numbered_atoms-atoms.new.known k.numbered_marks-marked.new.known t.numbered_atoms-atoms.new.n k.numbered_marks-marked.new.n
+    t.numbered_atoms-atoms.ensures.0 (subst (Sees t.numbered_atoms-atoms.new.known t.numbered_atoms-atoms.new.n k.numbered_marks-marked.new.known k.numbered_marks-marked.new.n) q k.numbered_marks-marked.ensures.0) O t.numbered_atoms-atoms.ensures.1.1 _ t.numbered_atoms-atoms.ensures.1.0 refl refl (sym e)
+    (k.numbered_marks-marked.ensures.1 ∙ ap (λ l. padded mark_room 0 (map (number_in (take k.numbered_marks-marked.new.n k.numbered_marks-marked.new.known)) l)) q) (sym g) refl
 
-pub numbered-whole-spec : {M : Type 1} → statement M
-numbered-whole-spec =
+pub numbered_whole_spec : {M : Type 1} → statement M
+numbered_whole_spec =
     tie.close
     (tie.spec
     slice-aggregate-numbered-atoms

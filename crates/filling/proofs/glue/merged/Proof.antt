@@ -14,82 +14,82 @@ use Rattle.filling.proofs.Fresh.{merged-one, merged-first}
 use Rattle.filling.proofs.glue.merged.Statement.{statement}
 use Rattle.filling.proofs.glue.merged.Tie as tie
 
-abbrev invariant-loop : tie.invariant-loop
+abbrev invariant-loop : tie.invariant-loop-k
 invariant-loop labels₀ n a b from to k₀ labels k = (k ≤ n) × (length labels ≡ places) × (labels ≡ mapped (relabelled from to) k labels₀)
 
-abbrev decreases-loop : tie.decreases-loop
+abbrev decreases-loop : tie.decreases-loop-k
 decreases-loop labels₀ n a b from to k₀ labels k = n - k
 
-mul-from : tie.Need-overflow-mul-from invariant-loop decreases-loop
+mul-from : tie.Need-offset_bounds-labels-b invariant-loop decreases-loop
 mul-from c = search rules
 
-element-copy-out-from : tie.Need-element-copy-out-from invariant-loop decreases-loop
+element-copy-out-from : tie.Need-bounds-labels-b invariant-loop decreases-loop
 element-copy-out-from c = search rules
 
-mul-to : tie.Need-overflow-mul-to invariant-loop decreases-loop
+mul-to : tie.Need-offset_bounds-labels-a invariant-loop decreases-loop
 mul-to c = search rules
 
-element-copy-out-to : tie.Need-element-copy-out-to invariant-loop decreases-loop
+element-copy-out-to : tie.Need-bounds-labels-a invariant-loop decreases-loop
 element-copy-out-to c = search rules
 
-cast-if1 : tie.Need-overflow-cast-if1 invariant-loop decreases-loop
-cast-if1 c = let s = c.before.before in search (rules, s.requires.3.low s.args.b s.requires.1)
+cast-if1 : tie.Need-overflow_cast-from invariant-loop decreases-loop
+cast-if1 c = let s = c in search (rules, s.requires.3.low s.args.b s.requires.1)
 
-mul-labels : tie.Need-overflow-mul-labels invariant-loop decreases-loop
+mul-labels : tie.Need-offset_bounds-labels-b-then-from-b invariant-loop decreases-loop
 mul-labels c = search rules
 
-element-write-labels : tie.Need-element-write-labels invariant-loop decreases-loop
+element-write-labels : tie.Need-bounds-labels-b-then-from-b invariant-loop decreases-loop
 element-write-labels c = search rules
 
-returns : tie.Need-returns invariant-loop decreases-loop
-returns c = let s = c.before.before.before in
-    merged-one s.args.labels.now s.args.n s.args.a s.args.b s.requires.0 s.requires.1 s.requires.3 s.requires.4 c.if1.true
+returns : tie.Need-returns-then-from-b invariant-loop decreases-loop
+returns c = let s = c in
+    merged-one s.args.labels.now s.args.n s.args.a s.args.b s.requires.0 s.requires.1 s.requires.3 s.requires.4 c.if-from-b.true
 
-loop-holds : tie.Need-loop-init invariant-loop decreases-loop
-loop-holds c = (search rules, c.before.before.before.requires.3.size, refl)
+loop-holds : tie.Need-loop-k-init invariant-loop decreases-loop
+loop-holds c = (search rules, c.requires.3.size, refl)
 
-mul-label : tie.Need-overflow-mul-label invariant-loop decreases-loop
+mul-label : tie.Need-offset_bounds-labels-k invariant-loop decreases-loop
 mul-label c = search rules
 
-element-copy-out-label : tie.Need-element-copy-out-label invariant-loop decreases-loop
+element-copy-out-label : tie.Need-bounds-labels-k invariant-loop decreases-loop
 element-copy-out-label c = search rules
 
-mul-labels-2 : tie.Need-overflow-mul-labels-2 invariant-loop decreases-loop
+mul-labels-2 : tie.Need-offset_bounds-labels-k-in-loop-k invariant-loop decreases-loop
 mul-labels-2 c = search rules
 
-element-write-labels-2 : tie.Need-element-write-labels-2 invariant-loop decreases-loop
+element-write-labels-2 : tie.Need-bounds-labels-k-in-loop-k invariant-loop decreases-loop
 element-write-labels-2 c = search rules
 
-add-k : tie.Need-overflow-add-k invariant-loop decreases-loop
+add-k : tie.Need-overflow_add-k invariant-loop decreases-loop
 add-k c = search rules
 
-loop-less : tie.Need-loop-smaller invariant-loop decreases-loop
+loop-less : tie.Need-loop-k-smaller invariant-loop decreases-loop
 loop-less c = search rules
 
-loop-again : tie.Need-loop-preserved invariant-loop decreases-loop
-loop-again c = let l = c.before.before.before in
-    let s = l.before.before.before.before in
+loop-again : tie.Need-loop-k-preserved invariant-loop decreases-loop
+loop-again c = let l = c in
+    let s = l in
     let L = s.args.labels.now in
     let from = get_or L s.args.b 0 in
     let to = get_or L s.args.a 0 in
-    let h : l.loop.k < length L = omega (arith, s.requires.2, s.requires.3.size) in (
+    let h : l.loop-k.k < length L = omega (arith, s.requires.2, s.requires.3.size) in (
       search rules,
-      simp length-set l.loop.invariant.1,
+      simp length-set l.loop-k.invariant.1,
       ⊎_elim
-          (λ w. ap (set l.loop.labels l.loop.k) w.1 ∙ relabel-hit from to L l.loop.labels l.loop.k h l.loop.invariant.2 w.0.taken)
-          (λ w. ap (set l.loop.labels l.loop.k) w.1 ∙ set-get_or l.loop.labels l.loop.k 0 ∙ relabel-miss from to L l.loop.labels l.loop.k h l.loop.invariant.2 w.0.left)
-          c.if2.branch,
+          (λ w. ap (set l.loop-k.labels l.loop-k.k) w.label-is ∙ relabel-hit from to L l.loop-k.labels l.loop-k.k h l.loop-k.invariant.2 w.if-label-from.true)
+          (λ w. ap (set l.loop-k.labels l.loop-k.k) w.label-is ∙ set-get_or l.loop-k.labels l.loop-k.k 0 ∙ relabel-miss from to L l.loop-k.labels l.loop-k.k h l.loop-k.invariant.2 w.if-label-from.false)
+          c.if-label-from.branch-raw,
     )
 
-returns-2 : tie.Need-returns-2 invariant-loop decreases-loop
-returns-2 c = let l = c.before in
-    let s = l.before.before.before.before in
+returns-2 : tie.Need-returns invariant-loop decreases-loop
+returns-2 c = let l = c in
+    let s = l in
     let L = s.args.labels.now in
-    let e : l.loop.k ≡ s.args.n = omega arith in
-    (rw e at l.loop.invariant.2) ∙ merged-first L s.args.n s.args.a s.args.b s.requires.0 s.requires.1 s.requires.3 s.requires.4
+    let e : l.loop-k.k ≡ s.args.n = omega arith in
+    (rw e at l.loop-k.invariant.2) ∙ merged-first L s.args.n s.args.a s.args.b s.requires.0 s.requires.1 s.requires.3 s.requires.4
 
-pub merged-spec : {M : Type 1} → statement M
-merged-spec =
+pub merged_spec : {M : Type 1} → statement M
+merged_spec =
     tie.close
     (tie.spec
     invariant-loop

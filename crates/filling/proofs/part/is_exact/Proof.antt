@@ -10,35 +10,35 @@ use Rattle.filling.proofs.Parts.{part_low, part-marks}
 use Rattle.filling.proofs.part.is_exact.Statement.{statement}
 use Rattle.filling.proofs.part.is_exact.Tie as tie
 
-mul-if1 : tie.Need-overflow-mul-if1
+mul-if1 : tie.Need-offset_bounds-exact-number
 mul-if1 c = search rules
 
-element-copy-out-if1 : tie.Need-element-copy-out-if1
+element-copy-out-if1 : tie.Need-bounds-exact-number
 element-copy-out-if1 c = search rules
 
-add-if1 : tie.Need-overflow-add-if1
+add-if1 : tie.Need-overflow_add-n
 add-if1 c = search rules
 
-returns : tie.Need-returns
-returns c = let s = c.before.before.before in
+returns : tie.Need-returns-then-exact-number
+returns c = let s = c in
     let a = s.args in
-    sym (s.requires.1 a.number a.n c.if1.true)
+    sym (s.requires.1 a.number a.n c.if-exact-number.true)
 
-part-of-requires : tie.Need-part-of-requires
+part-of-requires : tie.Need-part_of-part-requires
 part-of-requires c κs = search rules
 
-marks-exact-requires : tie.Need-marks-exact-requires
-marks-exact-requires c κs = let p = c.before.before in
-    let a = p.before.before.before.before.args in
-    (subst (λ (n : Normal). n.mark_count ≤ sheet_marks) (sym p.part_of.ensures) (part_low a.list.now a.number).marks, subst (λ (n : Normal). length n.marks ≡ mark_room) (sym p.part_of.ensures) (part-marks a.list.now a.number))
+marks-exact-requires : tie.Need-marks_exact-requires
+marks-exact-requires c κs = let p = c in
+    let a = p.args in
+    (subst (λ (n : Normal). n.mark_count ≤ sheet_marks) (sym p.part_of-part.ensures) (part_low a.list.now a.number).marks, subst (λ (n : Normal). length n.marks ≡ mark_room) (sym p.part_of-part.ensures) (part-marks a.list.now a.number))
 
-returns-2 : tie.Need-returns-2
-returns-2 c = let p = c.before.before.before in
-    let a = p.before.before.before.before.args in
-    c.marks-exact.ensures ∙ ap (λ (n : Normal). same_list (take n.mark_count n.marks) (numbers_to a.n)) p.part_of.ensures
+returns-2 : tie.Need-returns
+returns-2 c = let p = c in
+    let a = p.args in
+    c.marks_exact.ensures ∙ ap (λ (n : Normal). same_list (take n.mark_count n.marks) (numbers_to a.n)) p.part_of-part.ensures
 
-pub is-exact-spec : {M : Type 1} → statement M
-is-exact-spec =
+pub is_exact_spec : {M : Type 1} → statement M
+is_exact_spec =
     tie.close
     (tie.spec
     mul-if1

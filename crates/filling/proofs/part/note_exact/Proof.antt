@@ -8,27 +8,27 @@ use Rattle.filling.proofs.Loops.{exacts-next}
 use Rattle.filling.proofs.part.note_exact.Statement.{statement}
 use Rattle.filling.proofs.part.note_exact.Tie as tie
 
-marks-exact-requires : tie.Need-marks-exact-requires
+marks-exact-requires : tie.Need-marks_exact-requires
 marks-exact-requires c κs = search rules
 
-add-exact : tie.Need-overflow-add-exact
+add-exact : tie.Need-overflow_add-exact
 add-exact c = search rules
 
-mul-exact : tie.Need-overflow-mul-exact
+mul-exact : tie.Need-offset_bounds-exact-number
 mul-exact c = search rules
 
-element-write-exact : tie.Need-element-write-exact
+element-write-exact : tie.Need-bounds-exact-number
 element-write-exact c = search rules
 
-returns : tie.Need-returns
-returns c = let m = c.before in
-    let a = m.before.args in
-    λ list e old. exacts-next list a.exact.now a.number a.n (ap (λ (l : List ℕ). same_list l (numbers_to a.n)) (sym e) ∙ sym m.marks-exact.ensures ∙ c.if1.true) old
+returns : tie.Need-returns-then-marks_exact
+returns c = let m = c in
+    let a = m.args in
+    λ list e old. exacts-next list a.exact.now a.number a.n (ap (λ (l : List ℕ). same_list l (numbers_to a.n)) (sym e) ∙ sym m.marks_exact.ensures ∙ c.if-marks_exact.true) old
 
-returns-2 : tie.Need-returns-2
+returns-2 : tie.Need-returns-else-marks_exact
 returns-2 c = λ list e old. old
 
-pub note-exact-spec : {M : Type 1} → statement M
-note-exact-spec =
+pub note_exact_spec : {M : Type 1} → statement M
+note_exact_spec =
     tie.close
     (tie.spec marks-exact-requires add-exact mul-exact element-write-exact returns returns-2)

@@ -19,111 +19,111 @@ use Rattle.filling.proofs.Loops.{pairs_next, pairs_end, room_twice, room-all, at
 use Rattle.filling.proofs.whole.whole_of.Statement.{statement}
 use Rattle.filling.proofs.whole.whole_of.Tie as tie
 
-abbrev invariant-loop : tie.invariant-loop
+abbrev invariant-loop : tie.invariant-loop-i
 invariant-loop count list heads head-count labels₀ exact₀ contexts whole₀ i₀ labels exact whole i = (i ≤ count) × (length contexts ≡ context_room) × FreshFrom ((i + 1) * part_room) labels × (whole.count ≤ atom_room)
     × (joined_all labels (all_pairs list (i + 1) (drop i (take count contexts))) ≡ joined_all labels₀ (all_pairs list 1 (take count contexts)))
     × (room_for (whole_atoms whole ++ context_atoms list (i + 1) (drop i (take count contexts))) ≡ room_for (whole_atoms whole₀ ++ context_atoms list 1 (take count contexts)))
     × Exacts list exact
 
-abbrev decreases-loop : tie.decreases-loop
+abbrev decreases-loop : tie.decreases-loop-i
 decreases-loop count list heads head-count labels₀ exact₀ contexts whole₀ i₀ labels exact whole i = count - i
 
-loop-holds : tie.Need-loop-init invariant-loop decreases-loop
-loop-holds c = let s = c.before in
+loop-holds : tie.Need-loop-i-init invariant-loop decreases-loop
+loop-holds c = let s = c in
     (search rules, search (rules, unmapped), fresh-own s.args.labels.now part_room (omega arith) s.requires.3, s.requires.1, refl, refl, s.requires.4)
 
-mul-context : tie.Need-overflow-mul-context invariant-loop decreases-loop
-mul-context c = omega (arith, c.before.before.before.requires.0.counted.few)
+mul-context : tie.Need-offset_bounds-contexts-i invariant-loop decreases-loop
+mul-context c = omega (arith, c.requires.0.counted.few)
 
-array-copy-out-context : tie.Need-array-copy-out-context invariant-loop decreases-loop
-array-copy-out-context c = omega (arith, c.before.before.before.requires.0.counted.few)
+array-copy-out-context : tie.Need-bounds-contexts-i invariant-loop decreases-loop
+array-copy-out-context c = omega (arith, c.requires.0.counted.few)
 
-part-of-requires : tie.Need-part-of-requires invariant-loop decreases-loop
-part-of-requires c κs = c.before.before.before.before.before.requires.2
+part-of-requires : tie.Need-part_of-part-requires invariant-loop decreases-loop
+part-of-requires c κs = c.requires.2
 
-add-with-ports : tie.Need-overflow-add-with-ports invariant-loop decreases-loop
+add-with-ports : tie.Need-overflow_add-i invariant-loop decreases-loop
 add-with-ports c = search rules
 
-cast-with-ports : tie.Need-overflow-cast-with-ports invariant-loop decreases-loop
+cast-with-ports : tie.Need-overflow_cast-context invariant-loop decreases-loop
 cast-with-ports c = search rules
 
-with-ports-requires : tie.Need-with-ports-requires invariant-loop decreases-loop
-with-ports-requires c κs = let p = c.before.before.before.before.before in
-    let l = p.before.before.before.before in
-    let s = l.before.before in
-    let x = get_or s.args.t2 l.loop.i past_contexts in (
-      (omega (arith, s.requires.0.counted.few, p.before.before.before.loop-test.true), s.requires.0.counted.count l.loop.i, fresh-more l.loop.labels ((l.loop.i + 1) * part_room) ((l.loop.i + 1 + 1) * part_room) (omega arith) (omega (arith, s.requires.0.counted.few, p.before.before.before.loop-test.true)) l.loop.invariant.2, omega arith, omega (arith, s.requires.0.counted.count l.loop.i)),
-      λ k. (s.requires.0.links l.loop.i k, subst (λ (n : Normal). get_or n.marked k 0 < part_room) (sym p.part_of.ensures) ((part_low s.args.list.now x.number).marked k)),
+with-ports-requires : tie.Need-with_ports-requires invariant-loop decreases-loop
+with-ports-requires c κs = let p = c in
+    let l = p in
+    let s = l in
+    let x = get_or s.args.contexts l.loop-i.i past_contexts in (
+      (omega (arith, s.requires.0.counted.few, p.loop-i-test.true), s.requires.0.counted.count l.loop-i.i, fresh-more l.loop-i.labels ((l.loop-i.i + 1) * part_room) ((l.loop-i.i + 1 + 1) * part_room) (omega arith) (omega (arith, s.requires.0.counted.few, p.loop-i-test.true)) l.loop-i.invariant.2, omega arith, omega (arith, s.requires.0.counted.count l.loop-i.i)),
+      λ k. (s.requires.0.links l.loop-i.i k, subst (λ (n : Normal). get_or n.marked k 0 < part_room) (sym p.part_of-part.ensures) ((part_low s.args.list.now x.number).marked k)),
     )
 
-note-exact-requires : tie.Need-note-exact-requires invariant-loop decreases-loop
-note-exact-requires c κs = let p = c.before.before.before.before.before.before.before.before.before in
-    let l = p.before.before.before.before in
-    let s = l.before.before in
-    let x = get_or s.args.t2 l.loop.i past_contexts in
-    (subst (λ (n : Normal). n.mark_count ≤ sheet_marks) (sym p.part_of.ensures) (part_low s.args.list.now x.number).marks, subst (λ (n : Normal). length n.marks ≡ mark_room) (sym p.part_of.ensures) (part-marks s.args.list.now x.number), s.requires.0.counted.number l.loop.i, s.requires.0.counted.count l.loop.i)
+note-exact-requires : tie.Need-note_exact-requires invariant-loop decreases-loop
+note-exact-requires c κs = let p = c in
+    let l = p in
+    let s = l in
+    let x = get_or s.args.contexts l.loop-i.i past_contexts in
+    (subst (λ (n : Normal). n.mark_count ≤ sheet_marks) (sym p.part_of-part.ensures) (part_low s.args.list.now x.number).marks, subst (λ (n : Normal). length n.marks ≡ mark_room) (sym p.part_of-part.ensures) (part-marks s.args.list.now x.number), s.requires.0.counted.number l.loop-i.i, s.requires.0.counted.count l.loop-i.i)
 
-add-with-part : tie.Need-overflow-add-with-part invariant-loop decreases-loop
+add-with-part : tie.Need-overflow_add-i-in-loop-i invariant-loop decreases-loop
 add-with-part c = search rules
 
-with-part-requires : tie.Need-with-part-requires invariant-loop decreases-loop
-with-part-requires c κs = let p = c.before.before.before.before.before.before.before.before.before.before.before in
-    let l = p.before.before.before.before in
-    let s = l.before.before in
-    let x = get_or s.args.t2 l.loop.i past_contexts in
+with-part-requires : tie.Need-with_part-whole-requires invariant-loop decreases-loop
+with-part-requires c κs = let p = c in
+    let l = p in
+    let s = l in
+    let x = get_or s.args.contexts l.loop-i.i past_contexts in
     let low = part_low s.args.list.now x.number in
-    (l.loop.invariant.3, omega (arith, s.requires.0.counted.few, p.before.before.before.loop-test.true), subst (λ (n : Normal). n.atom_count ≤ sheet_atom_limit) (sym p.part_of.ensures) low.atoms, subst (λ (n : Normal). (i k : ℕ) → get_or (get_or n.atoms i past_atoms).links k 0 < part_room) (sym p.part_of.ensures) low.atom_links)
+    (l.loop-i.invariant.3, omega (arith, s.requires.0.counted.few, p.loop-i-test.true), subst (λ (n : Normal). n.atom_count ≤ sheet_atom_limit) (sym p.part_of-part.ensures) low.atoms, subst (λ (n : Normal). (i k : ℕ) → get_or (get_or n.atoms i past_atoms).links k 0 < part_room) (sym p.part_of-part.ensures) low.atom_links)
 
-add-i : tie.Need-overflow-add-i invariant-loop decreases-loop
-add-i c = let t = c.before.before.before.before.before.before.before.before.before.before.before.before.before.before.before in
-    omega (arith, t.loop-test.true, t.before.before.before.requires.0.counted.few)
+add-i : tie.Need-overflow_add-i-in-loop-i-2 invariant-loop decreases-loop
+add-i c = let t = c in
+    omega (arith, t.loop-i-test.true, t.requires.0.counted.few)
 
-loop-less : tie.Need-loop-smaller invariant-loop decreases-loop
+loop-less : tie.Need-loop-i-smaller invariant-loop decreases-loop
 loop-less c = search rules
 
-loop-again : tie.Need-loop-preserved invariant-loop decreases-loop
-loop-again c = let note = c.before.before in
+loop-again : tie.Need-loop-i-preserved invariant-loop decreases-loop
+loop-again c = let note = c in
     let w = note.before.before.before.before in
     let p = w.before.before.before.before.before.before in
     let l = p.before.before.before.before in
     let s = l.before.before in
     let a = s.args in
-    let x = get_or a.t2 l.loop.i past_contexts in
-    let left = drop (l.loop.i + 1) (take a.count a.t2) in
-    let many : a.count ≤ length a.t2 = omega (arith, l.loop.invariant.1, s.requires.0.counted.few) in
-    let in-loop = p.before.before.before.loop-test.true in
-    let pairs = all_pairs a.list.now (l.loop.i + 1 + 1) left in
-    let rest = context_atoms a.list.now (l.loop.i + 1 + 1) left in
-    let W = whole_atoms l.loop.whole in
-    let P = part_atoms (l.loop.i + 1) (part_normal a.list.now x.number) in
-    let g : whole_atoms c.with_part.result ≡ room_for (W ++ P) = c.with_part.ensures.atoms ∙ ap (λ (n : Normal). room_for (W ++ part_atoms (l.loop.i + 1) n)) p.part_of.ensures in (
+    let x = get_or a.contexts l.loop-i.i past_contexts in
+    let left = drop (l.loop-i.i + 1) (take a.count a.contexts) in
+    let many : a.count ≤ length a.contexts = omega (arith, l.loop-i.invariant.1, s.requires.0.counted.few) in
+    let in-loop = p.loop-i-test.true in
+    let pairs = all_pairs a.list.now (l.loop-i.i + 1 + 1) left in
+    let rest = context_atoms a.list.now (l.loop-i.i + 1 + 1) left in
+    let W = whole_atoms l.loop-i.whole in
+    let P = part_atoms (l.loop-i.i + 1) (part_normal a.list.now x.number) in
+    let g : whole_atoms c.with_part-whole.result ≡ room_for (W ++ P) = c.with_part-whole.ensures.atoms ∙ ap (λ (n : Normal). room_for (W ++ part_atoms (l.loop-i.i + 1) n)) p.part_of-part.ensures in (
       search rules,
-      l.loop.invariant.1,
-      w.with-ports.ensures.1,
-      c.with_part.ensures.few,
-      ap (λ (m : List ℕ). joined_all m pairs) (w.with-ports.ensures.0 ∙ ap (λ (n : Normal). joined_all l.loop.labels (port_pairs (l.loop.i + 1) (take x.count x.links) (take x.count n.marked))) p.part_of.ensures)
-          ∙ sym (pairs_next a.list.now a.t2 a.count l.loop.i past_contexts l.loop.labels (l.loop.i + 1) many in-loop) ∙ l.loop.invariant.4,
+      l.loop-i.invariant.1,
+      w.with_ports.ensures.1,
+      c.with_part-whole.ensures.few,
+      ap (λ (m : List ℕ). joined_all m pairs) (w.with_ports.ensures.0 ∙ ap (λ (n : Normal). joined_all l.loop-i.labels (port_pairs (l.loop-i.i + 1) (take x.count x.links) (take x.count n.marked))) p.part_of-part.ensures)
+          ∙ sym (pairs_next a.list.now a.contexts a.count l.loop-i.i past_contexts l.loop-i.labels (l.loop-i.i + 1) many in-loop) ∙ l.loop-i.invariant.4,
       ap (λ (w : List Atom). room_for (w ++ rest)) g ∙ room_twice (W ++ P) rest ∙ ap room_for (append_assoc W P rest)
-          ∙ ap (λ (t : List Atom). room_for (W ++ t)) (sym (atoms-next a.list.now a.t2 a.count l.loop.i past_contexts (l.loop.i + 1) many in-loop)) ∙ l.loop.invariant.5,
-      note.note-exact.ensures a.list.now (ap (λ (n : Normal). take n.mark_count n.marks) p.part_of.ensures) l.loop.invariant.6,
+          ∙ ap (λ (t : List Atom). room_for (W ++ t)) (sym (atoms-next a.list.now a.contexts a.count l.loop-i.i past_contexts (l.loop-i.i + 1) many in-loop)) ∙ l.loop-i.invariant.5,
+      note.note_exact.ensures a.list.now (ap (λ (n : Normal). take n.mark_count n.marks) p.part_of-part.ensures) l.loop-i.invariant.6,
     )
 
 returns : tie.Need-returns invariant-loop decreases-loop
-returns c = let l = c.before in
-    let a = l.before.before.args in
-    let W = whole_atoms l.loop.whole in (
-      l.loop.invariant.6,
+returns c = let l = c in
+    let a = l.args in
+    let W = whole_atoms l.loop-i.whole in (
+      l.loop-i.invariant.6,
       record {
-        atoms = sym (room-all W (omega (arith, length-take l.loop.whole.count l.loop.whole.atoms, l.loop.invariant.3))) ∙ ap room_for (sym (append-nil W))
-            ∙ ap (λ (t : List Atom). room_for (W ++ t)) (sym (atoms-end a.list.now a.t2 a.count l.loop.i past_contexts (l.loop.i + 1) c.loop-test.false))
-            ∙ l.loop.invariant.5;
-        few = l.loop.invariant.3;
-        labels = sym (pairs_end a.list.now a.t2 a.count l.loop.i past_contexts l.loop.labels (l.loop.i + 1) c.loop-test.false) ∙ l.loop.invariant.4;
+        atoms = sym (room-all W (omega (arith, length-take l.loop-i.whole.count l.loop-i.whole.atoms, l.loop-i.invariant.3))) ∙ ap room_for (sym (append-nil W))
+            ∙ ap (λ (t : List Atom). room_for (W ++ t)) (sym (atoms-end a.list.now a.contexts a.count l.loop-i.i past_contexts (l.loop-i.i + 1) c.loop-i-test.false))
+            ∙ l.loop-i.invariant.5;
+        few = l.loop-i.invariant.3;
+        labels = sym (pairs_end a.list.now a.contexts a.count l.loop-i.i past_contexts l.loop-i.labels (l.loop-i.i + 1) c.loop-i-test.false) ∙ l.loop-i.invariant.4;
       },
     )
 
-pub whole-of-spec : {M : Type 1} → statement M
-whole-of-spec =
+pub whole_of_spec : {M : Type 1} → statement M
+whole_of_spec =
     tie.close
     (tie.spec
     invariant-loop

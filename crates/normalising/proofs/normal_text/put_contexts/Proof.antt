@@ -12,64 +12,64 @@ use borrow.Author.Rules.{rules}
 use Rattle.normalising.proofs.normal_text.put_contexts.Statement.{statement}
 use Rattle.normalising.proofs.normal_text.put_contexts.Tie as tie
 
-abbrev invariant-loop : tie.invariant-loop
+abbrev invariant-loop : tie.invariant-loop-k
 invariant-loop count out₀ at contexts k₀ out k = (k ≤ count) × (length out ≡ length out₀) × (out ≡ over out₀ at (rows_to (context_row_in contexts) k) (k * row_width))
 
-abbrev decreases-loop : tie.decreases-loop
+abbrev decreases-loop : tie.decreases-loop-k
 decreases-loop count out₀ at contexts k₀ out k = count - k
 
-loop-holds : tie.Need-loop-init invariant-loop decreases-loop
+loop-holds : tie.Need-loop-k-init invariant-loop decreases-loop
 unfolding rows_to
-loop-holds c = (omega arith, refl, over_none c.before.args.out.now c.before.args.at)
+loop-holds c = (omega arith, refl, over_none c.args.out.now c.args.at)
 
-mul-context : tie.Need-overflow-mul-context invariant-loop decreases-loop
+mul-context : tie.Need-offset_bounds-contexts-k invariant-loop decreases-loop
 mul-context c = search rules
 
-array-copy-out-context : tie.Need-array-copy-out-context invariant-loop decreases-loop
+array-copy-out-context : tie.Need-bounds-contexts-k invariant-loop decreases-loop
 array-copy-out-context c = search rules
 
-mul-put-linked : tie.Need-overflow-mul-put-linked invariant-loop decreases-loop
+mul-put-linked : tie.Need-overflow_mul-k invariant-loop decreases-loop
 mul-put-linked c = search rules
 
-add-put-linked : tie.Need-overflow-add-put-linked invariant-loop decreases-loop
+add-put-linked : tie.Need-overflow_add-at invariant-loop decreases-loop
 add-put-linked c = search rules
 
-put-linked-requires : tie.Need-put-linked-requires invariant-loop decreases-loop
-put-linked-requires c κs = let l = c.before.before.before.before in
-    let s = l.before.before in
-    (omega (arith, l.loop.invariant.1, s.requires.1), s.requires.0.1 l.loop.k c.before.before.before.loop-test.true)
+put-linked-requires : tie.Need-put_linked-requires invariant-loop decreases-loop
+put-linked-requires c κs = let l = c in
+    let s = l in
+    (omega (arith, l.loop-k.invariant.1, s.requires.1), s.requires.0.1 l.loop-k.k c.loop-k-test.true)
 
-add-k : tie.Need-overflow-add-k invariant-loop decreases-loop
+add-k : tie.Need-overflow_add-k invariant-loop decreases-loop
 add-k c = search rules
 
-loop-less : tie.Need-loop-smaller invariant-loop decreases-loop
+loop-less : tie.Need-loop-k-smaller invariant-loop decreases-loop
 loop-less c = search rules
 
-loop-again : tie.Need-loop-preserved invariant-loop decreases-loop
-loop-again c = let p = c.before.before.put_linked in
-    let l = c.before.before.before.before.before.before.before in
-    let s = l.before.before in (
+loop-again : tie.Need-loop-k-preserved invariant-loop decreases-loop
+loop-again c = let p = c.put_linked in
+    let l = c in
+    let s = l in (
       omega arith,
-      p.auto.0 ∙ l.loop.invariant.1,
-      rows-put (context_row_in s.args.t1) (context-width s.args.t1) s.args.out.now p.new.0 s.args.at l.loop.k (omega (arith, s.requires.1)) (rw l.loop.invariant.2 at p.ensures),
+      p.auto.out ∙ l.loop-k.invariant.1,
+      rows-put (context_row_in s.args.contexts) (context-width s.args.contexts) s.args.out.now p.new.out s.args.at l.loop-k.k (omega (arith, s.requires.1)) (rw l.loop-k.invariant.2 at p.ensures),
     )
 
-mul-result : tie.Need-overflow-mul-result invariant-loop decreases-loop
+mul-result : tie.Need-overflow_mul-result invariant-loop decreases-loop
 mul-result c = search rules
 
-add-result : tie.Need-overflow-add-result invariant-loop decreases-loop
+add-result : tie.Need-overflow_add-result invariant-loop decreases-loop
 add-result c = search rules
 
-same_length : tie.Need-same-length invariant-loop decreases-loop
+same_length : tie.Need-shape_of-out invariant-loop decreases-loop
 same_length c = search rules
 
 returns : tie.Need-returns invariant-loop decreases-loop
-returns c = let l = c.before.loop in
-    let e : l.k ≡ c.before.before.before.args.count = omega arith in
+returns c = let l = c.loop-k in
+    let e : l.k ≡ c.args.count = omega arith in
     (omega arith, rw e at l.invariant.2)
 
-pub put-contexts-spec : {M : Type 1} → statement M
-put-contexts-spec =
+pub put_contexts_spec : {M : Type 1} → statement M
+put_contexts_spec =
     tie.close
     (tie.spec
     invariant-loop

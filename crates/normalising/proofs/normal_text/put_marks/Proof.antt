@@ -12,70 +12,70 @@ use borrow.Author.Rules.{rules}
 use Rattle.normalising.proofs.normal_text.put_marks.Statement.{statement}
 use Rattle.normalising.proofs.normal_text.put_marks.Tie as tie
 
-abbrev invariant-loop : tie.invariant-loop
+abbrev invariant-loop : tie.invariant-loop-k
 invariant-loop count out₀ at marked marks k₀ out k = (k ≤ count) × (length out ≡ length out₀) × (out ≡ over out₀ at (rows_to (mark_row_in marked marks) k) (k * row_width))
 
-abbrev decreases-loop : tie.decreases-loop
+abbrev decreases-loop : tie.decreases-loop-k
 decreases-loop count out₀ at marked marks k₀ out k = count - k
 
-loop-holds : tie.Need-loop-init invariant-loop decreases-loop
+loop-holds : tie.Need-loop-k-init invariant-loop decreases-loop
 unfolding rows_to
-loop-holds c = (omega arith, refl, over_none c.before.args.out.now c.before.args.at)
+loop-holds c = (omega arith, refl, over_none c.args.out.now c.args.at)
 
-mul-put-mark : tie.Need-overflow-mul-put-mark invariant-loop decreases-loop
+mul-put-mark : tie.Need-overflow_mul-k invariant-loop decreases-loop
 mul-put-mark c = search rules
 
-add-put-mark : tie.Need-overflow-add-put-mark invariant-loop decreases-loop
+add-put-mark : tie.Need-overflow_add-at invariant-loop decreases-loop
 add-put-mark c = search rules
 
-mul-put-mark-2 : tie.Need-overflow-mul-put-mark-2 invariant-loop decreases-loop
+mul-put-mark-2 : tie.Need-offset_bounds-marked-k invariant-loop decreases-loop
 mul-put-mark-2 c = search rules
 
-array-read-put-mark : tie.Need-array-read-put-mark invariant-loop decreases-loop
+array-read-put-mark : tie.Need-bounds-marked-k invariant-loop decreases-loop
 array-read-put-mark c = search rules
 
-mul-put-mark-3 : tie.Need-overflow-mul-put-mark-3 invariant-loop decreases-loop
+mul-put-mark-3 : tie.Need-offset_bounds-marks-k invariant-loop decreases-loop
 mul-put-mark-3 c = search rules
 
-array-read-put-mark-2 : tie.Need-array-read-put-mark-2 invariant-loop decreases-loop
+array-read-put-mark-2 : tie.Need-bounds-marks-k invariant-loop decreases-loop
 array-read-put-mark-2 c = search rules
 
-put-mark-requires : tie.Need-put-mark-requires invariant-loop decreases-loop
-put-mark-requires c κs = let l = c.before.before in
-    let s = l.before.before in
-    (omega (arith, l.loop.invariant.1, s.requires.1), s.requires.0.1 l.loop.k c.before.loop-test.true)
+put-mark-requires : tie.Need-put_mark-requires invariant-loop decreases-loop
+put-mark-requires c κs = let l = c in
+    let s = l in
+    (omega (arith, l.loop-k.invariant.1, s.requires.1), s.requires.0.1 l.loop-k.k c.loop-k-test.true)
 
-add-k : tie.Need-overflow-add-k invariant-loop decreases-loop
+add-k : tie.Need-overflow_add-k invariant-loop decreases-loop
 add-k c = search rules
 
-loop-less : tie.Need-loop-smaller invariant-loop decreases-loop
+loop-less : tie.Need-loop-k-smaller invariant-loop decreases-loop
 loop-less c = search rules
 
-loop-again : tie.Need-loop-preserved invariant-loop decreases-loop
-loop-again c = let p = c.before.before.put-mark in
-    let l = c.before.before.before.before.before in
-    let s = l.before.before in (
+loop-again : tie.Need-loop-k-preserved invariant-loop decreases-loop
+loop-again c = let p = c.put_mark in
+    let l = c in
+    let s = l in (
       omega arith,
-      p.auto.0 ∙ l.loop.invariant.1,
-      rows-put (mark_row_in s.args.t1 s.args.t2) (mark-width s.args.t1 s.args.t2) s.args.out.now p.new.0 s.args.at l.loop.k (omega (arith, s.requires.1)) (rw l.loop.invariant.2 at p.ensures),
+      p.auto.out ∙ l.loop-k.invariant.1,
+      rows-put (mark_row_in s.args.marked s.args.marks) (mark-width s.args.marked s.args.marks) s.args.out.now p.new.out s.args.at l.loop-k.k (omega (arith, s.requires.1)) (rw l.loop-k.invariant.2 at p.ensures),
     )
 
-mul-result : tie.Need-overflow-mul-result invariant-loop decreases-loop
+mul-result : tie.Need-overflow_mul-result invariant-loop decreases-loop
 mul-result c = search rules
 
-add-result : tie.Need-overflow-add-result invariant-loop decreases-loop
+add-result : tie.Need-overflow_add-result invariant-loop decreases-loop
 add-result c = search rules
 
-same_length : tie.Need-same-length invariant-loop decreases-loop
+same_length : tie.Need-shape_of-out invariant-loop decreases-loop
 same_length c = search rules
 
 returns : tie.Need-returns invariant-loop decreases-loop
-returns c = let l = c.before.loop in
-    let e : l.k ≡ c.before.before.before.args.count = omega arith in
+returns c = let l = c.loop-k in
+    let e : l.k ≡ c.args.count = omega arith in
     (omega arith, rw e at l.invariant.2)
 
-pub put-marks-spec : {M : Type 1} → statement M
-put-marks-spec =
+pub put_marks_spec : {M : Type 1} → statement M
+put_marks_spec =
     tie.close
     (tie.spec
     invariant-loop

@@ -11,50 +11,49 @@ use borrow.Author.Rules.{rules}
 use Rattle.normalising.proofs.normalise.normalise.Statement.{statement}
 use Rattle.normalising.proofs.normalise.normalise.Tie as tie
 
-returns : tie.Need-returns
-returns c = let s = c.before.before.before in
-    slip-short s.args.kind s.args.text.now s.args.out.now c.if1.true
+returns : tie.Need-returns-then-out-lt-SLIP
+returns c = let s = c in
+    slip-short s.args.kind s.args.text.now s.args.out.now c.if-out-lt-SLIP.true
 
-read-text-requires : tie.Need-read-text-requires
+read-text-requires : tie.Need-read_text-reading-requires
 read-text-requires c κs = search rules
 
-enum_told : tie.Need-enum-told
+enum_told : tie.Need-enum_told-1
 enum_told c = search rules
 
 -- what was read is a sheet or a figure, so this is its normal form
-normal : (r : tie.After-read-text) → let a = r.before.before.before.before.args in r.read-text.result.normal ≡ packed_normal (outcome_of a.kind no_ports a.text.now).held
-normal r = let s = r.before.before.before.before in
-    ap (λ (x : Reading). x.normal) (r.read-text.ensures ∙ sheet-read s.args.kind no_ports s.args.text.now s.requires)
+normal : (r : tie.After-read_text-reading) → let a = r.args in r.read_text-reading.result.normal ≡ packed_normal (outcome_of a.kind no_ports a.text.now).held
+normal r = let s = r in
+    ap (λ (x : Reading). x.normal) (r.read_text-reading.ensures ∙ sheet-read s.args.kind no_ports s.args.text.now s.requires)
 
-write-normal-requires : tie.Need-write-normal-requires
-write-normal-requires c κs = let r = c.before.before.before.before in
-    let s = r.before.before.before.before in
-    let w = read-writable s.args.kind s.args.text.now s.requires r.read-text.result.normal (normal r) in
-    (w.0, omega (arith, w.1, r.before.if1.false))
+write-normal-requires : tie.Need-write_normal-bytes-requires
+write-normal-requires c κs = let r = c in
+    let s = r in
+    let w = read-writable s.args.kind s.args.text.now s.requires r.read_text-reading.result.normal (normal r.before.before.before) in
+    (w.0, omega (arith, w.1, r.if-out-lt-SLIP.false))
 
-enum-known-answer : tie.Need-enum-known-answer
+enum-known-answer : tie.Need-enum_known-answer
 enum-known-answer c = search rules
 
-same_length : tie.Need-same-length
+same_length : tie.Need-shape_of-out
 same_length c = search rules
 
-returns-2 : tie.Need-returns-2
-returns-2 c = let w = c.before.before in
-    let r = w.before.before.before.before.before in
-    let a = r.before.before.before.before.args in
-    let p = sym (ap (λ (x : Reading). x.answer) r.read-text.ensures) ∙ w.before.before.before.enum_told.given.1 in
-    let t = slip-written a.kind a.text.now a.out.now r.before.if1.false p r.read-text.result.normal (normal r) in
-    (ap Written w.write-normal.ensures.0 ∙ t.0, w.write-normal.ensures.1 ∙ t.1)
+returns-2 : tie.Need-returns-in-Passed
+returns-2 c = let w = c in
+    let r = w in
+    let a = r.args in
+    let p = sym (ap (λ (x : Reading). x.answer) r.read_text-reading.ensures) ∙ w.in-Passed.is in
+    let t = slip-written a.kind a.text.now a.out.now r.if-out-lt-SLIP.false p r.read_text-reading.result.normal (normal r.before.before.before.before.before.before) in
+    (ap Written w.write_normal-bytes.ensures.0 ∙ t.0, w.write_normal-bytes.ensures.1 ∙ t.1)
 
-returns-3 : tie.Need-returns-3
-returns-3 c = let a = c.before.answer.given in
-    let r = c.before.before.before in
-    let s = r.before.before.before.before in
-    let p = sym (ap (λ (x : Reading). x.answer) r.read-text.ensures) ∙ a.1 in
-    slip-refused s.args.kind s.args.text.now s.args.out.now r.before.if1.false a.0.0 a.0.1.0 p
+returns-3 : tie.Need-returns-in-Refused
+returns-3 c = let r = c in
+    let s = r in
+    let p = sym (ap (λ (x : Reading). x.answer) r.read_text-reading.ensures) ∙ c.in-Refused.is in
+    slip-refused s.args.kind s.args.text.now s.args.out.now r.if-out-lt-SLIP.false c.in-Refused.why c.in-Refused.row p
 
-pub normalise-spec : {M : Type 1} → statement M
-normalise-spec =
+pub normalise_spec : {M : Type 1} → statement M
+normalise_spec =
     tie.close
     (tie.spec
     returns

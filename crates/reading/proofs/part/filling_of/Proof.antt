@@ -9,38 +9,38 @@ use Rattle.reading.proofs.part.ListRead.{heads-read}
 use Rattle.reading.proofs.part.filling_of.Statement.{statement}
 use Rattle.reading.proofs.part.filling_of.Tie as tie
 
-read-list-requires : tie.Need-read-list-requires
+read-list-requires : tie.Need-read_list-reading-requires
 read-list-requires c κs = search rules
 
-enum_told : tie.Need-enum-told
+enum_told : tie.Need-enum_told-1
 enum_told c = search rules
 
-part-for-requires : tie.Need-part-for-requires
-part-for-requires c κs = let r = c.before.before.before in
-    heads-read r.before.before.args.list.now r.read-list.result r.read-list.ensures c.before.enum_told.given.1
+part-for-requires : tie.Need-part_for-requires
+part-for-requires c κs = let r = c in
+    heads-read r.args.list.now r.read_list-reading.result r.read_list-reading.ensures c.in-Passed.is
 
-enum-told-2 : tie.Need-enum-told-2
+enum-told-2 : tie.Need-enum_told-in-Refused
 enum-told-2 c = search rules
 
-sub-result : tie.Need-overflow-sub-result
+sub-result : tie.Need-slice_bounds-result-count
 sub-result c = search rules
 
-part-result-start : tie.Need-slice-bounds-result-start
+part-result-start : tie.Need-slice_bounds-result-start
 part-result-start c = search rules
 
-part-result-end : tie.Need-slice-bounds-result-end
+part-result-end : tie.Need-slice_bounds-result-end
 part-result-end c = search rules
 
-returns : tie.Need-returns
+returns : tie.Need-returns-in-Passed
 returns c = search rules
 
-returns-2 : tie.Need-returns-2
-returns-2 c = let r = c.before.before.before in
-    let a = r.before.before.args in
-    sym (filling-by a.list.now a.number false (ap is_passed (sym (ap (λ (x : Reading). x.answer) r.read-list.ensures) ∙ c.before.enum-told2.given.1)))
+returns-2 : tie.Need-returns-in-Refused
+returns-2 c = let r = c in
+    let a = r.args in
+    sym (filling-by a.list.now a.number false (ap is_passed (sym (ap (λ (x : Reading). x.answer) r.read_list-reading.ensures) ∙ c.in-Refused.is)))
 
-pub filling-of-spec : {M : Type 1} → statement M
-filling-of-spec =
+pub filling_of_spec : {M : Type 1} → statement M
+filling_of_spec =
     tie.close
     (tie.spec
     read-list-requires

@@ -5,12 +5,12 @@ use Rattle.reading.proofs.normal.NormalReady.{sheet-read}
 use Rattle.reading.proofs.read.read_replacement.Statement.{statement}
 use Rattle.reading.proofs.read.read_replacement.Tie as tie
 
-read-text-requires : tie.Need-read-text-requires
+read-text-requires : tie.Need-read_text-requires
 read-text-requires c κs = search rules
 
 returns : tie.Need-returns
-returns c = let a = c.before.before.args in
-    c.read-text.ensures ∙ sheet-read Replacement a.pattern a.text.now refl
+returns c = let a = c.args in
+    c.read_text.ensures ∙ sheet-read Replacement a.pattern a.text.now refl
 
-pub read-replacement-spec : {M : Type 1} → statement M
-read-replacement-spec = tie.close (tie.spec read-text-requires returns)
+pub read_replacement_spec : {M : Type 1} → statement M
+read_replacement_spec = tie.close (tie.spec read-text-requires returns)

@@ -6,12 +6,12 @@ use Rattle.reading.proofs.normal.NormalReady.{sheet-read}
 use Rattle.reading.proofs.read.read_sheet.Statement.{statement}
 use Rattle.reading.proofs.read.read_sheet.Tie as tie
 
-read-text-requires : tie.Need-read-text-requires
+read-text-requires : tie.Need-read_text-requires
 read-text-requires c κs = search rules
 
 returns : tie.Need-returns
-returns c = let a = c.before.before.args in
-    c.read-text.ensures ∙ sheet-read Plain no_ports a.text.now refl
+returns c = let a = c.args in
+    c.read_text.ensures ∙ sheet-read Plain no_ports a.text.now refl
 
-pub read-sheet-spec : {M : Type 1} → statement M
-read-sheet-spec = tie.close (tie.spec read-text-requires returns)
+pub read_sheet_spec : {M : Type 1} → statement M
+read_sheet_spec = tie.close (tie.spec read-text-requires returns)

@@ -11,5 +11,5 @@ returns : tie.Need-returns
 unfolding padded ports_of with_classes atom_labels context_labels sorted_into
 returns c = rw c.empty.ensures
 
-pub turned-down-spec : {M : Type 1} → statement M
-turned-down-spec = tie.close (tie.spec empty-requires returns)
+pub turned_down_spec : {M : Type 1} → statement M
+turned_down_spec = tie.close (tie.spec empty-requires returns)

@@ -10,71 +10,71 @@ use Rattle.rowwise.proofs.SameNets.{identical-placed}
 use Rattle.rowwise.proofs.identical.identical.Statement.{statement}
 use Rattle.rowwise.proofs.identical.identical.Tie as tie
 
-abbrev invariant-loop : tie.invariant-loop
+abbrev invariant-loop : tie.invariant-loop-i
 invariant-loop a b i₀ i = (i ≤ a.atom_count) × ((h : ℕ) → h < i → atom_in (atom_at a h) ≡ atom_in (atom_at b h))
 
-abbrev decreases-loop : tie.decreases-loop
+abbrev decreases-loop : tie.decreases-loop-i
 decreases-loop a b i₀ i = a.atom_count - i
 
-same-counts-requires : tie.Need-same-counts-requires invariant-loop decreases-loop
+same-counts-requires : tie.Need-same_counts-requires invariant-loop decreases-loop
 same-counts-requires c κs = search rules
 
-returns : tie.Need-returns invariant-loop decreases-loop
+returns : tie.Need-returns-then-not-same_counts invariant-loop decreases-loop
 returns c e = absurd (let z : ◌≡◌ {A = ℕ} 0 1 = cc in omega arith)
 
-same-marks-requires : tie.Need-same-marks-requires invariant-loop decreases-loop
-same-marks-requires c κs = let r = c.before.before.before.before.before.before.requires in (r.sheet-fit.mark-count, r.figure-fit.mark-count, r.sheet-fit.mark-room, r.figure-fit.mark-room)
+same-marks-requires : tie.Need-same_marks-requires invariant-loop decreases-loop
+same-marks-requires c κs = let r = c.requires in (r.sheet-fit.mark-count, r.figure-fit.mark-count, r.sheet-fit.mark-room, r.figure-fit.mark-room)
 
-returns-2 : tie.Need-returns-2 invariant-loop decreases-loop
+returns-2 : tie.Need-returns-then-not-same_marks invariant-loop decreases-loop
 returns-2 c e = absurd (let z : ◌≡◌ {A = ℕ} 0 1 = cc in omega arith)
 
-same-marks-requires-2 : tie.Need-same-marks-requires-2 invariant-loop decreases-loop
-same-marks-requires-2 c κs = let r = c.before.before.before.before.before.before.before.before.before.before.before.before.requires in (r.sheet-fit.mark-count, r.figure-fit.mark-count, r.sheet-fit.marked-room, r.figure-fit.marked-room)
+same-marks-requires-2 : tie.Need-same_marks-requires-2 invariant-loop decreases-loop
+same-marks-requires-2 c κs = let r = c.requires in (r.sheet-fit.mark-count, r.figure-fit.mark-count, r.sheet-fit.marked-room, r.figure-fit.marked-room)
 
-returns-3 : tie.Need-returns-3 invariant-loop decreases-loop
+returns-3 : tie.Need-returns-then-not-same_marks-2 invariant-loop decreases-loop
 returns-3 c e = absurd (let z : ◌≡◌ {A = ℕ} 0 1 = cc in omega arith)
 
-loop-holds : tie.Need-loop-init invariant-loop decreases-loop
+loop-holds : tie.Need-loop-i-init invariant-loop decreases-loop
 loop-holds c = (omega arith, λ h q. absurd (omega arith))
 
-mul-same-atom : tie.Need-overflow-mul-same-atom invariant-loop decreases-loop
-mul-same-atom c = omega (arith, c.loop-test.true, c.before.before.before.before.before.before.before.before.before.before.before.before.before.before.before.before.requires.sheet-fit.atom-count)
+mul-same-atom : tie.Need-offset_bounds-a-i invariant-loop decreases-loop
+mul-same-atom c = omega (arith, c.loop-i-test.true, c.requires.sheet-fit.atom-count)
 
-element-copy-out-same-atom : tie.Need-element-copy-out-same-atom invariant-loop decreases-loop
-element-copy-out-same-atom c = omega (arith, c.loop-test.true, c.before.before.before.before.before.before.before.before.before.before.before.before.before.before.before.before.requires.sheet-fit.atom-count)
+element-copy-out-same-atom : tie.Need-bounds-a-i invariant-loop decreases-loop
+element-copy-out-same-atom c = omega (arith, c.loop-i-test.true, c.requires.sheet-fit.atom-count)
 
-mul-same-atom-2 : tie.Need-overflow-mul-same-atom-2 invariant-loop decreases-loop
-mul-same-atom-2 c = let n = c.before.before.before.before.before.before.before.before.before.before.before.before.before.before.before.before.before in let f = c.before in omega (arith, f.loop-test.true, n.requires.sheet-fit.atom-count)
+mul-same-atom-2 : tie.Need-offset_bounds-b-i invariant-loop decreases-loop
+mul-same-atom-2 c = let n = c in let f = c in omega (arith, f.loop-i-test.true, n.requires.sheet-fit.atom-count)
 
-element-copy-out-same-atom-2 : tie.Need-element-copy-out-same-atom-2 invariant-loop decreases-loop
-element-copy-out-same-atom-2 c = let n = c.before.before.before.before.before.before.before.before.before.before.before.before.before.before.before.before.before in let f = c.before in omega (arith, f.loop-test.true, n.requires.sheet-fit.atom-count)
+element-copy-out-same-atom-2 : tie.Need-bounds-b-i invariant-loop decreases-loop
+element-copy-out-same-atom-2 c = let n = c in let f = c in omega (arith, f.loop-i-test.true, n.requires.sheet-fit.atom-count)
 
-same-atom-requires : tie.Need-same-atom-requires invariant-loop decreases-loop
-same-atom-requires c κs = let l = c.before.before.before in (l.before.before.before.before.before.before.before.before.before.before.before.before.before.before.before.requires.sheet-fit.atoms l.loop.i c.before.before.loop-test.true).few
+same-atom-requires : tie.Need-same_atom-requires invariant-loop decreases-loop
+same-atom-requires c κs = let l = c in (l.requires.sheet-fit.atoms l.loop-i.i c.loop-i-test.true).few
 
-returns-4 : tie.Need-returns-4 invariant-loop decreases-loop
+returns-4 : tie.Need-returns-then-not-same_atom invariant-loop decreases-loop
 returns-4 c e = absurd (let z : ◌≡◌ {A = ℕ} 0 1 = cc in omega arith)
 
-add-i : tie.Need-overflow-add-i invariant-loop decreases-loop
-add-i c = omega (arith, c.before.before.before.before.loop-test.true, c.before.before.before.before.before.before.before.before.before.before.before.before.before.before.before.before.before.before.before.before.requires.sheet-fit.atom-count)
+add-i : tie.Need-overflow_add-i invariant-loop decreases-loop
+add-i c = omega (arith, c.loop-i-test.true, c.requires.sheet-fit.atom-count)
 
-loop-less : tie.Need-loop-smaller invariant-loop decreases-loop
-loop-less c = omega (arith, c.before.before.before.before.loop-test.true)
+loop-less : tie.Need-loop-i-smaller invariant-loop decreases-loop
+loop-less c = omega (arith, c.loop-i-test.true)
 
-loop-again : tie.Need-loop-preserved invariant-loop decreases-loop
-loop-again c = let l = c.before.before.before.before.before in
-    let a = l.before.before.before.before.before.before.before.before.before.before.before.before.before.before.before.args in
-    (omega (arith, c.before.before.before.before.loop-test.true), below_more (λ (h : ℕ). atom_in (atom_at a.t1 h) ≡ atom_in (atom_at a.t2 h)) l.loop.i l.loop.invariant.1 (c.before.same-atom.ensures (not-false _ c.if4.false)))
+loop-again : tie.Need-loop-i-preserved invariant-loop decreases-loop
+loop-again c = let l = c in
+    let a = l.args in
+    (omega (arith, c.loop-i-test.true), below_more (λ (h : ℕ). atom_in (atom_at a.a h) ≡ atom_in (atom_at a.b h)) l.loop-i.i l.loop-i.invariant.1 (c.same_atom.ensures (not-false _ c.if-not-same_atom.false-raw)))
 
-returns-5 : tie.Need-returns-5 invariant-loop decreases-loop
-returns-5 c = let l = c.before in
-    let b = l.before.before.before.before.before.before.before.before.before.before.before.before.before.before.before in
-    let n = l.before.before.before.before.before.before.before.before.before.before.before.before.before.before.same-counts.ensures (not-false _ l.before.before.before.before.before.before.before.before.before.before.before.before.before.if1.false) in
-    λ e. identical-placed b.args.t1 b.args.t2 b.requires n.0 n.1 n.2 n.3 (sym l.before.before.before.before.before.before.before.before.same-marks.ensures ∙ not-false _ l.before.before.before.before.before.before.before.if2.false) (sym l.before.before.same-marks2.ensures ∙ not-false _ l.before.if3.false)
-    (λ i h. l.loop.invariant.1 i (omega (arith, h, c.loop-test.false)))
+returns-5 : tie.Need-returns invariant-loop decreases-loop
+returns-5 c = let l = c in
+    let b = l in
+    let n = l.same_counts.ensures (not-false _ l.if-not-same_counts.false-raw) in
+    λ e. identical-placed b.args.a b.args.b b.requires n.0 n.1 n.2 n.3 (sym l.same_marks.ensures ∙ not-false _ l.if-not-same_marks.false-raw) (sym l.same_marks-2.ensures ∙ not-false _ l.if-not-same_marks-2.false-raw)
+    (λ i h. l.loop-i.invariant.1 i (omega (arith, h, c.loop-i-test.false)))
 
-pub identical-spec : {M : Type 1} → statement M
-identical-spec =
+pub identical_spec : {M : Type 1} → statement M
+identical_spec =
     tie.close
     (tie.spec
     invariant-loop
