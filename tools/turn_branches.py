@@ -29,6 +29,18 @@ def joins(lts):
     return out
 
 
+def closing(text, m):
+    """Where the body of a lambda ends: at the bracket that closes the one in front of it."""
+    if text[m.start() - 1:m.start()] != "(":
+        return len(text)
+    depth = 1
+    for at in range(m.end(), len(text)):
+        depth += (text[at] == "(") - (text[at] == ")")
+        if depth == 0:
+            return at
+    return len(text)
+
+
 def declarations(text):
     parts = re.split(r"(?m)^(?=\S)", text)
     return parts
@@ -65,7 +77,8 @@ def main(crate, names, generated):
                 continue
             lambdas = []
             for m in re.finditer(r"λ (\w+)( \w+)*\.", part):
-                if re.search(r"(?<![\w.])" + m.group(1) + r"\.(\d|taken|left|true|false|result|ensures)", part[m.end():]) and "⊎_elim" in part[:m.start()]:
+                body = part[m.end():closing(part, m)]
+                if re.search(r"(?<![\w.])" + m.group(1) + r"\.(\d|taken|left|true|false|result|ensures)", body) and "⊎_elim" in part[:m.start()]:
                     lambdas.append(m)
             wanted = []
             for s in steps:
@@ -84,7 +97,7 @@ def main(crate, names, generated):
             for k, m in enumerate(lambdas):
                 pieces.append(part[at:m.end()])
                 at = m.end()
-                end = lambdas[k + 1].start() if k + 1 < len(lambdas) else len(part)
+                end = closing(part, m)
                 body = part[at:end]
 
                 def name(n, fields=flat[k], var=m.group(1)):

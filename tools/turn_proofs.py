@@ -257,7 +257,12 @@ def turn(text, names, missing):
             return m.group(0)
         return m.group(1) + name
 
-    text = re.sub(r"((?:args)?\.)([a-z]\w*(?:-\w+)+)(?![\w'-])", from_code, text)
+    parts = re.split(r"(?m)^(?=(?:abbrev |pub |unfoldable )*\S+ :)", text)
+    for k, part in enumerate(parts):
+        for m in re.finditer(r"let (" + WORD + r") = [^\n=]*?\.args in", part):
+            part = re.sub(r"(?<![\w.'])(" + re.escape(m.group(1)) + r"\.)([a-z]\w*(?:-\w+)+)(?![\w'-])", lambda n: n.group(1) + (n.group(2).replace("-", "_") if n.group(2).replace("-", "_") in RUST else n.group(2)), part)
+        parts[k] = re.sub(r"((?:args)?\.)([a-z]\w*(?:-\w+)+)(?![\w'-])", from_code, part)
+    text = "".join(parts)
     return text.replace(".branch", ".branch-raw") if ".branch-raw" not in text else text
 
 

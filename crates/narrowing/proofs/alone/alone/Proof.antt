@@ -29,20 +29,20 @@ module _ (a b : List ℕ) (i : ℕ) (same : length b ≡ length a) (t : ℕ) (he
       go (no d) = subst (λ (w : ℕ). In w u) (sym (get_or-set_other b i j (get_or a i 0) 0 d)) (s j u h m (λ q. d (f (λ v w. only v w ∙ sym (only u q)))))
 
 -- where nothing is left but the first
-single : (c : tie.After-strip) (u : ℕ) → AtomIn c.before.before.before.before.before.before.before.before.before.before.before.before.before.before.args.atoms.now c.before.before.before.before.before.before.before.before.before.before.before.before.before.before.args.i u → u ≡ c.before.before.before.before.before.before.before.before.before.before.before.first.result
-single c u m = go (in-dec c.before.before.before.before.before.before.before.before.before.before.one.result u)
+single : (c : tie.After-strip) (u : ℕ) → AtomIn c.args.atoms.now c.args.i u → u ≡ c.first.result
+single c u m = go (in-dec c.one.result u)
   where
-    go : Dec (In c.before.before.before.before.before.before.before.before.before.before.one.result u) → u ≡ c.before.before.before.before.before.before.before.before.before.before.before.first.result
-    go (yes q) = alone-only _ _ c.before.before.before.before.before.before.before.before.before.before.one.ensures u q
-    go (no n) = absurd (none_in u (subst (λ (w : ℕ). In w u) c.before.before.before.before.before.before.before.before.if2.false (in-fewer _ _ _ c.before.before.before.before.before.before.before.before.before.minus.ensures u m n)))
+    go : Dec (In c.one.result u) → u ≡ c.first.result
+    go (yes q) = alone-only _ _ c.one.ensures u q
+    go (no n) = absurd (none_in u (subst (λ (w : ℕ). In w u) c.if-minus-ne0.false (in-fewer _ _ _ c.minus.ensures u m n)))
 
-mul-row : tie.Need-overflow-mul-row
+mul-row : tie.Need-offset_bounds-atoms-i
 mul-row c = search rules
 
-element-copy-out-row : tie.Need-element-copy-out-row
+element-copy-out-row : tie.Need-bounds-atoms-i
 element-copy-out-row c = search rules
 
-returns : tie.Need-returns
+returns : tie.Need-returns-then-row-eq0
 returns c = search rules
 
 first-requires : tie.Need-first-requires
@@ -54,7 +54,7 @@ one-requires c κs = search rules
 minus-requires : tie.Need-minus-requires
 minus-requires c κs = search rules
 
-returns-2 : tie.Need-returns-2
+returns-2 : tie.Need-returns-then-minus-ne0
 returns-2 c = search rules
 
 holders-requires : tie.Need-holders-requires
@@ -63,35 +63,35 @@ holders-requires c κs = search rules
 one-requires-2 : tie.Need-one-requires-2
 one-requires-2 c κs = search rules
 
-minus-requires-2 : tie.Need-minus-requires-2
+minus-requires-2 : tie.Need-minus-others-requires
 minus-requires-2 c κs = search rules
 
 strip-requires : tie.Need-strip-requires
 strip-requires c κs = search rules
 
-mul-atoms : tie.Need-overflow-mul-atoms
+mul-atoms : tie.Need-offset_bounds-atoms-i-then-others-ne0
 mul-atoms c = search rules
 
-element-write-atoms : tie.Need-element-write-atoms
+element-write-atoms : tie.Need-bounds-atoms-i-then-others-ne0
 element-write-atoms c = search rules
 
-mul-lost : tie.Need-overflow-mul-lost
+mul-lost : tie.Need-offset_bounds-lost-i
 mul-lost c = search rules
 
-element-write-lost : tie.Need-element-write-lost
+element-write-lost : tie.Need-bounds-lost-i
 element-write-lost c = search rules
 
-returns-3 : tie.Need-returns-3
-returns-3 c = let s = c.before.before.before.before.before.before.before.before.before.before.before.before.before.before in
+returns-3 : tie.Need-returns-then-others-ne0
+returns-3 c = let s = c in
     let a = s.args.atoms.now in
     let i = s.args.i in
-    alone-stays a c.strip.new.1.1.0 i c.strip.ensures.0 c.before.before.before.before.before.before.before.before.before.before.before.first.result c.before.before.before.before.before.before.before.before.before.before.before.first.ensures.1 (single c) c.strip.ensures.1
+    alone-stays a c.strip.new.atoms i c.strip.ensures.0 c.first.result c.first.ensures.1 (single c.before.before) c.strip.ensures.1
 
-returns-4 : tie.Need-returns-4
+returns-4 : tie.Need-returns-else-others-ne0
 returns-4 c = search rules
 
-pub alone-spec : {M : Type 1} → statement M
-alone-spec =
+pub alone_spec : {M : Type 1} → statement M
+alone_spec =
     tie.close
     (tie.spec
     mul-row

@@ -11,59 +11,59 @@ use borrow.Author.Rules.{rules}
 use Rattle.narrowing.proofs.alone.strip.Statement.{statement}
 use Rattle.narrowing.proofs.alone.strip.Tie as tie
 
-abbrev invariant-loop : tie.invariant-loop
+abbrev invariant-loop : tie.invariant-loop-j
 invariant-loop row m atoms₀ lost₀ j₀ atoms lost j = (j ≤ m) × (length atoms ≡ length atoms₀) × AtomsStay atoms₀ atoms (λ i u. ¬ In row u)
 
-abbrev decreases-loop : tie.decreases-loop
+abbrev decreases-loop : tie.decreases-loop-j
 decreases-loop row m atoms₀ lost₀ j₀ atoms lost j = m - j
 
-loop-holds : tie.Need-loop-init invariant-loop decreases-loop
+loop-holds : tie.Need-loop-j-init invariant-loop decreases-loop
 loop-holds c = (search rules, refl, λ i t h m p. m)
 
-mul-before : tie.Need-overflow-mul-before invariant-loop decreases-loop
+mul-before : tie.Need-offset_bounds-atoms-j invariant-loop decreases-loop
 mul-before c = search rules
 
-element-copy-out-before : tie.Need-element-copy-out-before invariant-loop decreases-loop
+element-copy-out-before : tie.Need-bounds-atoms-j invariant-loop decreases-loop
 element-copy-out-before c = search rules
 
 minus-requires : tie.Need-minus-requires invariant-loop decreases-loop
 minus-requires c κs = search rules
 
-mul-atoms : tie.Need-overflow-mul-atoms invariant-loop decreases-loop
+mul-atoms : tie.Need-offset_bounds-atoms-j-in-loop-j invariant-loop decreases-loop
 mul-atoms c = search rules
 
-element-write-atoms : tie.Need-element-write-atoms invariant-loop decreases-loop
+element-write-atoms : tie.Need-bounds-atoms-j-in-loop-j invariant-loop decreases-loop
 element-write-atoms c = search rules
 
-mul-lost : tie.Need-overflow-mul-lost invariant-loop decreases-loop
+mul-lost : tie.Need-offset_bounds-lost-j invariant-loop decreases-loop
 mul-lost c = search rules
 
-element-copy-out-lost : tie.Need-element-copy-out-lost invariant-loop decreases-loop
+element-copy-out-lost : tie.Need-bounds-lost-j invariant-loop decreases-loop
 element-copy-out-lost c = search rules
 
-mul-lost-2 : tie.Need-overflow-mul-lost-2 invariant-loop decreases-loop
+mul-lost-2 : tie.Need-offset_bounds-lost-j-in-loop-j invariant-loop decreases-loop
 mul-lost-2 c = search rules
 
-element-write-lost : tie.Need-element-write-lost invariant-loop decreases-loop
+element-write-lost : tie.Need-bounds-lost-j-in-loop-j invariant-loop decreases-loop
 element-write-lost c = search rules
 
-add-j : tie.Need-overflow-add-j invariant-loop decreases-loop
+add-j : tie.Need-overflow_add-j invariant-loop decreases-loop
 add-j c = search rules
 
-loop-less : tie.Need-loop-smaller invariant-loop decreases-loop
+loop-less : tie.Need-loop-j-smaller invariant-loop decreases-loop
 loop-less c = search rules
 
-loop-again : tie.Need-loop-preserved invariant-loop decreases-loop
-loop-again c = let l = c.before.before.before.before in
-    let s = l.before.args in
-    let v = c.before.minus in
-    (omega arith, simp length-set l.loop.invariant.1, atoms-put s.atoms.now l.loop.atoms (λ i u. ¬ In s.row u) l.loop.invariant.2 l.loop.j v.result (λ t h n m. in-fewer _ _ _ v.ensures t m n))
+loop-again : tie.Need-loop-j-preserved invariant-loop decreases-loop
+loop-again c = let l = c in
+    let s = l.args in
+    let v = c.minus in
+    (omega arith, simp length-set l.loop-j.invariant.1, atoms-put s.atoms.now l.loop-j.atoms (λ i u. ¬ In s.row u) l.loop-j.invariant.2 l.loop-j.j v.result (λ t h n m. in-fewer _ _ _ v.ensures t m n))
 
 returns : tie.Need-returns invariant-loop decreases-loop
-returns c = (c.before.loop.invariant.1, c.before.loop.invariant.2)
+returns c = (c.loop-j.invariant.1, c.loop-j.invariant.2)
 
-pub strip-spec : {M : Type 1} → statement M
-strip-spec =
+pub strip_spec : {M : Type 1} → statement M
+strip_spec =
     tie.close
     (tie.spec
     invariant-loop

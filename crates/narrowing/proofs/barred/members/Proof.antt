@@ -6,5 +6,5 @@ use Rattle.narrowing.proofs.barred.members.Tie as tie
 returns : tie.Need-returns
 returns c = ones-le word_digits c.args.s c.ranges.s.fits
 
-pub members-spec : {M : Type 1} → statement M
-members-spec = tie.close (tie.spec returns)
+pub members_spec : {M : Type 1} → statement M
+members_spec = tie.close (tie.spec returns)

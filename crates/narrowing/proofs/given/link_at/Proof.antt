@@ -10,53 +10,53 @@ use Rattle.candidates.proofs.Laying.{link-laid, count-laid}
 use Rattle.narrowing.proofs.given.link_at.Statement.{statement}
 use Rattle.narrowing.proofs.given.link_at.Tie as tie
 
-mul_at : tie.Need-overflow-mul-at
+mul_at : tie.Need-overflow_mul-at
 mul_at c = search rules
 
-add-if1 : tie.Need-overflow-add-if1
+add-if1 : tie.Need-overflow_add-at
 add-if1 c = search rules
 
-mul-if1 : tie.Need-overflow-mul-if1
+mul-if1 : tie.Need-offset_bounds-laid-at
 mul-if1 c = search rules
 
-element-copy-out-if1 : tie.Need-element-copy-out-if1
+element-copy-out-if1 : tie.Need-bounds-laid-at
 element-copy-out-if1 c = search rules
 
-cast-if1 : tie.Need-overflow-cast-if1
-cast-if1 c = let s = c.before in record { fits = omega (arith, count-laid s.args.laid.now s.args.t, s.requires.2.few) }
+cast-if1 : tie.Need-overflow_cast-laid
+cast-if1 c = let s = c in record { fits = omega (arith, count-laid s.args.laid.now s.args.t, s.requires.2.few) }
 
-returns : tie.Need-returns
-returns c = let s = c.before.before in
-    ((λ h. absurd (omega (arith, count-laid s.args.laid.now s.args.t, h, c.if1.true))), (λ h. refl), omega arith)
+returns : tie.Need-returns-then-laid-at
+returns c = let s = c in
+    ((λ h. absurd (omega (arith, count-laid s.args.laid.now s.args.t, h, c.if-laid-at.true))), (λ h. refl), omega arith)
 
-add-result : tie.Need-overflow-add-result
+add-result : tie.Need-overflow_add-result
 add-result c = search rules
 
-add-result-2 : tie.Need-overflow-add-result-2
+add-result-2 : tie.Need-overflow_add-result-2
 add-result-2 c = search rules
 
-mul-result : tie.Need-overflow-mul-result
+mul-result : tie.Need-offset_bounds-laid-at-2
 mul-result c = search rules
 
-element-copy-out-result : tie.Need-element-copy-out-result
+element-copy-out-result : tie.Need-bounds-laid-at-2
 element-copy-out-result c = search rules
 
 -- the link is one of the row's
-link-used : (c : tie.After-result) → Range sheet_link_limit (laid_at c.before.before.before.args.laid.now c.before.before.before.args.t (2 + c.before.before.before.args.k))
-link-used c = let s = c.before.before.before in
+link-used : (c : tie.After-result-1) → Range sheet_link_limit (laid_at c.args.laid.now c.args.t (2 + c.args.k))
+link-used c = let s = c in
     let l = s.args.laid.now in
-    subst (Range sheet_link_limit) (link-laid l s.args.t s.args.k s.requires.1) (s.requires.2.numbered s.args.k (omega (arith, count-laid l s.args.t, c.before.if1.false)))
+    subst (Range sheet_link_limit) (link-laid l s.args.t s.args.k s.requires.1) (s.requires.2.numbered s.args.k (omega (arith, count-laid l s.args.t, c.if-laid-at.false)))
 
-cast-result : tie.Need-overflow-cast-result
+cast-result : tie.Need-overflow_cast-result
 cast-result c = record { fits = omega (arith, (link-used c).1) }
 
-returns-2 : tie.Need-returns-2
-returns-2 c = let s = c.before.before.before in
+returns-2 : tie.Need-returns
+returns-2 c = let s = c in
     let l = s.args.laid.now in
-    ((λ h. sym (link-laid l s.args.t s.args.k s.requires.1)), (λ h. absurd (omega (arith, count-laid l s.args.t, h, c.before.if1.false))), (link-used c).1)
+    ((λ h. sym (link-laid l s.args.t s.args.k s.requires.1)), (λ h. absurd (omega (arith, count-laid l s.args.t, h, c.if-laid-at.false))), (link-used c).1)
 
-pub link-at-spec : {M : Type 1} → statement M
-link-at-spec =
+pub link_at_spec : {M : Type 1} → statement M
+link_at_spec =
     tie.close
     (tie.spec
     mul_at

@@ -22,42 +22,42 @@ only-there set less r small e none v h i = go (ℕ_discrete v r)
     go (yes q) = q
     go (no d) = absurd (none-in-pair less none v h (in_without set r small less e v h i d))
 
-pair-at-requires : tie.Need-pair-at-requires
+pair-at-requires : tie.Need-pair_at-set-requires
 pair-at-requires c κs = search rules
 
-is-empty-requires : tie.Need-is-empty-requires
+is-empty-requires : tie.Need-is_empty-requires
 is-empty-requires c κs = search rules
 
-returns : tie.Need-returns
+returns : tie.Need-returns-then-is_empty
 returns c = search rules
 
-first-link-requires : tie.Need-first-link-requires
-first-link-requires c κs = sym c.before.is-empty.ensures ∙ c.if1.false
+first-link-requires : tie.Need-first_link-requires
+first-link-requires c κs = sym c.is_empty.ensures ∙ c.if-is_empty.false
 
-without-link-requires : tie.Need-without-link-requires
+without-link-requires : tie.Need-without_link-more-requires
 without-link-requires c κs = search rules
 
-is-empty-requires-2 : tie.Need-is-empty-requires-2
+is-empty-requires-2 : tie.Need-is_empty-requires-2
 is-empty-requires-2 c κs = search rules
 
-strip-others-requires : tie.Need-strip-others-requires
+strip-others-requires : tie.Need-strip_others-requires
 strip-others-requires c κs = search rules
 
-returns-2 : tie.Need-returns-2
-returns-2 c = let e = c.before.before.before.before in
-    let f = e.before.before.before.first-link in
-    let s = e.before.before.before.before.before.before.before.before in
+returns-2 : tie.Need-returns-then-is_empty-2
+returns-2 c = let e = c in
+    let f = e.first_link in
+    let s = e in
     let a = s.args in
-    let set = e.before.before.before.before.before.before.pair-at in
-    let only : (v : ℕ) → v < sheet_link_limit → InPair set.result v → v ≡ f.result = λ v h i. only-there set.result e.before.before.without-link.result f.result f.ensures.0 e.before.before.without-link.ensures (sym e.before.is-empty2.ensures ∙ e.if2.true) v (in_pair h) i in
-    links-more a.links.now c.strip-others.new.1.1.1.1.0 (λ z y. InPair set.result y → get_or a.kin.now z 0 ≡ get_or a.kin.now a.x 0) (AloneLink a.kin.now a.links.now a.x) c.strip-others.ensures
+    let set = e.pair_at-set in
+    let only : (v : ℕ) → v < sheet_link_limit → InPair set.result v → v ≡ f.result = λ v h i. only-there set.result e.without_link-more.result f.result f.ensures.0 e.without_link-more.ensures (sym e.is_empty-2.ensures ∙ e.if-is_empty-2.true) v (in_pair h) i in
+    links-more a.links.now c.strip_others.new.links (λ z y. InPair set.result y → get_or a.kin.now z 0 ≡ get_or a.kin.now a.x 0) (AloneLink a.kin.now a.links.now a.x) c.strip_others.ensures
     (λ z y h q i. q (λ v r m. only v r (subst (λ (w : List ℕ). InPair w v) (sym set.ensures) (pair-in a.links.now a.x v r m)) ∙ sym (only y h i)))
 
-returns-3 : tie.Need-returns-3
+returns-3 : tie.Need-returns-else-is_empty-2
 returns-3 c = search rules
 
-pub alone-link-spec : {M : Type 1} → statement M
-alone-link-spec =
+pub alone_link_spec : {M : Type 1} → statement M
+alone_link_spec =
     tie.close
     (tie.spec
     pair-at-requires

@@ -14,11 +14,11 @@ contested-requires : tie.Need-contested-requires
 contested-requires c κs = search rules
 
 returns : tie.Need-returns
-returns c = let w = c.before.before.before.before.before.before.before.before.before.before.before.before.args in
+returns c = let w = c.args in
     let f = c.narrow in
-    let p = c.before.before.before.before.before.before.before.before.spread in
-    (narrows_then w.kin.now w.laid.now w.n w.parts.now w.m w.atoms.now w.links.now w.atoms.now p.new.1.1.1.1.1.0 f.new.1.1.1.1.1.1.1.1.0 f.new.1.1.1.1.1.1.1.1.1.0 (p.ensures w.kin.now) f.ensures.0, f.ensures.1)
+    let p = c.spread in
+    (narrows_then w.kin.now w.laid.now w.n w.parts.now w.m w.atoms.now w.links.now w.atoms.now p.new.links f.new.atoms f.new.links (p.ensures w.kin.now) f.ensures.0, f.ensures.1)
 
-pub narrow-all-spec : {M : Type 1} → statement M
-narrow-all-spec =
+pub narrow_all_spec : {M : Type 1} → statement M
+narrow_all_spec =
     tie.close (tie.spec spread-requires contested-requires narrow-requires returns)

@@ -12,67 +12,67 @@ use borrow.Author.Rules.{rules}
 use Rattle.narrowing.proofs.spread.look_up.Statement.{statement}
 use Rattle.narrowing.proofs.spread.look_up.Tie as tie
 
-abbrev invariant-loop : tie.invariant-loop
+abbrev invariant-loop : tie.invariant-loop-k
 invariant-loop laid n before known row count table₀ k₀ table k = (k ≤ count) × (length table ≡ most_links * 2) × GivenTable (laid_atom laid) n row k table
 
-abbrev decreases-loop : tie.decreases-loop
+abbrev decreases-loop : tie.decreases-loop-k
 decreases-loop laid n before known row count table₀ k₀ table k = count - k
 
-returns : tie.Need-returns invariant-loop decreases-loop
-returns c = (c.before.before.requires.2, search rules, λ g k y h u v. g k y h u (subst (λ (w : ℕ). Given (laid_atom c.before.before.args.laid.now) c.before.before.args.n w k y) c.before.if1.true v))
+returns : tie.Need-returns-then-count-known invariant-loop decreases-loop
+returns c = (c.requires.2, search rules, λ g k y h u v. g k y h u (subst (λ (w : ℕ). Given (laid_atom c.args.laid.now) c.args.n w k y) c.if-row-before.true v))
 
-loop-holds : tie.Need-loop-init invariant-loop decreases-loop
-loop-holds c = (search rules, c.before.requires.2, λ k y h u g. absurd (omega (arith, h)))
+loop-holds : tie.Need-loop-k-init invariant-loop decreases-loop
+loop-holds c = (search rules, c.requires.2, λ k y h u g. absurd (omega (arith, h)))
 
-given-requires : tie.Need-given-requires invariant-loop decreases-loop
+given-requires : tie.Need-given-pair-requires invariant-loop decreases-loop
 given-requires c κs = search rules
 
-array-read-table : tie.Need-array-read-table invariant-loop decreases-loop
+array-read-table : tie.Need-bounds-pair-0 invariant-loop decreases-loop
 array-read-table c = search rules
 
-mul-table : tie.Need-overflow-mul-table invariant-loop decreases-loop
+mul-table : tie.Need-overflow_mul-table invariant-loop decreases-loop
 mul-table c = search rules
 
-mul-table-2 : tie.Need-overflow-mul-table-2 invariant-loop decreases-loop
+mul-table-2 : tie.Need-offset_bounds-table-k invariant-loop decreases-loop
 mul-table-2 c = search rules
 
-element-write-table : tie.Need-element-write-table invariant-loop decreases-loop
+element-write-table : tie.Need-bounds-table-k invariant-loop decreases-loop
 element-write-table c = search rules
 
-array-read-table-2 : tie.Need-array-read-table-2 invariant-loop decreases-loop
+array-read-table-2 : tie.Need-bounds-pair-1 invariant-loop decreases-loop
 array-read-table-2 c = search rules
 
-mul-table-3 : tie.Need-overflow-mul-table-3 invariant-loop decreases-loop
+mul-table-3 : tie.Need-overflow_mul-table-in-loop-k invariant-loop decreases-loop
 mul-table-3 c = search rules
 
-add-table : tie.Need-overflow-add-table invariant-loop decreases-loop
+add-table : tie.Need-overflow_add-table invariant-loop decreases-loop
 add-table c = search rules
 
-mul-table-4 : tie.Need-overflow-mul-table-4 invariant-loop decreases-loop
+mul-table-4 : tie.Need-offset_bounds-table-k-in-loop-k invariant-loop decreases-loop
 mul-table-4 c = search rules
 
-element-write-table-2 : tie.Need-element-write-table-2 invariant-loop decreases-loop
+element-write-table-2 : tie.Need-bounds-table-k-in-loop-k invariant-loop decreases-loop
 element-write-table-2 c = search rules
 
-add-k : tie.Need-overflow-add-k invariant-loop decreases-loop
+add-k : tie.Need-overflow_add-k invariant-loop decreases-loop
 add-k c = search rules
 
-loop-less : tie.Need-loop-smaller invariant-loop decreases-loop
+loop-less : tie.Need-loop-k-smaller invariant-loop decreases-loop
 loop-less c = search rules
 
-loop-again : tie.Need-loop-preserved invariant-loop decreases-loop
-loop-again c = let l = c.before.before in
-    let s = l.before.before.args in (
+loop-again : tie.Need-loop-k-preserved invariant-loop decreases-loop
+loop-again c = let l = c in
+    let s = l.args in (
       search rules,
-      simp length-set l.loop.invariant.1,
-      links-next (Given (laid_atom s.laid.now) s.n s.row) l.loop.table l.loop.k sheet_link_limit c.given.result (omega (arith, l.loop.invariant.1, c.before.loop-test.true, l.before.before.requires.1)) (omega arith) l.loop.invariant.2 c.given.ensures,
+      simp length-set l.loop-k.invariant.1,
+      links-next (Given (laid_atom s.laid.now) s.n s.row) l.loop-k.table l.loop-k.k sheet_link_limit c.given-pair.result (omega (arith, l.loop-k.invariant.1, c.loop-k-test.true, l.requires.1)) (omega arith) l.loop-k.invariant.2 c.given-pair.ensures,
     )
 
-returns-2 : tie.Need-returns-2 invariant-loop decreases-loop
-returns-2 c = (c.before.loop.invariant.1, search rules, λ g k y h u v. c.before.loop.invariant.2 k y (omega (arith, h, c.loop-test.false)) u v)
+returns-2 : tie.Need-returns invariant-loop decreases-loop
+returns-2 c = (c.loop-k.invariant.1, search rules, λ g k y h u v. c.loop-k.invariant.2 k y (omega (arith, h, c.loop-k-test.false)) u v)
 
-pub look-up-spec : {M : Type 1} → statement M
-look-up-spec =
+pub look_up_spec : {M : Type 1} → statement M
+look_up_spec =
     tie.close
     (tie.spec
     invariant-loop

@@ -14,55 +14,55 @@ use Rattle.stepping.proofs.Chaining.{chained-start, laid_in}
 use Rattle.stepping.proofs.chains.chains.Statement.{statement}
 use Rattle.stepping.proofs.chains.chains.Tie as tie
 
-abbrev invariant-loop : tie.invariant-loop
+abbrev invariant-loop : tie.invariant-loop-j
 invariant-loop table₀ laid atoms j₀ table j = (j ≤ atoms) × (length table ≡ node_count) × ((sheet : NormalForm) → LaidOut sheet laid atoms → Chained (net_in sheet) (node_of j 0) table)
 
-abbrev decreases-loop : tie.decreases-loop
+abbrev decreases-loop : tie.decreases-loop-j
 decreases-loop table₀ laid atoms j₀ table j = atoms - j
 
-loop-holds : tie.Need-loop-init invariant-loop decreases-loop
+loop-holds : tie.Need-loop-j-init invariant-loop decreases-loop
 loop-holds c = (omega arith, ap length c.requires.1 ∙ length-replicate {A = ℕ} node_count 0, λ sheet o. subst (Chained (net_in sheet) (node_of 0 0)) (sym c.requires.1) (chained-start (net_in sheet)))
 
-laid-atom-requires : tie.Need-laid-atom-requires invariant-loop decreases-loop
-laid-atom-requires c κs = let s = c.before.before in omega (arith, s.requires.0.few, c.loop-test.true)
+laid-atom-requires : tie.Need-laid_atom-a-requires invariant-loop decreases-loop
+laid-atom-requires c κs = let s = c in omega (arith, s.requires.0.few, c.loop-j-test.true)
 
-cast-chain : tie.Need-overflow-cast-chain invariant-loop decreases-loop
-cast-chain c = let s = c.before.before.before.before.before.before in
-    let a = c.before.before.before.laid-atom in
-    let u = subst (λ (r : Atom). Used sheet_link_limit r.count r.links) (sym a.ensures) (s.requires.0.atoms c.before.before.before.before.before.loop.j c.before.before.before.before.loop-test.true) in
+cast-chain : tie.Need-overflow_cast-a invariant-loop decreases-loop
+cast-chain c = let s = c in
+    let a = c.laid_atom-a in
+    let u = subst (λ (r : Atom). Used sheet_link_limit r.count r.links) (sym a.ensures) (s.requires.0.atoms c.loop-j.j c.loop-j-test.true) in
     omega (arith, u.few)
 
 chain-requires : tie.Need-chain-requires invariant-loop decreases-loop
-chain-requires c κs = let s = c.before.before.before.before.before.before in
-    let l = c.before.before.before.before.before.loop in
-    let a = c.before.before.before.laid-atom in
-    let h : l.j < s.args.atoms = c.before.before.before.before.loop-test.true in
+chain-requires c κs = let s = c in
+    let l = c.loop-j in
+    let a = c.laid_atom-a in
+    let h : l.j < s.args.atoms = c.loop-j-test.true in
     let u = subst (λ (r : Atom). Used sheet_link_limit r.count r.links) (sym a.ensures) (s.requires.0.atoms l.j h) in
     (omega (arith, s.requires.0.few), u.few, u.numbered, l.invariant.1)
 
-add-j : tie.Need-overflow-add-j invariant-loop decreases-loop
-add-j c = let s = c.before.before.before.before.before.before.before in omega (arith, s.requires.0.few, c.before.before.before.before.before.loop-test.true)
+add-j : tie.Need-overflow_add-j invariant-loop decreases-loop
+add-j c = let s = c in omega (arith, s.requires.0.few, c.loop-j-test.true)
 
-loop-less : tie.Need-loop-smaller invariant-loop decreases-loop
+loop-less : tie.Need-loop-j-smaller invariant-loop decreases-loop
 loop-less c = search rules
 
-loop-again : tie.Need-loop-preserved invariant-loop decreases-loop
-loop-again c = let s = c.before.before.before.before.before.before.before in
-    let l = c.before.before.before.before.before.before.loop in
-    let h : l.j < s.args.atoms = c.before.before.before.before.before.loop-test.true in
+loop-again : tie.Need-loop-j-preserved invariant-loop decreases-loop
+loop-again c = let s = c in
+    let l = c.loop-j in
+    let h : l.j < s.args.atoms = c.loop-j-test.true in
     let e : suc l.j ≡ l.j + 1 = omega arith in (
       omega arith,
       c.chain.ensures.0,
-      λ sheet o. subst (λ m. Chained (net_in sheet) (node_of m 0) c.chain.new.0) e (c.chain.ensures.1 (net_in sheet)
-          (subst (λ (r : Atom). RowIn (net_in sheet) l.j r.links r.count) (sym c.before.before.before.before.laid-atom.ensures) (laid_in sheet s.args.laid.now s.args.atoms o l.j h)) (l.invariant.2 sheet o)),
+      λ sheet o. subst (λ m. Chained (net_in sheet) (node_of m 0) c.chain.new.table) e (c.chain.ensures.1 (net_in sheet)
+          (subst (λ (r : Atom). RowIn (net_in sheet) l.j r.links r.count) (sym c.laid_atom-a.ensures) (laid_in sheet s.args.laid.now s.args.atoms o l.j h)) (l.invariant.2 sheet o)),
     )
 
 returns : tie.Need-returns invariant-loop decreases-loop
-returns c = let l = c.before.loop in
+returns c = let l = c.loop-j in
     λ sheet o. subst (λ m. Chained (net_in sheet) (node_of m 0) l.table) (let e : l.j ≡ sheet.atom_count = omega (arith, o.count, l.invariant.0) in e) (l.invariant.2 sheet o)
 
-pub chains-spec : {M : Type 1} → statement M
-chains-spec =
+pub chains_spec : {M : Type 1} → statement M
+chains_spec =
     tie.close
     (tie.spec
     invariant-loop

@@ -10,44 +10,44 @@ use Rattle.stepping.proofs.Tables.{below_next}
 use Rattle.stepping.proofs.plain.new_number.Statement.{statement}
 use Rattle.stepping.proofs.plain.new_number.Tie as tie
 
-abbrev invariant-loop : tie.invariant-loop
+abbrev invariant-loop : tie.invariant-loop-d
 invariant-loop numbers c d₀ d = (d ≤ c) × ((i : ℕ) → i < d → get_or numbers i 0 ≢ get_or numbers c 0)
 
-abbrev decreases-loop : tie.decreases-loop
+abbrev decreases-loop : tie.decreases-loop-d
 decreases-loop numbers c d₀ d = c - d
 
-loop-holds : tie.Need-loop-init invariant-loop decreases-loop
+loop-holds : tie.Need-loop-d-init invariant-loop decreases-loop
 loop-holds c = (omega arith, λ i h. absurd (omega arith))
 
-mul-if1 : tie.Need-overflow-mul-if1 invariant-loop decreases-loop
+mul-if1 : tie.Need-offset_bounds-numbers-d invariant-loop decreases-loop
 mul-if1 c = search rules
 
-element-copy-out-if1 : tie.Need-element-copy-out-if1 invariant-loop decreases-loop
+element-copy-out-if1 : tie.Need-bounds-numbers-d invariant-loop decreases-loop
 element-copy-out-if1 c = search rules
 
-mul-if1-2 : tie.Need-overflow-mul-if1-2 invariant-loop decreases-loop
+mul-if1-2 : tie.Need-offset_bounds-numbers-c invariant-loop decreases-loop
 mul-if1-2 c = search rules
 
-element-copy-out-if1-2 : tie.Need-element-copy-out-if1-2 invariant-loop decreases-loop
+element-copy-out-if1-2 : tie.Need-bounds-numbers-c invariant-loop decreases-loop
 element-copy-out-if1-2 c = search rules
 
-returns : tie.Need-returns invariant-loop decreases-loop
+returns : tie.Need-returns-then-numbers-d invariant-loop decreases-loop
 returns c = λ e. both_ways e refl
 
-add-d : tie.Need-overflow-add-d invariant-loop decreases-loop
+add-d : tie.Need-overflow_add-d invariant-loop decreases-loop
 add-d c = search rules
 
-loop-less : tie.Need-loop-smaller invariant-loop decreases-loop
+loop-less : tie.Need-loop-d-smaller invariant-loop decreases-loop
 loop-less c = search rules
 
-loop-again : tie.Need-loop-preserved invariant-loop decreases-loop
-loop-again c = (omega (arith, c.before.before.before.loop-test.true), let a = c.before.before.before.before.before.args in below_next (λ i. get_or a.numbers.now i 0 ≢ get_or a.numbers.now a.c 0) c.before.before.before.before.loop.d c.before.before.before.before.loop.invariant.1 c.if1.false)
+loop-again : tie.Need-loop-d-preserved invariant-loop decreases-loop
+loop-again c = (omega (arith, c.loop-d-test.true), let a = c.args in below_next (λ i. get_or a.numbers.now i 0 ≢ get_or a.numbers.now a.c 0) c.loop-d.d c.loop-d.invariant.1 c.if-numbers-d.false)
 
-returns-2 : tie.Need-returns-2 invariant-loop decreases-loop
-returns-2 c = λ e d h. c.before.loop.invariant.1 d (omega (arith, h))
+returns-2 : tie.Need-returns invariant-loop decreases-loop
+returns-2 c = λ e d h. c.loop-d.invariant.1 d (omega (arith, h))
 
-pub new-number-spec : {M : Type 1} → statement M
-new-number-spec =
+pub new_number_spec : {M : Type 1} → statement M
+new_number_spec =
     tie.close
     (tie.spec
     invariant-loop

@@ -13,59 +13,59 @@ use Rattle.stepping.proofs.Walking.{Walk, walk_start, walk-next, walk_end, atom_
 use Rattle.stepping.proofs.plain.only_on.Statement.{statement}
 use Rattle.stepping.proofs.plain.only_on.Tie as tie
 
-abbrev invariant-loop : tie.invariant-loop
+abbrev invariant-loop : tie.invariant-loop-v
 invariant-loop chains y t u v₀ v = (v < node_count) × (v ≢ 0 → sheet_link_limit ≤ v) × ((sheet : form.Sheet) → Fit sheet → ChainsIn sheet chains → Walk (net_in sheet) (λ j. (j ≡ t) ⊎ (j ≡ u)) y v)
 
-abbrev decreases-loop : tie.decreases-loop
+abbrev decreases-loop : tie.decreases-loop-v
 decreases-loop chains y t u v₀ v = v
 
-mul-v : tie.Need-overflow-mul-v invariant-loop decreases-loop
+mul-v : tie.Need-offset_bounds-chains-y invariant-loop decreases-loop
 mul-v c = search rules
 
-element-copy-out-v : tie.Need-element-copy-out-v invariant-loop decreases-loop
+element-copy-out-v : tie.Need-bounds-chains-y invariant-loop decreases-loop
 element-copy-out-v c = search rules
 
-cast-v : tie.Need-overflow-cast-v invariant-loop decreases-loop
-cast-v c = let w = c.before.requires.1.within c.before.args.y in omega arith
+cast-v : tie.Need-overflow_cast-v invariant-loop decreases-loop
+cast-v c = let w = c.requires.1.within c.args.y in omega arith
 
-loop-holds : tie.Need-loop-init invariant-loop decreases-loop
-loop-holds c = let s = c.before in
+loop-holds : tie.Need-loop-v-init invariant-loop decreases-loop
+loop-holds c = let s = c in
     let a = s.args in
     (s.requires.1.within a.y, s.requires.1.above a.y, λ sheet f k. walk_start sheet f a.chains.now k (λ j. (j ≡ a.t) ⊎ (j ≡ a.u)) a.y s.requires.0)
 
-sub-j : tie.Need-overflow-sub-j invariant-loop decreases-loop
-sub-j c = c.before.loop.invariant.1 c.loop-test.true
+sub-j : tie.Need-overflow_sub-j invariant-loop decreases-loop
+sub-j c = c.loop-v.invariant.1 c.loop-v-test.true
 
-returns : tie.Need-returns invariant-loop decreases-loop
+returns : tie.Need-returns-then-j-u invariant-loop decreases-loop
 returns c = λ e. both_ways e refl
 
-mul-v-2 : tie.Need-overflow-mul-v-2 invariant-loop decreases-loop
+mul-v-2 : tie.Need-offset_bounds-chains-v invariant-loop decreases-loop
 mul-v-2 c = search rules
 
-element-copy-out-v-2 : tie.Need-element-copy-out-v-2 invariant-loop decreases-loop
-element-copy-out-v-2 c = c.before.before.loop.invariant.0
+element-copy-out-v-2 : tie.Need-bounds-chains-v invariant-loop decreases-loop
+element-copy-out-v-2 c = c.loop-v.invariant.0
 
-cast-v-2 : tie.Need-overflow-cast-v-2 invariant-loop decreases-loop
-cast-v-2 c = let w = c.before.before.before.before.before.requires.1.within c.before.before.before.loop.v in omega arith
+cast-v-2 : tie.Need-overflow_cast-v-in-loop-v invariant-loop decreases-loop
+cast-v-2 c = let w = c.requires.1.within c.loop-v.v in omega arith
 
-loop-less : tie.Need-loop-smaller invariant-loop decreases-loop
-loop-less c = c.before.before.before.before.before.requires.1.falls c.before.before.before.loop.v (c.before.before.before.loop.invariant.1 c.before.before.loop-test.true)
+loop-less : tie.Need-loop-v-smaller invariant-loop decreases-loop
+loop-less c = c.requires.1.falls c.loop-v.v (c.loop-v.invariant.1 c.loop-v-test.true)
 
-loop-again : tie.Need-loop-preserved invariant-loop decreases-loop
-loop-again c = let s = c.before.before.before.before.before in
+loop-again : tie.Need-loop-v-preserved invariant-loop decreases-loop
+loop-again c = let s = c in
     let a = s.args in
-    let l = c.before.before.before.loop in
-    let t = c.before.before.loop-test.true in
-    let w : (atom_of l.v ≡ a.t) ⊎ (atom_of l.v ≡ a.u) = ⊎_elim (λ w. inr w.1.left) (λ w. inl w.left) c.before.if1.branch in
+    let l = c.loop-v in
+    let t = c.loop-v-test.true in
+    let w : (atom_of l.v ≡ a.t) ⊎ (atom_of l.v ≡ a.u) = ⊎_elim (λ w. inr w.if-j-u.false) (λ w. inl w.if-j-t.false) c.if-j-t.branch-raw in
     (s.requires.1.within l.v, s.requires.1.above l.v, λ sheet f k. walk-next sheet f a.chains.now k (λ j. (j ≡ a.t) ⊎ (j ≡ a.u)) a.y l.v t (l.invariant.2 sheet f k) w)
 
-returns-2 : tie.Need-returns-2 invariant-loop decreases-loop
-returns-2 c = let a = c.before.before.before.args in
-    let l = c.before.loop in
+returns-2 : tie.Need-returns invariant-loop decreases-loop
+returns-2 c = let a = c.args in
+    let l = c.loop-v in
     λ e sheet f k. walk_end sheet f a.chains.now k (λ j. (j ≡ a.t) ⊎ (j ≡ a.u)) a.y l.v (omega arith) (l.invariant.2 sheet f k)
 
-pub only-on-spec : {M : Type 1} → statement M
-only-on-spec =
+pub only_on_spec : {M : Type 1} → statement M
+only_on_spec =
     tie.close
     (tie.spec
     invariant-loop

@@ -4,11 +4,11 @@ use Rattle.stepping.proofs.StandingWords.{context-shifted}
 use Rattle.stepping.proofs.standing.context_word.Statement.{statement}
 use Rattle.stepping.proofs.standing.context_word.Tie as tie
 
-shl-result : tie.Need-overflow-shl-result
+shl-result : tie.Need-overflow_shl-result
 shl-result c = search rules
 
 returns : tie.Need-returns
 returns c = context-shifted c.args.k
 
-pub context-word-spec : {M : Type 1} → statement M
-context-word-spec = tie.close (tie.spec shl-result returns)
+pub context_word_spec : {M : Type 1} → statement M
+context_word_spec = tie.close (tie.spec shl-result returns)

@@ -11,62 +11,62 @@ use Rattle.stepping.proofs.StandingWords.{Marking, marking-start, marking-next, 
 use Rattle.stepping.proofs.standing.mark_links.Statement.{statement}
 use Rattle.stepping.proofs.standing.mark_links.Tie as tie
 
-abbrev invariant-loop : tie.invariant-loop
+abbrev invariant-loop : tie.invariant-loop-rest
 invariant-loop words₀ word rest₀ words rest = Marking words₀ rest₀ word rest words
 
-abbrev decreases-loop : tie.decreases-loop
+abbrev decreases-loop : tie.decreases-loop-rest
 decreases-loop words₀ word rest₀ words rest = pair_size rest
 
-loop-holds : tie.Need-loop-init invariant-loop decreases-loop
+loop-holds : tie.Need-loop-rest-init invariant-loop decreases-loop
 loop-holds c = marking-start c.args.words.now c.args.set c.args.word c.requires.1
 
-is-empty-requires : tie.Need-is-empty-requires invariant-loop decreases-loop
+is-empty-requires : tie.Need-is_empty-requires invariant-loop decreases-loop
 is-empty-requires c κs = search rules
 
-first-link-requires : tie.Need-first-link-requires invariant-loop decreases-loop
-first-link-requires c κs = sym c.before.is-empty.ensures ∙ not-true _ c.if1.true
+first-link-requires : tie.Need-first_link-x-requires invariant-loop decreases-loop
+first-link-requires c κs = sym c.is_empty.ensures ∙ not-true _ c.loop-rest-test.true-raw
 
-without-link-requires : tie.Need-without-link-requires invariant-loop decreases-loop
+without-link-requires : tie.Need-without_link-less-requires invariant-loop decreases-loop
 without-link-requires c κs = search rules
 
-mul_words : tie.Need-overflow-mul-words invariant-loop decreases-loop
-mul_words c = let f = c.before.first-link in
-    let l = c.before.before.before.before in
-    let h = l.before.requires.0 f.result f.ensures.0 (l.loop.invariant.part f.result f.ensures.0 f.ensures.1) in
+mul_words : tie.Need-offset_bounds-words-x invariant-loop decreases-loop
+mul_words c = let f = c.first_link-x in
+    let l = c in
+    let h = l.requires.0 f.result f.ensures.0 (l.loop-rest.invariant.part f.result f.ensures.0 f.ensures.1) in
     omega (arith, h)
 
-element-copy-out-words : tie.Need-element-copy-out-words invariant-loop decreases-loop
-element-copy-out-words c = let f = c.before.first-link in
-    let l = c.before.before.before.before in
-    let h = l.before.requires.0 f.result f.ensures.0 (l.loop.invariant.part f.result f.ensures.0 f.ensures.1) in
+element-copy-out-words : tie.Need-bounds-words-x invariant-loop decreases-loop
+element-copy-out-words c = let f = c.first_link-x in
+    let l = c in
+    let h = l.requires.0 f.result f.ensures.0 (l.loop-rest.invariant.part f.result f.ensures.0 f.ensures.1) in
     h
 
-mul-words-2 : tie.Need-overflow-mul-words-2 invariant-loop decreases-loop
-mul-words-2 c = let f = c.before.before.first-link in
-    let l = c.before.before.before.before.before in
-    let h = l.before.requires.0 f.result f.ensures.0 (l.loop.invariant.part f.result f.ensures.0 f.ensures.1) in
+mul-words-2 : tie.Need-offset_bounds-words-x-in-loop-rest invariant-loop decreases-loop
+mul-words-2 c = let f = c.first_link-x in
+    let l = c in
+    let h = l.requires.0 f.result f.ensures.0 (l.loop-rest.invariant.part f.result f.ensures.0 f.ensures.1) in
     omega (arith, h)
 
-element-write-words : tie.Need-element-write-words invariant-loop decreases-loop
-element-write-words c = let f = c.before.before.first-link in
-    let l = c.before.before.before.before.before in
-    let h = l.before.requires.0 f.result f.ensures.0 (l.loop.invariant.part f.result f.ensures.0 f.ensures.1) in
+element-write-words : tie.Need-bounds-words-x-in-loop-rest invariant-loop decreases-loop
+element-write-words c = let f = c.first_link-x in
+    let l = c in
+    let h = l.requires.0 f.result f.ensures.0 (l.loop-rest.invariant.part f.result f.ensures.0 f.ensures.1) in
     h
 
-loop-less : tie.Need-loop-smaller invariant-loop decreases-loop
-loop-less c = let f = c.before.before.first-link.ensures in without-smaller _ _ f.0 _ c.before.without-link.ensures f.1
+loop-less : tie.Need-loop-rest-smaller invariant-loop decreases-loop
+loop-less c = let f = c.first_link-x.ensures in without-smaller _ _ f.0 _ c.without_link-less.ensures f.1
 
-loop-again : tie.Need-loop-preserved invariant-loop decreases-loop
-loop-again c = let f = c.before.before.first-link in
-    let l = c.before.before.before.before.before in
-    let h = l.before.requires.0 f.result f.ensures.0 (l.loop.invariant.part f.result f.ensures.0 f.ensures.1) in
-    marking-next l.before.args.words.now l.before.args.set l.before.args.word l.loop.rest l.loop.words l.loop.invariant f.result f.ensures.0 h f.ensures.1 c.before.without-link.result c.before.without-link.ensures
+loop-again : tie.Need-loop-rest-preserved invariant-loop decreases-loop
+loop-again c = let f = c.first_link-x in
+    let l = c in
+    let h = l.requires.0 f.result f.ensures.0 (l.loop-rest.invariant.part f.result f.ensures.0 f.ensures.1) in
+    marking-next l.args.words.now l.args.set l.args.word l.loop-rest.rest l.loop-rest.words l.loop-rest.invariant f.result f.ensures.0 h f.ensures.1 c.without_link-less.result c.without_link-less.ensures
 
 returns : tie.Need-returns invariant-loop decreases-loop
-returns c = let l = c.before.before in marking-end l.before.args.words.now l.before.args.set l.before.args.word l.loop.rest l.loop.words (sym c.before.is-empty.ensures ∙ not-false _ c.if1.false) l.loop.invariant
+returns c = let l = c in marking-end l.args.words.now l.args.set l.args.word l.loop-rest.rest l.loop-rest.words (sym c.is_empty.ensures ∙ not-false _ c.loop-rest-test.false-raw) l.loop-rest.invariant
 
-pub mark-links-spec : {M : Type 1} → statement M
-mark-links-spec =
+pub mark_links_spec : {M : Type 1} → statement M
+mark_links_spec =
     tie.close
     (tie.spec
     invariant-loop

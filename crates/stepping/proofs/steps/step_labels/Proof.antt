@@ -12,62 +12,62 @@ use Rattle.stepping.proofs.Tables.{below_next}
 use Rattle.stepping.proofs.steps.step_labels.Statement.{statement}
 use Rattle.stepping.proofs.steps.step_labels.Tie as tie
 
-abbrev invariant-loop : tie.invariant-loop
+abbrev invariant-loop : tie.invariant-loop-c
 invariant-loop labels₀ to count n contexts c₀ labels c = (c ≤ count) × (length labels ≡ sheet_link_limit) × Sound contexts count to labels × ((i : ℕ) → i < c → AllTied to (set_at contexts i).links labels) × Bounded n labels
 
-abbrev decreases-loop : tie.decreases-loop
+abbrev decreases-loop : tie.decreases-loop-c
 decreases-loop labels₀ to count n contexts c₀ labels c = count - c
 
-own-labels-requires : tie.Need-own-labels-requires invariant-loop decreases-loop
+own-labels-requires : tie.Need-own_labels-requires invariant-loop decreases-loop
 own-labels-requires c κs = search rules
 
-loop-holds : tie.Need-loop-init invariant-loop decreases-loop
-loop-holds c = let s = c.before.before in
+loop-holds : tie.Need-loop-c-init invariant-loop decreases-loop
+loop-holds c = let s = c in
     let a = s.args in
-    let o = c.own-labels in (
+    let o = c.own_labels in (
       omega arith,
       o.ensures.0,
-      own-sound a.t3 a.count a.to.now o.new.0 o.ensures.1,
+      own-sound a.contexts a.count a.to.now o.new.labels o.ensures.1,
       (λ i h. absurd (omega arith)),
-      own-bounded a.n s.requires.0.links-few o.new.0 o.ensures.1,
+      own-bounded a.n s.requires.0.links-few o.new.labels o.ensures.1,
     )
 
-mul-row : tie.Need-overflow-mul-row invariant-loop decreases-loop
-mul-row c = omega (arith, c.loop-test.true, c.before.before.before.before.requires.0.few)
+mul-row : tie.Need-offset_bounds-contexts-c invariant-loop decreases-loop
+mul-row c = omega (arith, c.loop-c-test.true, c.requires.0.few)
 
-array-copy-out-row : tie.Need-array-copy-out-row invariant-loop decreases-loop
-array-copy-out-row c = omega (arith, c.loop-test.true, c.before.before.before.before.requires.0.few)
+array-copy-out-row : tie.Need-bounds-contexts-c invariant-loop decreases-loop
+array-copy-out-row c = omega (arith, c.loop-c-test.true, c.requires.0.few)
 
-with-context-requires : tie.Need-with-context-requires invariant-loop decreases-loop
-with-context-requires c κs = let l = c.before.before.before.before.loop in
-    let s = c.before.before.before.before.before.before.before in
+with-context-requires : tie.Need-with_context-requires invariant-loop decreases-loop
+with-context-requires c κs = let l = c.loop-c in
+    let s = c in
     (s.requires.0.within l.c (omega arith), l.invariant.1, s.requires.0.links-few, l.invariant.4)
 
-add-c : tie.Need-overflow-add-c invariant-loop decreases-loop
-add-c c = let l = c.before.before.before.before.before in omega (arith, c.before.before.before.before.loop-test.true, l.before.before.before.requires.0.few)
+add-c : tie.Need-overflow_add-c invariant-loop decreases-loop
+add-c c = let l = c in omega (arith, c.loop-c-test.true, l.requires.0.few)
 
-loop-less : tie.Need-loop-smaller invariant-loop decreases-loop
+loop-less : tie.Need-loop-c-smaller invariant-loop decreases-loop
 loop-less c = search rules
 
-loop-again : tie.Need-loop-preserved invariant-loop decreases-loop
-loop-again c = let l = c.before.before.before.before.before.loop in
-    let s = c.before.before.before.before.before.before.before.before in
+loop-again : tie.Need-loop-c-preserved invariant-loop decreases-loop
+loop-again c = let l = c.loop-c in
+    let s = c in
     let a = s.args in
-    let m = c.with-context.new.0 in
-    let g = c.with-context.ensures in (
+    let m = c.with_context.new.labels in
+    let g = c.with_context.ensures in (
       omega arith,
       g.0,
-      g.1.sound a.t3 a.count l.c (omega arith) refl l.invariant.2,
-      below_next (λ i. AllTied a.to.now (set_at a.t3 i).links m) l.c
-          (λ i h. all-kept a.to.now (set_at a.t3 i).links (λ x k j. omega (arith, s.requires.0.within i (omega arith) x k j, s.requires.0.links-few)) l.labels m g.1.kept (l.invariant.3 i h)) g.2,
+      g.1.sound a.contexts a.count l.c (omega arith) refl l.invariant.2,
+      below_next (λ i. AllTied a.to.now (set_at a.contexts i).links m) l.c
+          (λ i h. all-kept a.to.now (set_at a.contexts i).links (λ x k j. omega (arith, s.requires.0.within i (omega arith) x k j, s.requires.0.links-few)) l.labels m g.1.kept (l.invariant.3 i h)) g.2,
       g.3,
     )
 
 returns : tie.Need-returns invariant-loop decreases-loop
-returns c = let l = c.before.loop in (l.invariant.1, record { sound = l.invariant.2; complete = λ i h. l.invariant.3 i (omega arith) })
+returns c = let l = c.loop-c in (l.invariant.1, record { sound = l.invariant.2; complete = λ i h. l.invariant.3 i (omega arith) })
 
-pub step-labels-spec : {M : Type 1} → statement M
-step-labels-spec =
+pub step_labels_spec : {M : Type 1} → statement M
+step_labels_spec =
     tie.close
     (tie.spec
     invariant-loop
