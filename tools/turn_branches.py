@@ -24,7 +24,9 @@ def joins(lts):
         each = []
         for r in records:
             k = re.search(r"pub record " + re.escape(r) + r" : Type 0 where\n((?:            +.*\n|\n)+)", lts)
-            each.append(re.findall(r"(?m)^            pub (\S+) :", k.group(1)) if k else [])
+            fields = re.findall(r"(?m)^            pub (\S+) :", k.group(1)) if k else []
+            # an older Rattle did not have these
+            each.append([f for f in fields if not f.startswith("way_told")])
         out.append((m.group(1), each))
     return out
 

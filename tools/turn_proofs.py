@@ -178,9 +178,13 @@ def by_parameter(text, names):
     text = re.sub(r"(?P<head>\.(?P<step>[^\s().,]+))" + tail, lambda m: name(m, m.group("step")), text)
     parts = re.split(r"(?m)^(?=\S)", text)
     for k, part in enumerate(parts):
-        for m in re.finditer(r"let (" + WORD + r") = [^\n=]*?\.(" + WORD + r") in", part):
+        for m in re.finditer(r"let (" + WORD + r") = [^\n=]*?\.(" + WORD + r")(?:\.(?:new|last))? in", part):
             if m.group(2) in names.steps.values():
                 part = re.sub(r"(?<![\w.])(" + re.escape(m.group(1)) + r")\.(inv|taken|kept|last)(?![\w'-])", lambda n: n.group(1) + "." + OLDER[n.group(2)], part)
+            for n in re.finditer(r"let (" + WORD + r") = [^\n=]*?\.(" + WORD + r")\.(?:new|last) in", part):
+                given = names.calls.get(n.group(2))
+                if given:
+                    part = re.sub(r"(?<![\w.])" + re.escape(n.group(1)) + r"((?:\.1)*)\.0(?!\d)", lambda o, g=given, n=n: n.group(1) + "." + g[len(o.group(1)) // 2] if len(o.group(1)) // 2 < len(g) else o.group(0), part)
             if m.group(2) in names.calls:
                 part = re.sub(r"(?P<head>(?<![\w.])" + re.escape(m.group(1)) + r")" + tail, lambda n, s=m.group(2): name(n, s), part)
         parts[k] = part
@@ -234,11 +238,14 @@ def turn(text, names, missing):
         elif not ups and head not in variables:
             return m.group(0)
         old = norm(name)
+        if old not in names.steps and old.endswith("-lem"):
+            old = old[:-4]
         if old not in names.steps:
             return m.group(0)
         fields = names.fields.get(old, {})
         if field:
-            field = "." + OLDER.get(field[1:], field[1:])
+            if not (names.steps[old].startswith("loop-") and not names.steps[old].endswith("-test") and field != ".inv"):
+                field = "." + OLDER.get(field[1:], field[1:])
             field = "." + fields.get(norm(field[1:]), field[1:])
         return head + ups + "." + names.steps[old] + (field or "")
 
@@ -246,7 +253,7 @@ def turn(text, names, missing):
     for k, part in enumerate(parts):
         variables = place_variables(part, known)
         parts[k] = re.sub(r"(" + WORD + r"|\))((?:\.before)*)\.(" + WORD + r")(\." + WORD + r")?", lambda m, v=variables: step(m, v), part)
-    text = "".join(parts).replace(".type-inv", ".type_inv")
+    text = re.sub(r"\.pre(?![\w'-])", ".requires", "".join(parts).replace(".type-inv", ".type_inv"))
     text = by_parameter(flat(text, names), names)
     for old in sorted(names.texts, key=len, reverse=True):
         text = re.sub(re.escape(old) + r"(?![\w'-])", lambda m: names.texts[old], text)
@@ -266,22 +273,48 @@ def turn(text, names, missing):
     return text.replace(".branch", ".branch-raw") if ".branch-raw" not in text else text
 
 
+def turn_cycle(text, entries, missing):
+    """A cycle of functions: each declaration names its function's steps by an alias of that function's module."""
+    aliases = {}
+    for m in re.finditer(r"(?m)^use \S+\.Lts-(\S+) as (\S+)$", text):
+        aliases[m.group(2)] = Names(entries[m.group(1)])
+    parts = re.split(r"(?m)^(?= *(?:abbrev |pub )*\S+ : )", text)
+    for k, part in enumerate(parts):
+        used = [a for a in aliases if re.search(r"^ *(?:abbrev |pub )*\S+ : (?:\S+ → )?\(?(?:\w+ : )?" + re.escape(a) + r"\.", part)]
+        if len(used) != 1:
+            continue
+        indent = re.match(r" *", part).group(0)
+        body = re.sub(r"(?m)^" + indent, "", part) if indent else part
+        body = body.replace(used[0] + ".", "tie.")
+        body = turn(body, aliases[used[0]], missing)
+        body = re.sub(r"(?<![\w.])tie\.", used[0] + ".", body)
+        parts[k] = re.sub(r"(?m)^(?=.)", indent, body) if indent else body
+    return "".join(parts)
+
+
 def main(crate, path):
     with open(path) as f:
         entries = json.load(f)
-    top = f"crates/{crate}/proofs"
+    top, done = f"crates/{crate}/proofs", set()
     for key, entry in entries.items():
         if not key.startswith(f"Rattle-{crate}-proofs."):
             continue
-        way = key.split(".", 1)[1].rsplit(".", 1)[0]
+        way, last = key.split(".", 1)[1].rsplit(".", 1)
         proof = os.path.join(top, *way.split("."), "Proof.antt")
         if not os.path.exists(proof):
             continue
         with open(proof) as f:
             text = f.read()
         missing = []
-        out = turn(text, Names(entry), missing)
-        name = way.split(".")[-1].lstrip("+")
+        name = way.split(".")[-1]
+        if last.startswith("Lts-"):
+            if proof in done:
+                continue
+            done.add(proof)
+            head = key.rsplit("Lts-", 1)[0] + "Lts-"
+            out = turn_cycle(text, {k[len(head):]: v for k, v in entries.items() if k.startswith(head)}, missing)
+        else:
+            out = turn(text, Names(entry), missing)
         out = re.sub(r"(?m)^(pub )?" + re.escape(norm(name)) + r"-spec\b", lambda m: (m.group(1) or "") + name + "_spec", out)
         if missing:
             print(f"{proof}: no new name for {', '.join(missing)}")

@@ -7,57 +7,57 @@ use Rattle.colours.proofs.SizeCode.{SizedTo, sized-none, sized-skip, sized-more,
 use Rattle.colours.proofs.pieces.sizes_of.Statement.{statement}
 use Rattle.colours.proofs.pieces.sizes_of.Tie as tie
 
-abbrev invariant-loop : tie.invariant-loop
+abbrev invariant-loop : tie.invariant-loop-t
 invariant-loop laid n users sizes₀ t₀ sizes t = (t ≤ n) × (length sizes ≡ sheet_atom_limit) × ((net : NormalForm) → LaidOut net laid n → SizedTo net n sizes t)
 
-abbrev decreases-loop : tie.decreases-loop
+abbrev decreases-loop : tie.decreases-loop-t
 decreases-loop laid n users sizes₀ t₀ sizes t = n - t
 
-loop-holds : tie.Need-loop-init invariant-loop decreases-loop
+loop-holds : tie.Need-loop-t-init invariant-loop decreases-loop
 loop-holds c = (search rules, c.requires.2, λ net o. sized-none net c.args.n c.args.sizes.now c.requires.3)
 
-mul-if1 : tie.Need-overflow-mul-if1 invariant-loop decreases-loop
+mul-if1 : tie.Need-offset_bounds-sizes-t invariant-loop decreases-loop
 mul-if1 c = search rules
 
-element-copy-out-if1 : tie.Need-element-copy-out-if1 invariant-loop decreases-loop
+element-copy-out-if1 : tie.Need-bounds-sizes-t invariant-loop decreases-loop
 element-copy-out-if1 c = search rules
 
-piece-of-requires : tie.Need-piece-of-requires invariant-loop decreases-loop
+piece-of-requires : tie.Need-piece_of-piece-requires invariant-loop decreases-loop
 piece-of-requires c κs = search rules
 
-size-of-requires : tie.Need-size-of-requires invariant-loop decreases-loop
+size-of-requires : tie.Need-size_of-requires invariant-loop decreases-loop
 size-of-requires c κs = search rules
 
-put-size-requires : tie.Need-put-size-requires invariant-loop decreases-loop
+put-size-requires : tie.Need-put_size-requires invariant-loop decreases-loop
 put-size-requires c κs = search rules
 
-add-t : tie.Need-overflow-add-t invariant-loop decreases-loop
+add-t : tie.Need-overflow_add-t invariant-loop decreases-loop
 add-t c = search rules
 
-loop-less : tie.Need-loop-smaller invariant-loop decreases-loop
+loop-less : tie.Need-loop-t-smaller invariant-loop decreases-loop
 loop-less c = search rules
 
-loop-again : tie.Need-loop-preserved invariant-loop decreases-loop
-loop-again c = let d = c.before.before in
-    let l = d.before in
-    let s = l.before in
-    let t = l.loop.t in
+loop-again : tie.Need-loop-t-preserved invariant-loop decreases-loop
+loop-again c = let d = c in
+    let l = d in
+    let s = l in
+    let t = l.loop-t.t in
     ⊎_elim
     (λ w. (
       search rules,
-      rw w.5 w.4.ensures.0,
-      λ net o. rw w.5 (sized-more net s.args.n l.loop.sizes t (l.loop.invariant.2 net o) _ w.1.result (omega (arith, s.requires.0.few)) d.loop-test.true (w.1.ensures net o) (λ u b m. w.4.ensures.1 u b m ∙ w.2.ensures) w.4.ensures.2),
+      rw w.sizes-is w.put_size.ensures.0,
+      λ net o. rw w.sizes-is (sized-more net s.args.n l.loop-t.sizes t (l.loop-t.invariant.2 net o) _ w.piece_of-piece.result (omega (arith, s.requires.0.few)) d.loop-t-test.true (w.piece_of-piece.ensures net o) (λ u b m. w.put_size.ensures.1 u b m ∙ w.size_of.ensures) w.put_size.ensures.2),
     ))
-    (λ w. (search rules, rw w.1 l.loop.invariant.1, λ net o. rw w.1 (sized-skip net s.args.n l.loop.sizes t (l.loop.invariant.2 net o) w.0.left)))
-    c.if1.branch
+    (λ w. (search rules, rw w.sizes-is l.loop-t.invariant.1, λ net o. rw w.sizes-is (sized-skip net s.args.n l.loop-t.sizes t (l.loop-t.invariant.2 net o) w.if-sizes-t-eq0.false)))
+    c.if-sizes-t-eq0.branch-raw
 
 returns : tie.Need-returns invariant-loop decreases-loop
-returns c = let l = c.before in
-    let s = l.before in
-    (l.loop.invariant.1, λ net o. sized-all net s.args.laid.now s.args.n o l.loop.sizes (subst (SizedTo net s.args.n l.loop.sizes) (let e : l.loop.t ≡ s.args.n = omega arith in e) (l.loop.invariant.2 net o)))
+returns c = let l = c in
+    let s = l in
+    (l.loop-t.invariant.1, λ net o. sized-all net s.args.laid.now s.args.n o l.loop-t.sizes (subst (SizedTo net s.args.n l.loop-t.sizes) (let e : l.loop-t.t ≡ s.args.n = omega arith in e) (l.loop-t.invariant.2 net o)))
 
-pub sizes-of-spec : {M : Type 1} → statement M
-sizes-of-spec =
+pub sizes_of_spec : {M : Type 1} → statement M
+sizes_of_spec =
     tie.close
     (tie.spec
     invariant-loop

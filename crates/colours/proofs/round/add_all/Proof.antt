@@ -14,55 +14,55 @@ use Rattle.colours.proofs.RoundCode.{added, added_next}
 use Rattle.colours.proofs.round.add_all.Statement.{statement}
 use Rattle.colours.proofs.round.add_all.Tie as tie
 
-abbrev invariant-loop : tie.invariant-loop
+abbrev invariant-loop : tie.invariant-loop-t
 invariant-loop laid n atoms around₀ t₀ around t = (t ≤ n) × (length around ≡ sheet_link_limit)
     × ((net : NormalForm) → LaidOut net laid n → (x : ℕ) → x < sheet_link_limit → get_or around x 0 ≡ sum_to (added (net_in net) atoms x) t % word_size)
 
-abbrev decreases-loop : tie.decreases-loop
+abbrev decreases-loop : tie.decreases-loop-t
 decreases-loop laid n atoms around₀ t₀ around t = n - t
 
-loop-holds : tie.Need-loop-init invariant-loop decreases-loop
+loop-holds : tie.Need-loop-t-init invariant-loop decreases-loop
 unfolding sum_to
 loop-holds c = (search rules, ap length c.requires.1 ∙ length-replicate {A = ℕ} sheet_link_limit 0, λ net o x h. ap (λ (l : List ℕ). get_or l x 0) c.requires.1 ∙ get_d-filled {A = ℕ} 0 sheet_link_limit x)
 
-laid-atom-requires : tie.Need-laid-atom-requires invariant-loop decreases-loop
-laid-atom-requires c κs = omega (arith, c.loop-test.true, c.before.before.requires.0.few)
+laid-atom-requires : tie.Need-laid_atom-atom-requires invariant-loop decreases-loop
+laid-atom-requires c κs = omega (arith, c.loop-t-test.true, c.requires.0.few)
 
-mul-add-around : tie.Need-overflow-mul-add-around invariant-loop decreases-loop
+mul-add-around : tie.Need-offset_bounds-atoms-t invariant-loop decreases-loop
 mul-add-around c = search rules
 
-element-copy-out-add-around : tie.Need-element-copy-out-add-around invariant-loop decreases-loop
+element-copy-out-add-around : tie.Need-bounds-atoms-t invariant-loop decreases-loop
 element-copy-out-add-around c = search rules
 
-add-around-requires : tie.Need-add-around-requires invariant-loop decreases-loop
-add-around-requires c κs = let d = c.before.before.before in
-    (subst (λ (a : Atom). Used sheet_link_limit a.count a.links) (sym c.before.before.laid-atom.ensures) (d.before.before.requires.0.atoms d.before.loop.t d.loop-test.true), d.before.loop.invariant.1)
+add-around-requires : tie.Need-add_around-requires invariant-loop decreases-loop
+add-around-requires c κs = let d = c in
+    (subst (λ (a : Atom). Used sheet_link_limit a.count a.links) (sym c.laid_atom-atom.ensures) (d.requires.0.atoms d.loop-t.t d.loop-t-test.true), d.loop-t.invariant.1)
 
-add-t : tie.Need-overflow-add-t invariant-loop decreases-loop
+add-t : tie.Need-overflow_add-t invariant-loop decreases-loop
 add-t c = search rules
 
-loop-less : tie.Need-loop-smaller invariant-loop decreases-loop
+loop-less : tie.Need-loop-t-smaller invariant-loop decreases-loop
 loop-less c = search rules
 
-loop-again : tie.Need-loop-preserved invariant-loop decreases-loop
-loop-again c = let a = c.before.before.before.laid-atom in
-    let d = c.before.before.before.before in
-    let l = d.before in
-    let s = l.before.args in
-    let t = l.loop.t in
-    let e = c.add-around.ensures in (
+loop-again : tie.Need-loop-t-preserved invariant-loop decreases-loop
+loop-again c = let a = c.laid_atom-atom in
+    let d = c in
+    let l = d in
+    let s = l.args in
+    let t = l.loop-t.t in
+    let e = c.add_around.ensures in (
       search rules,
       e.0,
-      λ net o x h. e.1 (λ z. sum_to (added (net_in net) s.atoms.now z) t) (l.loop.invariant.2 net o) x h ∙ added_next net s.laid.now s.n o s.atoms.now t d.loop-test.true a.result a.ensures x,
+      λ net o x h. e.1 (λ z. sum_to (added (net_in net) s.atoms.now z) t) (l.loop-t.invariant.2 net o) x h ∙ added_next net s.laid.now s.n o s.atoms.now t d.loop-t-test.true a.result a.ensures x,
     )
 
 returns : tie.Need-returns invariant-loop decreases-loop
-returns c = let l = c.before in
-    let s = l.before.args in
-    (l.loop.invariant.1, λ net o x h links. l.loop.invariant.2 net o x h ∙ ap (λ (z : ℕ). sum_to (added (net_in net) s.atoms.now x) z % word_size) (let e : l.loop.t ≡ length (net_in net).atoms = omega (arith, atoms-length net o.fit, o.count) in e))
+returns c = let l = c in
+    let s = l.args in
+    (l.loop-t.invariant.1, λ net o x h links. l.loop-t.invariant.2 net o x h ∙ ap (λ (z : ℕ). sum_to (added (net_in net) s.atoms.now x) z % word_size) (let e : l.loop-t.t ≡ length (net_in net).atoms = omega (arith, atoms-length net o.fit, o.count) in e))
 
-pub add-all-spec : {M : Type 1} → statement M
-add-all-spec =
+pub add_all_spec : {M : Type 1} → statement M
+add_all_spec =
     tie.close
     (tie.spec
     invariant-loop

@@ -13,41 +13,41 @@ use Rattle.deciding.proofs.decided.links_of.Tie as tie
 
 -- the sheet and the figure
 abbrev sheet-of : tie.Start → NormalForm
-sheet-of s = whole s.args.t1 s.args.laid.now
+sheet-of s = whole s.args.sheet s.args.laid.now
 
 abbrev figure-of : tie.Start → NormalForm
-figure-of s = whole s.args.t2 s.args.parts.now
+figure-of s = whole s.args.figure s.args.parts.now
 
-put-atoms-requires : tie.Need-put-atoms-requires
-put-atoms-requires c κs = let s = c.before.before in ((s.args.t1.atom_count, laid-rowed (sheet-of s) s.args.laid.now _ s.requires.2, s.requires.1.within), laid-rowed (figure-of s) s.args.parts.now _ s.requires.3, (told-start (sheet-of s) (figure-of s) s.args.t5 _ refl).room)
+put-atoms-requires : tie.Need-put_atoms-requires
+put-atoms-requires c κs = let s = c in ((s.args.sheet.atom_count, laid-rowed (sheet-of s.before.before) s.args.laid.now _ s.requires.2, s.requires.1.within), laid-rowed (figure-of s.before.before) s.args.parts.now _ s.requires.3, (told-start (sheet-of s.before.before) (figure-of s.before.before) s.args.atoms_to _ refl).room)
 
-marks-back-requires : tie.Need-marks-back-requires
-marks-back-requires c κs = let s = c.before.before.before.before.before.before.before.before in (s.requires.0.sheet-fit.mark-count, s.requires.0.figure-fit.mark-count)
+marks-back-requires : tie.Need-marks_back-requires
+marks-back-requires c κs = let s = c in (s.requires.0.sheet-fit.mark-count, s.requires.0.figure-fit.mark-count)
 
-put-marks-requires : tie.Need-put-marks-requires
-put-marks-requires c κs = let s = c.before.before.before.before.before.before.before.before.before.before.before.before in (s.requires.0.sheet-fit.mark-count, mark-links (figure-of s) _ _ _ (own-marks (figure-of s) s.requires.0.figure-fit s.requires.0.figure-normal))
+put-marks-requires : tie.Need-put_marks-ok-requires
+put-marks-requires c κs = let s = c in (s.requires.0.sheet-fit.mark-count, mark-links (figure-of s.before.before.before.before.before.before.before.before.before.before) _ _ _ (own-marks (figure-of s.before.before.before.before.before.before.before.before.before.before) s.requires.0.figure-fit s.requires.0.figure-normal))
 
-returns : tie.Need-returns
-returns c = let j = c.before.before.before.before.before.before.before.before.before in
-    let s = j.before.before.before.before in
-    let ok = c.before.before.before.before.before.before.before.before.if2.true in
+returns : tie.Need-returns-then-marks_back
+returns c = let j = c in
+    let s = j in
+    let ok = c.if-marks_back.true in
     ⊎_elim
     (λ w.
-    let p = (j.before.put-atoms.ensures (sheet-of s) (figure-of s) s.requires.2 s.requires.3 s.requires.1 (told-start (sheet-of s) (figure-of s) s.args.t5 _ refl)).passed w.0.taken in
-    let m = c.put-marks.ensures (sheet-of s) (figure-of s) (own-marks (sheet-of s) s.requires.0.sheet-fit s.requires.0.sheet-normal) (own-marks (figure-of s) s.requires.0.figure-fit s.requires.0.figure-normal) s.args.t5 s.requires.1 p.0 p.1 in
+    let p = (j.put_atoms.ensures (sheet-of s.before.before.before.before.before.before.before.before.before.before.before) (figure-of s.before.before.before.before.before.before.before.before.before.before.before) s.requires.2 s.requires.3 s.requires.1 (told-start (sheet-of s.before.before.before.before.before.before.before.before.before.before.before) (figure-of s.before.before.before.before.before.before.before.before.before.before.before) s.args.atoms_to _ refl)).passed w.if-put_atoms.true in
+    let m = c.put_marks-ok.ensures (sheet-of s.before.before.before.before.before.before.before.before.before.before.before) (figure-of s.before.before.before.before.before.before.before.before.before.before.before) (own-marks (sheet-of s.before.before.before.before.before.before.before.before.before.before.before) s.requires.0.sheet-fit s.requires.0.sheet-normal) (own-marks (figure-of s.before.before.before.before.before.before.before.before.before.before.before) s.requires.0.figure-fit s.requires.0.figure-normal) s.args.atoms_to s.requires.1 p.0 p.1 in
     record {
-      passed = λ g. let n = m.passed g in record { told = n.0; atoms-agree = n.1; marks-agree = n.2; marks-back = w.5.ensures.passed (sym w.6 ∙ ok) };
+      passed = λ g. let n = m.passed g in record { told = n.0; atoms-agree = n.1; marks-agree = n.2; marks-back = w.marks_back.ensures.passed (sym w.value-is ∙ ok) };
       refused = m.refused;
     })
-    (λ w. both_ways ok (w.1 ∙ w.0.left))
-    j.if1.branch
+    (λ w. both_ways ok (w.value-is ∙ w.if-put_atoms.false))
+    j.if-put_atoms.branch-raw
 
-returns-2 : tie.Need-returns-2
-returns-2 c = let s = c.before.before.before.before.before in
+returns-2 : tie.Need-returns-else-marks_back
+returns-2 c = let s = c in
     record {
-      passed = λ g. both_ways g c.if2.false;
-      refused = λ g. ⊎_elim (λ w. (let m = w.5.ensures.refused (sym w.6 ∙ c.if2.false) in back-missing (sheet-of s) (figure-of s) s.requires.0 s.args.t5 m.0 m.1 m.2)) (λ w. (c.before.before.put-atoms.ensures (sheet-of s) (figure-of s) s.requires.2 s.requires.3 s.requires.1 (told-start (sheet-of s) (figure-of s) s.args.t5 _ refl)).refused w.0.left) c.before.if1.branch;
+      passed = λ g. both_ways g c.if-marks_back.false;
+      refused = λ g. ⊎_elim (λ w. (let m = w.marks_back.ensures.refused (sym w.value-is ∙ c.if-marks_back.false) in back-missing (sheet-of s.before.before.before.before.before) (figure-of s.before.before.before.before.before) s.requires.0 s.args.atoms_to m.0 m.1 m.2)) (λ w. (c.put_atoms.ensures (sheet-of s.before.before.before.before.before) (figure-of s.before.before.before.before.before) s.requires.2 s.requires.3 s.requires.1 (told-start (sheet-of s.before.before.before.before.before) (figure-of s.before.before.before.before.before) s.args.atoms_to _ refl)).refused w.if-put_atoms.false) c.if-put_atoms.branch-raw;
     }
 
-pub links-of-spec : {M : Type 1} → statement M
-links-of-spec = tie.close (tie.spec put-atoms-requires marks-back-requires put-marks-requires returns returns-2)
+pub links_of_spec : {M : Type 1} → statement M
+links_of_spec = tie.close (tie.spec put-atoms-requires marks-back-requires put-marks-requires returns returns-2)

@@ -10,43 +10,43 @@ use Rattle.deciding.proofs.Sets.{below_or}
 use Rattle.deciding.proofs.marks.marks_back.Statement.{statement}
 use Rattle.deciding.proofs.marks.marks_back.Tie as tie
 
-abbrev invariant-loop : tie.invariant-loop
+abbrev invariant-loop : tie.invariant-loop-i
 invariant-loop marks n figure-marks m i₀ i = (i ≤ n) × ((k : ℕ) → k < i → Among figure-marks m (get_or marks k 0))
 
-abbrev decreases-loop : tie.decreases-loop
+abbrev decreases-loop : tie.decreases-loop-i
 decreases-loop marks n figure-marks m i₀ i = n - i
 
-loop-holds : tie.Need-loop-init invariant-loop decreases-loop
+loop-holds : tie.Need-loop-i-init invariant-loop decreases-loop
 loop-holds c = (omega arith, λ k h. absurd (omega arith))
 
-mul-place-of : tie.Need-overflow-mul-place-of invariant-loop decreases-loop
-mul-place-of c = omega (arith, c.loop-test.true, c.before.before.requires.0)
+mul-place-of : tie.Need-offset_bounds-marks-i invariant-loop decreases-loop
+mul-place-of c = omega (arith, c.loop-i-test.true, c.requires.0)
 
-element-copy-out-place-of : tie.Need-element-copy-out-place-of invariant-loop decreases-loop
-element-copy-out-place-of c = omega (arith, c.loop-test.true, c.before.before.requires.0)
+element-copy-out-place-of : tie.Need-bounds-marks-i invariant-loop decreases-loop
+element-copy-out-place-of c = omega (arith, c.loop-i-test.true, c.requires.0)
 
-place-of-requires : tie.Need-place-of-requires invariant-loop decreases-loop
-place-of-requires c κs = c.before.before.before.requires.1
+place-of-requires : tie.Need-place_of-j-requires invariant-loop decreases-loop
+place-of-requires c κs = c.requires.1
 
-returns : tie.Need-returns invariant-loop decreases-loop
-returns c = record { passed = λ g. both_ways g refl; refused = λ g. (c.before.before.before.before.loop.i, c.before.before.before.loop-test.true, c.before.place_of.ensures.missing c.if1.true) }
+returns : tie.Need-returns-then-j-m invariant-loop decreases-loop
+returns c = record { passed = λ g. both_ways g refl; refused = λ g. (c.loop-i.i, c.loop-i-test.true, c.place_of-j.ensures.missing c.if-j-m.true) }
 
-add-i : tie.Need-overflow-add-i invariant-loop decreases-loop
-add-i c = omega (arith, c.before.before.before.loop-test.true, c.before.before.before.before.before.requires.0)
+add-i : tie.Need-overflow_add-i invariant-loop decreases-loop
+add-i c = omega (arith, c.loop-i-test.true, c.requires.0)
 
-loop-less : tie.Need-loop-smaller invariant-loop decreases-loop
-loop-less c = omega (arith, c.before.before.before.loop-test.true)
+loop-less : tie.Need-loop-i-smaller invariant-loop decreases-loop
+loop-less c = omega (arith, c.loop-i-test.true)
 
-loop-again : tie.Need-loop-preserved invariant-loop decreases-loop
-loop-again c = let p = c.before.place_of in
-    let h = below_or _ _ p.ensures.within c.if1.false in
-    (omega (arith, c.before.before.before.loop-test.true), below_more _ _ c.before.before.before.before.loop.invariant.1 (p.result, h, p.ensures.found h))
+loop-again : tie.Need-loop-i-preserved invariant-loop decreases-loop
+loop-again c = let p = c.place_of-j in
+    let h = below_or _ _ p.ensures.within c.if-j-m.false in
+    (omega (arith, c.loop-i-test.true), below_more _ _ c.loop-i.invariant.1 (p.result, h, p.ensures.found h))
 
-returns-2 : tie.Need-returns-2 invariant-loop decreases-loop
-returns-2 c = record { passed = λ g i h. c.before.loop.invariant.1 i (omega arith); refused = λ g. both_ways refl g }
+returns-2 : tie.Need-returns invariant-loop decreases-loop
+returns-2 c = record { passed = λ g i h. c.loop-i.invariant.1 i (omega arith); refused = λ g. both_ways refl g }
 
-pub marks-back-spec : {M : Type 1} → statement M
-marks-back-spec =
+pub marks_back_spec : {M : Type 1} → statement M
+marks_back_spec =
     tie.close
     (tie.spec
     invariant-loop

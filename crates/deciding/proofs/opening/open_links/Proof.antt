@@ -10,53 +10,53 @@ use Rattle.deciding.proofs.FlagLaws.{Opening, opening-same, opening-start, openi
 use Rattle.deciding.proofs.opening.open_links.Statement.{statement}
 use Rattle.deciding.proofs.opening.open_links.Tie as tie
 
-abbrev invariant-loop : tie.invariant-loop
+abbrev invariant-loop : tie.invariant-loop-x
 invariant-loop none count next₀ flags₀ x₀ next flags x = (x ≤ count) × Opening next₀ none x next flags
 
-abbrev decreases-loop : tie.decreases-loop
+abbrev decreases-loop : tie.decreases-loop-x
 decreases-loop none count next₀ flags₀ x₀ next flags x = count - x
 
-loop-holds : tie.Need-loop-init invariant-loop decreases-loop
+loop-holds : tie.Need-loop-x-init invariant-loop decreases-loop
 loop-holds c = (omega arith, opening-start c.args.to c.args.none (search rules) _ refl)
 
-mul-if1 : tie.Need-overflow-mul-if1 invariant-loop decreases-loop
+mul-if1 : tie.Need-offset_bounds-next-x invariant-loop decreases-loop
 mul-if1 c = search rules
 
-array-read-if1 : tie.Need-array-read-if1 invariant-loop decreases-loop
+array-read-if1 : tie.Need-bounds-next-x invariant-loop decreases-loop
 array-read-if1 c = search rules
 
-mul_next : tie.Need-overflow-mul-next invariant-loop decreases-loop
+mul_next : tie.Need-offset_bounds-next-x-then-next-x-eq0 invariant-loop decreases-loop
 mul_next c = search rules
 
-array-write-next : tie.Need-array-write-next invariant-loop decreases-loop
+array-write-next : tie.Need-bounds-next-x-then-next-x-eq0 invariant-loop decreases-loop
 array-write-next c = search rules
 
-array-write-flags : tie.Need-array-write-flags invariant-loop decreases-loop
+array-write-flags : tie.Need-bounds-flags-x invariant-loop decreases-loop
 array-write-flags c = search rules
 
-add-x : tie.Need-overflow-add-x invariant-loop decreases-loop
+add-x : tie.Need-overflow_add-x invariant-loop decreases-loop
 add-x c = search rules
 
-loop-less : tie.Need-loop-smaller invariant-loop decreases-loop
+loop-less : tie.Need-loop-x-smaller invariant-loop decreases-loop
 loop-less c = search rules
 
-loop-again : tie.Need-loop-preserved invariant-loop decreases-loop
-loop-again c = let b = c.before.before.before in
-    let l = c.before.before.loop in
-    let h = c.before.loop-test.true in (
+loop-again : tie.Need-loop-x-preserved invariant-loop decreases-loop
+loop-again c = let b = c in
+    let l = c.loop-x in
+    let h = c.loop-x-test.true in (
       omega arith,
       ⊎_elim
-          (λ w. opening-same w.1 w.2 (opening-open b.args.to b.args.none (search rules) l.x l.next l.flags l.invariant.1 (omega arith) w.0.taken))
-          (λ w. opening-same w.1 w.2 (opening-keep b.args.to b.args.none (search rules) l.x l.next l.flags l.invariant.1 (omega arith) w.0.left))
-          c.if1.branch,
+          (λ w. opening-same w.next-is w.flags-is (opening-open b.args.to b.args.none (search rules) l.x l.next l.flags l.invariant.1 (omega arith) w.if-next-x-eq0.true))
+          (λ w. opening-same w.next-is w.flags-is (opening-keep b.args.to b.args.none (search rules) l.x l.next l.flags l.invariant.1 (omega arith) w.if-next-x-eq0.false))
+          c.if-next-x-eq0.branch-raw,
     )
 
 returns : tie.Need-returns invariant-loop decreases-loop
-returns c = let e : c.before.loop.x ≡ c.before.before.args.count = omega arith in
-    subst (λ (n : ℕ). Opens c.before.before.args.to c.before.before.args.none n c.before.loop.next c.before.loop.flags) e c.before.loop.invariant.1.opens
+returns c = let e : c.loop-x.x ≡ c.args.count = omega arith in
+    subst (λ (n : ℕ). Opens c.args.to c.args.none n c.loop-x.next c.loop-x.flags) e c.loop-x.invariant.1.opens
 
-pub open-links-spec : {M : Type 1} → statement M
-open-links-spec =
+pub open_links_spec : {M : Type 1} → statement M
+open_links_spec =
     tie.close
     (tie.spec
     invariant-loop

@@ -7,11 +7,11 @@ use Rattle.deciding.proofs.several.unless_in.Tie as tie
 has-requires : tie.Need-has-requires
 has-requires c κs = search rules
 
-returns : tie.Need-returns
-returns c = ((λ e. absurd (omega (arith, e))), λ e. inr (c.before.has.ensures.0 c.if1.true))
+returns : tie.Need-returns-then-has
+returns c = ((λ e. absurd (omega (arith, e))), λ e. inr (c.has.ensures.0 c.if-has.true))
 
-returns-2 : tie.Need-returns-2
+returns-2 : tie.Need-returns
 returns-2 c = ((λ e. e), inl)
 
-pub unless-in-spec : {M : Type 1} → statement M
-unless-in-spec = tie.close (tie.spec has-requires returns returns-2)
+pub unless_in_spec : {M : Type 1} → statement M
+unless_in_spec = tie.close (tie.spec has-requires returns returns-2)

@@ -9,62 +9,62 @@ use Rattle.deciding.proofs.FlagLaws.{different-start, taken_twice, different-nex
 use Rattle.deciding.proofs.taken.taken_by.Statement.{statement}
 use Rattle.deciding.proofs.taken.taken_by.Tie as tie
 
-abbrev invariant-loop : tie.invariant-loop
+abbrev invariant-loop : tie.invariant-loop-i
 invariant-loop count atoms-to flags₀ i₀ flags i = (i ≤ count) × Different atoms-to i flags
 
-abbrev decreases-loop : tie.decreases-loop
+abbrev decreases-loop : tie.decreases-loop-i
 decreases-loop count atoms-to flags₀ i₀ flags i = count - i
 
-loop-holds : tie.Need-loop-init invariant-loop decreases-loop
+loop-holds : tie.Need-loop-i-init invariant-loop decreases-loop
 loop-holds c = (omega arith, different-start _ _ refl)
 
-mul-t : tie.Need-overflow-mul-t invariant-loop decreases-loop
+mul-t : tie.Need-offset_bounds-atoms_to-i invariant-loop decreases-loop
 mul-t c = search rules
 
-array-read-t : tie.Need-array-read-t invariant-loop decreases-loop
-array-read-t c = omega (arith, c.loop-test.true, c.before.before.requires.0)
+array-read-t : tie.Need-bounds-atoms_to-i invariant-loop decreases-loop
+array-read-t c = omega (arith, c.loop-i-test.true, c.requires.0)
 
-sub-t : tie.Need-overflow-sub-t invariant-loop decreases-loop
-sub-t c = omega (arith, c.before.before.requires.1 c.before.loop.i c.loop-test.true)
+sub-t : tie.Need-overflow_sub-t invariant-loop decreases-loop
+sub-t c = omega (arith, c.requires.1 c.loop-i.i c.loop-i-test.true)
 
-cast_t : tie.Need-overflow-cast-t invariant-loop decreases-loop
-cast_t c = search (rules, c.before.before.requires.1 c.before.loop.i c.loop-test.true)
+cast_t : tie.Need-overflow_cast-t invariant-loop decreases-loop
+cast_t c = search (rules, c.requires.1 c.loop-i.i c.loop-i-test.true)
 
-array-read-if1 : tie.Need-array-read-if1 invariant-loop decreases-loop
-array-read-if1 c = omega (arith, c.before.before.requires.1 c.before.loop.i c.loop-test.true)
+array-read-if1 : tie.Need-bounds-flags-t invariant-loop decreases-loop
+array-read-if1 c = omega (arith, c.requires.1 c.loop-i.i c.loop-i-test.true)
 
-returns : tie.Need-returns invariant-loop decreases-loop
-returns c = let b = c.before.before.before in
-    let l = c.before.before.loop in
-    let h = c.before.loop-test.true in
+returns : tie.Need-returns-then-flags-t-eq1 invariant-loop decreases-loop
+returns c = let b = c in
+    let l = c.loop-i in
+    let h = c.loop-i-test.true in
     record {
       different = λ g. both_ways g refl;
-      twice = λ g. taken_twice b.args.t2 l.i l.flags l.invariant.1 (b.requires.1 l.i h) b.args.count h c.if1.true;
+      twice = λ g. taken_twice b.args.atoms_to l.i l.flags l.invariant.1 (b.requires.1 l.i h) b.args.count h c.if-flags-t-eq1.true;
     }
 
-array-write-flags : tie.Need-array-write-flags invariant-loop decreases-loop
-array-write-flags c = omega (arith, c.before.before.before.requires.1 c.before.before.loop.i c.before.loop-test.true)
+array-write-flags : tie.Need-bounds-flags-t-in-loop-i invariant-loop decreases-loop
+array-write-flags c = omega (arith, c.requires.1 c.loop-i.i c.loop-i-test.true)
 
-add-i : tie.Need-overflow-add-i invariant-loop decreases-loop
+add-i : tie.Need-overflow_add-i invariant-loop decreases-loop
 add-i c = search rules
 
-loop-less : tie.Need-loop-smaller invariant-loop decreases-loop
+loop-less : tie.Need-loop-i-smaller invariant-loop decreases-loop
 loop-less c = search rules
 
-loop-again : tie.Need-loop-preserved invariant-loop decreases-loop
-loop-again c = let b = c.before.before.before in
-    let l = c.before.before.loop in
-    let h = c.before.loop-test.true in
-    (omega arith, different-next b.args.t2 l.i l.flags l.invariant.1 (b.requires.1 l.i h) c.if1.false)
+loop-again : tie.Need-loop-i-preserved invariant-loop decreases-loop
+loop-again c = let b = c in
+    let l = c.loop-i in
+    let h = c.loop-i-test.true in
+    (omega arith, different-next b.args.atoms_to l.i l.flags l.invariant.1 (b.requires.1 l.i h) c.if-flags-t-eq1.false)
 
-returns-2 : tie.Need-returns-2 invariant-loop decreases-loop
-returns-2 c = let b = c.before.before in
-    let l = c.before.loop in
+returns-2 : tie.Need-returns invariant-loop decreases-loop
+returns-2 c = let b = c in
+    let l = c.loop-i in
     let e : l.i ≡ b.args.count = omega arith in
-    record { different = λ g. subst (λ (n : ℕ). Different b.args.t2 n l.flags) e l.invariant.1; twice = λ g. both_ways refl g }
+    record { different = λ g. subst (λ (n : ℕ). Different b.args.atoms_to n l.flags) e l.invariant.1; twice = λ g. both_ways refl g }
 
-pub taken-by-spec : {M : Type 1} → statement M
-taken-by-spec =
+pub taken_by_spec : {M : Type 1} → statement M
+taken_by_spec =
     tie.close
     (tie.spec
     invariant-loop

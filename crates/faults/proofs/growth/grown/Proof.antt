@@ -14,25 +14,25 @@ use Rattle.faults.proofs.Whole.{LinksSeen, sized-start, grows_start, seen_next, 
 use Rattle.faults.proofs.growth.grown.Statement.{statement}
 use Rattle.faults.proofs.growth.grown.Tie as tie
 
-abbrev invariant-loop : tie.invariant-loop
+abbrev invariant-loop : tie.invariant-loop-head
 invariant-loop order₀ way₀ seen₀ cuts₀ laid chains used ports atoms contexts root count₀ head₀ order way seen cuts count head = (head ≤ count) × Sized atoms (growth order count way) × (length seen ≡ sheet_link_limit) × (length cuts ≡ context_room) × LinksSeen laid (growth order count way) seen head × ((S F : Net) (q : Placing) → RowsIn S laid atoms → Tables S F q chains used ports atoms contexts → Other S F q (suc root) → Grows S F q (suc root) contexts (growth order count way) seen cuts)
 
-abbrev decreases-loop : tie.decreases-loop
+abbrev decreases-loop : tie.decreases-loop-head
 decreases-loop order₀ way₀ seen₀ cuts₀ laid chains used ports atoms contexts root count₀ head₀ order way seen cuts count head = sheet_atom_limit - head
 
-cast-order : tie.Need-overflow-cast-order invariant-loop decreases-loop
+cast-order : tie.Need-overflow_cast-order invariant-loop decreases-loop
 cast-order c = omega (arith, c.requires.0.few, c.requires.1)
 
-element-write-order : tie.Need-element-write-order invariant-loop decreases-loop
+element-write-order : tie.Need-bounds-order-0 invariant-loop decreases-loop
 element-write-order c = search rules
 
-mul-way : tie.Need-overflow-mul-way invariant-loop decreases-loop
+mul-way : tie.Need-offset_bounds-way-root invariant-loop decreases-loop
 mul-way c = omega (arith, c.requires.0.few, c.requires.1)
 
-element-write-way : tie.Need-element-write-way invariant-loop decreases-loop
+element-write-way : tie.Need-bounds-way-root invariant-loop decreases-loop
 element-write-way c = omega (arith, c.requires.0.few, c.requires.1)
 
-loop-holds : tie.Need-loop-init invariant-loop decreases-loop
+loop-holds : tie.Need-loop-head-init invariant-loop decreases-loop
 loop-holds c = let a = c.args in
     let n = a.atoms in
     let o = set a.order.now 0 a.root in
@@ -45,47 +45,47 @@ loop-holds c = let a = c.args in
     ))) in
     (omega arith, w.0, w.1, w.2, (λ h k i. absurd (omega arith)), w.3)
 
-element-copy-out-j : tie.Need-element-copy-out-j invariant-loop decreases-loop
+element-copy-out-j : tie.Need-bounds-order-head invariant-loop decreases-loop
 element-copy-out-j c = search rules
 
-cast-j : tie.Need-overflow-cast-j invariant-loop decreases-loop
-cast-j c = let l = c.before.before.loop in let s = c.before.before.before in let r = l.invariant.1.listed l.head (omega arith) in omega (arith, s.requires.0.few)
+cast-j : tie.Need-overflow_cast-j invariant-loop decreases-loop
+cast-j c = let l = c.loop-head in let s = c in let r = l.invariant.1.listed l.head (omega arith) in omega (arith, s.requires.0.few)
 
-with-links-requires : tie.Need-with-links-requires invariant-loop decreases-loop
-with-links-requires c κs = let l = c.before.before.before.before.before.before.loop in let s = c.before.before.before.before.before.before.before in (s.requires.0, l.invariant.1.listed l.head (omega (arith, c.before.before.before.before.before.loop-test.true)), s.requires.2, l.invariant.1, l.invariant.2, l.invariant.3, s.requires.7)
+with-links-requires : tie.Need-with_links-count-requires invariant-loop decreases-loop
+with-links-requires c κs = let l = c.loop-head in let s = c in (s.requires.0, l.invariant.1.listed l.head (omega (arith, c.loop-head-test.true)), s.requires.2, l.invariant.1, l.invariant.2, l.invariant.3, s.requires.7)
 
-add-head : tie.Need-overflow-add-head invariant-loop decreases-loop
+add-head : tie.Need-overflow_add-head invariant-loop decreases-loop
 add-head c = search rules
 
-loop-less : tie.Need-loop-smaller invariant-loop decreases-loop
-loop-less c = let l = c.before.before.before.before.before.before.before.loop in let m = l.invariant.1.most in omega arith
+loop-less : tie.Need-loop-head-smaller invariant-loop decreases-loop
+loop-less c = let l = c.loop-head in let m = l.invariant.1.most in omega arith
 
-loop-again : tie.Need-loop-preserved invariant-loop decreases-loop
-loop-again c = let l = c.before.before.before.before.before.before.before.loop in
-    let s = c.before.before.before.before.before.before.before.before in
+loop-again : tie.Need-loop-head-preserved invariant-loop decreases-loop
+loop-again c = let l = c.loop-head in
+    let s = c in
     let a = s.args in
-    let v = c.with-links.ensures in
-    let e = c.with-links.new in
+    let v = c.with_links-count.ensures in
+    let e = c.with_links-count.new in
     let g = growth l.order l.count l.way in
-    let n = growth e.0 c.with-links.result e.1.0 in
-    let h : l.head < l.count = omega (arith, c.before.before.before.before.before.before.loop-test.true) in (
+    let n = growth e.order c.with_links-count.result e.way in
+    let h : l.head < l.count = omega (arith, c.loop-head-test.true) in (
       omega (arith, v.0.longer.count_kept),
       v.0.sized,
       v.0.flags-room,
       v.0.cuts-room,
-      seen_next a.laid.now a.atoms a.chains.now a.used.now a.ports.now a.contexts g l.seen l.cuts n e.1.1.0 e.1.1.1.0 l.head h l.invariant.1 v.0 v.1 l.invariant.4,
-      λ S F q rows t o. grows-next a.laid.now a.atoms a.chains.now a.used.now a.ports.now a.contexts g l.seen l.cuts n e.1.1.0 e.1.1.1.0 l.head h l.invariant.1 v.0 v.1 S F q (suc a.root) rows t (l.invariant.5 S F q rows t o),
+      seen_next a.laid.now a.atoms a.chains.now a.used.now a.ports.now a.contexts g l.seen l.cuts n e.seen e.cuts l.head h l.invariant.1 v.0 v.1 l.invariant.4,
+      λ S F q rows t o. grows-next a.laid.now a.atoms a.chains.now a.used.now a.ports.now a.contexts g l.seen l.cuts n e.seen e.cuts l.head h l.invariant.1 v.0 v.1 S F q (suc a.root) rows t (l.invariant.5 S F q rows t o),
     )
 
 returns : tie.Need-returns invariant-loop decreases-loop
-returns c = let l = c.before.loop in
-    let s = c.before.before in
+returns c = let l = c.loop-head in
+    let s = c in
     let a = s.args in
     let e : l.head ≡ l.count = omega arith in
     (l.invariant.1, λ S F q rows t o. whole-at a.laid.now a.atoms a.chains.now a.used.now a.ports.now a.contexts (growth l.order l.count l.way) l.seen l.cuts S F q (suc a.root) rows t l.invariant.1 (λ h k i. l.invariant.4 h k (omega arith)) (l.invariant.5 S F q rows t o))
 
-pub grown-spec : {M : Type 1} → statement M
-grown-spec =
+pub grown_spec : {M : Type 1} → statement M
+grown_spec =
     tie.close
     (tie.spec
     invariant-loop

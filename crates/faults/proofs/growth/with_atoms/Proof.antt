@@ -14,68 +14,68 @@ use Rattle.faults.proofs.Growing.{added-room, longer-same, longer-then, sized-ad
 use Rattle.faults.proofs.growth.with_atoms.Statement.{statement}
 use Rattle.faults.proofs.growth.with_atoms.Tie as tie
 
-abbrev invariant-loop : tie.invariant-loop
+abbrev invariant-loop : tie.invariant-loop-v
 invariant-loop order₀ way₀ count chains y atoms mark next₀ v₀ order way next v = (v < node_of atoms 0) × (v ≢ 0 → sheet_link_limit ≤ v) × Sized atoms (growth order next way) × Longer (growth order₀ count way₀) (growth order next way) × WithAtoms chains y atoms v (growth order₀ count way₀) (growth order next way)
 
-abbrev decreases-loop : tie.decreases-loop
+abbrev decreases-loop : tie.decreases-loop-v
 decreases-loop order₀ way₀ count chains y atoms mark next₀ v₀ order way next v = v
 
-mul-v : tie.Need-overflow-mul-v invariant-loop decreases-loop
+mul-v : tie.Need-offset_bounds-chains-y invariant-loop decreases-loop
 mul-v c = search rules
 
-element-copy-out-v : tie.Need-element-copy-out-v invariant-loop decreases-loop
+element-copy-out-v : tie.Need-bounds-chains-y invariant-loop decreases-loop
 element-copy-out-v c = search rules
 
-cast-v : tie.Need-overflow-cast-v invariant-loop decreases-loop
-cast-v c = let w = c.before.requires.4.within c.before.args.y in let few = c.before.requires.1 in omega arith
+cast-v : tie.Need-overflow_cast-v invariant-loop decreases-loop
+cast-v c = let w = c.requires.4.within c.args.y in let few = c.requires.1 in omega arith
 
-loop-holds : tie.Need-loop-init invariant-loop decreases-loop
-loop-holds c = let s = c.before in
+loop-holds : tie.Need-loop-v-init invariant-loop decreases-loop
+loop-holds c = let s = c in
     let a = s.args in
     let g = growth a.order.now a.count a.way.now in
     (s.requires.4.within a.y, s.requires.4.above a.y, s.requires.2, longer-same g, atoms-start a.chains.now a.y a.atoms s.requires.0 g)
 
-sub-i : tie.Need-overflow-sub-i invariant-loop decreases-loop
-sub-i c = omega (arith, c.before.loop.invariant.1 c.loop-test.true)
+sub-i : tie.Need-overflow_sub-i invariant-loop decreases-loop
+sub-i c = omega (arith, c.loop-v.invariant.1 c.loop-v-test.true)
 
-mul-if1 : tie.Need-overflow-mul-if1 invariant-loop decreases-loop
+mul-if1 : tie.Need-offset_bounds-way-i invariant-loop decreases-loop
 mul-if1 c = search rules
 
-element-copy-out-if1 : tie.Need-element-copy-out-if1 invariant-loop decreases-loop
-element-copy-out-if1 c = let s = c.before.before.before in let l = c.before.loop in let low = l.invariant.1 c.loop-test.true in let d = div-add-mod' (l.v - sheet_link_limit) most_links in let few = s.requires.1 in omega arith
+element-copy-out-if1 : tie.Need-bounds-way-i invariant-loop decreases-loop
+element-copy-out-if1 c = let s = c in let l = c.loop-v in let low = l.invariant.1 c.loop-v-test.true in let d = div-add-mod' (l.v - sheet_link_limit) most_links in let few = s.requires.1 in omega arith
 
-cast-order : tie.Need-overflow-cast-order invariant-loop decreases-loop
-cast-order c = let s = c.before.before.before.before.before in let l = c.before.before.before.loop in let low = l.invariant.1 c.before.before.loop-test.true in let d = div-add-mod' (l.v - sheet_link_limit) most_links in let few = s.requires.1 in omega arith
+cast-order : tie.Need-overflow_cast-order invariant-loop decreases-loop
+cast-order c = let s = c in let l = c.loop-v in let low = l.invariant.1 c.loop-v-test.true in let d = div-add-mod' (l.v - sheet_link_limit) most_links in let few = s.requires.1 in omega arith
 
-element-write-order : tie.Need-element-write-order invariant-loop decreases-loop
-element-write-order c = let s = c.before.before.before.before.before in let l = c.before.before.before.loop in let low = l.invariant.1 c.before.before.loop-test.true in let d = div-add-mod' (l.v - sheet_link_limit) most_links in let few = s.requires.1 in added-room s.args.atoms (growth l.order l.next l.way) ((l.v - sheet_link_limit) / most_links) s.args.mark s.requires.1 l.invariant.2 (omega arith) c.if1.true s.requires.3
+element-write-order : tie.Need-bounds-order-next invariant-loop decreases-loop
+element-write-order c = let s = c in let l = c.loop-v in let low = l.invariant.1 c.loop-v-test.true in let d = div-add-mod' (l.v - sheet_link_limit) most_links in let few = s.requires.1 in added-room s.args.atoms (growth l.order l.next l.way) ((l.v - sheet_link_limit) / most_links) s.args.mark s.requires.1 l.invariant.2 (omega arith) c.if-way-i-eq0.true s.requires.3
 
-mul-way : tie.Need-overflow-mul-way invariant-loop decreases-loop
+mul-way : tie.Need-offset_bounds-way-i-then-way-i-eq0 invariant-loop decreases-loop
 mul-way c = search rules
 
-element-write-way : tie.Need-element-write-way invariant-loop decreases-loop
-element-write-way c = let s = c.before.before.before.before.before in let l = c.before.before.before.loop in let low = l.invariant.1 c.before.before.loop-test.true in let d = div-add-mod' (l.v - sheet_link_limit) most_links in let few = s.requires.1 in omega arith
+element-write-way : tie.Need-bounds-way-i-then-way-i-eq0 invariant-loop decreases-loop
+element-write-way c = let s = c in let l = c.loop-v in let low = l.invariant.1 c.loop-v-test.true in let d = div-add-mod' (l.v - sheet_link_limit) most_links in let few = s.requires.1 in omega arith
 
-add-next : tie.Need-overflow-add-next invariant-loop decreases-loop
+add-next : tie.Need-overflow_add-next invariant-loop decreases-loop
 add-next c = search rules
 
-mul-v-2 : tie.Need-overflow-mul-v-2 invariant-loop decreases-loop
-mul-v-2 c = let s = c.before.before.before.before.before in let l = c.before.before.before.loop in let low = l.invariant.1 c.before.before.loop-test.true in let d = div-add-mod' (l.v - sheet_link_limit) most_links in let few = s.requires.1 in omega arith
+mul-v-2 : tie.Need-offset_bounds-chains-v invariant-loop decreases-loop
+mul-v-2 c = let s = c in let l = c.loop-v in let low = l.invariant.1 c.loop-v-test.true in let d = div-add-mod' (l.v - sheet_link_limit) most_links in let few = s.requires.1 in omega arith
 
-element-copy-out-v-2 : tie.Need-element-copy-out-v-2 invariant-loop decreases-loop
-element-copy-out-v-2 c = let s = c.before.before.before.before.before in let l = c.before.before.before.loop in let low = l.invariant.1 c.before.before.loop-test.true in let d = div-add-mod' (l.v - sheet_link_limit) most_links in let few = s.requires.1 in omega arith
+element-copy-out-v-2 : tie.Need-bounds-chains-v invariant-loop decreases-loop
+element-copy-out-v-2 c = let s = c in let l = c.loop-v in let low = l.invariant.1 c.loop-v-test.true in let d = div-add-mod' (l.v - sheet_link_limit) most_links in let few = s.requires.1 in omega arith
 
-cast-v-2 : tie.Need-overflow-cast-v-2 invariant-loop decreases-loop
-cast-v-2 c = let s = c.before.before.before.before.before.before in let l = c.before.before.before.before.loop in let low = l.invariant.1 c.before.before.before.loop-test.true in let d = div-add-mod' (l.v - sheet_link_limit) most_links in let few = s.requires.1 in let w = s.requires.4.within l.v in omega arith
+cast-v-2 : tie.Need-overflow_cast-v-in-loop-v invariant-loop decreases-loop
+cast-v-2 c = let s = c in let l = c.loop-v in let low = l.invariant.1 c.loop-v-test.true in let d = div-add-mod' (l.v - sheet_link_limit) most_links in let few = s.requires.1 in let w = s.requires.4.within l.v in omega arith
 
-loop-less : tie.Need-loop-smaller invariant-loop decreases-loop
-loop-less c = let s = c.before.before.before.before.before.before in let l = c.before.before.before.before.loop in let low = l.invariant.1 c.before.before.before.loop-test.true in let d = div-add-mod' (l.v - sheet_link_limit) most_links in let few = s.requires.1 in s.requires.4.falls l.v low
+loop-less : tie.Need-loop-v-smaller invariant-loop decreases-loop
+loop-less c = let s = c in let l = c.loop-v in let low = l.invariant.1 c.loop-v-test.true in let d = div-add-mod' (l.v - sheet_link_limit) most_links in let few = s.requires.1 in s.requires.4.falls l.v low
 
-loop-again : tie.Need-loop-preserved invariant-loop decreases-loop
-loop-again c = let s = c.before.before.before.before.before.before in
-    let l = c.before.before.before.before.loop in
+loop-again : tie.Need-loop-v-preserved invariant-loop decreases-loop
+loop-again c = let s = c in
+    let l = c.loop-v in
     let a = s.args in
-    let low = l.invariant.1 c.before.before.before.loop-test.true in
+    let low = l.invariant.1 c.loop-v-test.true in
     let d = div-add-mod' (l.v - sheet_link_limit) most_links in
     let i = (l.v - sheet_link_limit) / most_links in
     let k = (l.v - sheet_link_limit) % most_links in
@@ -85,28 +85,28 @@ loop-again c = let s = c.before.before.before.before.before.before in
     let g₀ = growth a.order.now a.count a.way.now in
     let g = growth l.order l.next l.way in
     let P : Growth → Type 0 = λ m. Sized a.atoms m × Longer g₀ m × WithAtoms a.chains.now a.y a.atoms (get_or a.chains.now l.v 0) g₀ m in
-    let w : P (growth c.before.if1.order c.before.if1.next c.before.if1.way) = ⊎_elim
+    let w : P (growth c.if-way-i-eq0.order c.if-way-i-eq0.next c.if-way-i-eq0.way') = ⊎_elim
     (λ w.
-    let f : growth c.before.if1.order c.before.if1.next c.before.if1.way ≡ added g i a.mark = cc in
+    let f : growth c.if-way-i-eq0.order c.if-way-i-eq0.next c.if-way-i-eq0.way' ≡ added g i a.mark = cc in
     subst P (sym f) (
-      sized-added a.atoms g i a.mark s.requires.1 l.invariant.2 h w.0.taken s.requires.3,
-      longer-then g₀ g (added g i a.mark) l.invariant.3 (longer-added a.atoms g i a.mark s.requires.1 l.invariant.2 h w.0.taken s.requires.3),
-      atoms-next a.chains.now a.y a.atoms s.requires.0 l.v i k g₀ g (added g i a.mark) rest e (joins a.atoms g i a.mark s.requires.1 l.invariant.2 h w.0.taken s.requires.3) l.invariant.4,
+      sized-added a.atoms g i a.mark s.requires.1 l.invariant.2 h w.if-way-i-eq0.true s.requires.3,
+      longer-then g₀ g (added g i a.mark) l.invariant.3 (longer-added a.atoms g i a.mark s.requires.1 l.invariant.2 h w.if-way-i-eq0.true s.requires.3),
+      atoms-next a.chains.now a.y a.atoms s.requires.0 l.v i k g₀ g (added g i a.mark) rest e (joins a.atoms g i a.mark s.requires.1 l.invariant.2 h w.if-way-i-eq0.true s.requires.3) l.invariant.4,
     ))
     (λ w.
-    let f : growth c.before.if1.order c.before.if1.next c.before.if1.way ≡ g = cc in
-    subst P (sym f) (l.invariant.2, l.invariant.3, atoms-next a.chains.now a.y a.atoms s.requires.0 l.v i k g₀ g g rest e (stays a.atoms i g w.0.left) l.invariant.4))
-    c.before.if1.branch in
+    let f : growth c.if-way-i-eq0.order c.if-way-i-eq0.next c.if-way-i-eq0.way' ≡ g = cc in
+    subst P (sym f) (l.invariant.2, l.invariant.3, atoms-next a.chains.now a.y a.atoms s.requires.0 l.v i k g₀ g g rest e (stays a.atoms i g w.if-way-i-eq0.false) l.invariant.4))
+    c.if-way-i-eq0.branch-raw in
     (s.requires.4.within l.v, s.requires.4.above l.v, w.0, w.1, w.2)
 
 returns : tie.Need-returns invariant-loop decreases-loop
-returns c = let l = c.before.loop in
-    let a = c.before.before.before.args in
+returns c = let l = c.loop-v in
+    let a = c.args in
     let e : l.v ≡ 0 = omega arith in
     (l.invariant.2, l.invariant.3, subst (λ n. WithAtoms a.chains.now a.y a.atoms n (growth a.order.now a.count a.way.now) (growth l.order l.next l.way)) e l.invariant.4)
 
-pub with-atoms-spec : {M : Type 1} → statement M
-with-atoms-spec =
+pub with_atoms_spec : {M : Type 1} → statement M
+with_atoms_spec =
     tie.close
     (tie.spec
     invariant-loop

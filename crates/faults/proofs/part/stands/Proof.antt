@@ -9,55 +9,55 @@ use Rattle.faults.proofs.AtomRows.{read-few, read-stands}
 use Rattle.faults.proofs.part.stands.Statement.{statement}
 use Rattle.faults.proofs.part.stands.Tie as tie
 
-abbrev invariant-loop : tie.invariant-loop
+abbrev invariant-loop : tie.invariant-loop-k
 invariant-loop laid atoms j z links count k₀ k = (k ≤ count) × (count ≤ most_links)
 
-abbrev decreases-loop : tie.decreases-loop
+abbrev decreases-loop : tie.decreases-loop-k
 decreases-loop laid atoms j z links count k₀ k = count - k
 
-laid-atom-requires : tie.Need-laid-atom-requires invariant-loop decreases-loop
+laid-atom-requires : tie.Need-laid_atom-a-requires invariant-loop decreases-loop
 laid-atom-requires c κs = search rules
 
-cast-count : tie.Need-overflow-cast-count invariant-loop decreases-loop
+cast-count : tie.Need-overflow_cast-count invariant-loop decreases-loop
 cast-count c = search rules
 
-loop-holds : tie.Need-loop-init invariant-loop decreases-loop
-loop-holds c = let s = c.before.before.before.before in
-    let t = c.before.before.laid-atom in
-    (omega arith, read-few s.args.laid.now s.args.atoms s.args.j c.before.before.before.if1.true t.result t.ensures s.requires)
+loop-holds : tie.Need-loop-k-init invariant-loop decreases-loop
+loop-holds c = let s = c in
+    let t = c.laid_atom-a in
+    (omega arith, read-few s.args.laid.now s.args.atoms s.args.j c.if-j-atoms.true t.result t.ensures s.requires)
 
-mul-if2 : tie.Need-overflow-mul-if2 invariant-loop decreases-loop
+mul-if2 : tie.Need-offset_bounds-links-k invariant-loop decreases-loop
 mul-if2 c = search rules
 
-array-read-if2 : tie.Need-array-read-if2 invariant-loop decreases-loop
+array-read-if2 : tie.Need-bounds-links-k invariant-loop decreases-loop
 array-read-if2 c = search rules
 
-cast-if2 : tie.Need-overflow-cast-if2 invariant-loop decreases-loop
+cast-if2 : tie.Need-overflow_cast-links invariant-loop decreases-loop
 cast-if2 c = search rules
 
-returns : tie.Need-returns invariant-loop decreases-loop
-returns c = let s = c.before.before.before.before.before.before.before in
-    let t = c.before.before.before.before.before.laid-atom in
-    let h = c.before.before.before.before.before.before.if1.true in
-    λ e. (h, subst (StandsOn s.args.laid.now s.args.atoms s.args.j) c.if2.true (read-stands s.args.laid.now s.args.atoms s.args.j h t.result t.ensures c.before.before.loop.k c.before.loop-test.true))
+returns : tie.Need-returns-then-links-k invariant-loop decreases-loop
+returns c = let s = c in
+    let t = c.laid_atom-a in
+    let h = c.if-j-atoms.true in
+    λ e. (h, subst (StandsOn s.args.laid.now s.args.atoms s.args.j) c.if-links-k.true (read-stands s.args.laid.now s.args.atoms s.args.j h t.result t.ensures c.loop-k.k c.loop-k-test.true))
 
-add-k : tie.Need-overflow-add-k invariant-loop decreases-loop
+add-k : tie.Need-overflow_add-k invariant-loop decreases-loop
 add-k c = search rules
 
-loop-less : tie.Need-loop-smaller invariant-loop decreases-loop
+loop-less : tie.Need-loop-k-smaller invariant-loop decreases-loop
 loop-less c = search rules
 
-loop-again : tie.Need-loop-preserved invariant-loop decreases-loop
+loop-again : tie.Need-loop-k-preserved invariant-loop decreases-loop
 loop-again c = search rules
 
-returns-2 : tie.Need-returns-2 invariant-loop decreases-loop
+returns-2 : tie.Need-returns-after-loop-k invariant-loop decreases-loop
 returns-2 c = λ e. absurd (let z : ◌≡◌ {A = ℕ} 0 1 = cc in omega arith)
 
-returns-3 : tie.Need-returns-3 invariant-loop decreases-loop
+returns-3 : tie.Need-returns-else-j-atoms invariant-loop decreases-loop
 returns-3 c = λ e. absurd (let z : ◌≡◌ {A = ℕ} 0 1 = cc in omega arith)
 
-pub stands-spec : {M : Type 1} → statement M
-stands-spec =
+pub stands_spec : {M : Type 1} → statement M
+stands_spec =
     tie.close
     (tie.spec
     invariant-loop

@@ -5,53 +5,53 @@ use Rattle.rows.specs.Limits.{sheet_atom_limit}
 use Rattle.faults.proofs.part.way_back.Statement.{statement}
 use Rattle.faults.proofs.part.way_back.Tie as tie
 
-abbrev invariant-loop : tie.invariant-loop
+abbrev invariant-loop : tie.invariant-loop-n
 invariant-loop path₀ members way from j₀ n₀ path j n = (j < sheet_atom_limit) × (n ≤ sheet_atom_limit)
 
-abbrev decreases-loop : tie.decreases-loop
+abbrev decreases-loop : tie.decreases-loop-n
 decreases-loop path₀ members way from j₀ n₀ path j n = sheet_atom_limit - n
 
-loop-holds : tie.Need-loop-init invariant-loop decreases-loop
+loop-holds : tie.Need-loop-n-init invariant-loop decreases-loop
 loop-holds c = search rules
 
-element-copy-out-if1 : tie.Need-element-copy-out-if1 invariant-loop decreases-loop
+element-copy-out-if1 : tie.Need-bounds-members-j invariant-loop decreases-loop
 element-copy-out-if1 c = search rules
 
-returns : tie.Need-returns invariant-loop decreases-loop
+returns : tie.Need-returns-then-members-j-eq1 invariant-loop decreases-loop
 returns c = search rules
 
-cast-path : tie.Need-overflow-cast-path invariant-loop decreases-loop
+cast-path : tie.Need-overflow_cast-path invariant-loop decreases-loop
 cast-path c = search rules
 
-mul-path : tie.Need-overflow-mul-path invariant-loop decreases-loop
+mul-path : tie.Need-offset_bounds-path-n invariant-loop decreases-loop
 mul-path c = search rules
 
-element-write-path : tie.Need-element-write-path invariant-loop decreases-loop
+element-write-path : tie.Need-bounds-path-n invariant-loop decreases-loop
 element-write-path c = search rules
 
-mul_wide : tie.Need-overflow-mul-wide invariant-loop decreases-loop
+mul_wide : tie.Need-offset_bounds-way-j invariant-loop decreases-loop
 mul_wide c = search rules
 
-element-copy-out-wide : tie.Need-element-copy-out-wide invariant-loop decreases-loop
+element-copy-out-wide : tie.Need-bounds-way-j invariant-loop decreases-loop
 element-copy-out-wide c = search rules
 
-wide-requires : tie.Need-wide-requires invariant-loop decreases-loop
+wide-requires : tie.Need-wide-j-requires invariant-loop decreases-loop
 wide-requires c κs = search rules
 
-add-n : tie.Need-overflow-add-n invariant-loop decreases-loop
+add-n : tie.Need-overflow_add-n invariant-loop decreases-loop
 add-n c = search rules
 
-loop-less : tie.Need-loop-smaller invariant-loop decreases-loop
+loop-less : tie.Need-loop-n-smaller invariant-loop decreases-loop
 loop-less c = search rules
 
-loop-again : tie.Need-loop-preserved invariant-loop decreases-loop
+loop-again : tie.Need-loop-n-preserved invariant-loop decreases-loop
 loop-again c = search rules
 
-returns-2 : tie.Need-returns-2 invariant-loop decreases-loop
+returns-2 : tie.Need-returns invariant-loop decreases-loop
 returns-2 c = search rules
 
-pub way-back-spec : {M : Type 1} → statement M
-way-back-spec =
+pub way_back_spec : {M : Type 1} → statement M
+way_back_spec =
     tie.close
     (tie.spec
     invariant-loop

@@ -16,58 +16,58 @@ use Rattle.remaining.proofs.AllowLaws.{chain_first, chain_next, allows-cut}
 use Rattle.remaining.proofs.atoms.cut.Statement.{statement}
 use Rattle.remaining.proofs.atoms.cut.Tie as tie
 
-abbrev invariant-loop : tie.invariant-loop
+abbrev invariant-loop : tie.invariant-loop-v
 invariant-loop words₀ chains y word v₀ words v = (v < node_count) × (v ≢ 0 → sheet_link_limit ≤ v) × (length words ≡ sheet_atom_limit) × ((S : Net) (n : ℕ) → Chained S n chains → ((v ≢ 0 → (v < n) × NodeOn S y v) × ((taken : List ℕ) (digits : ℕ → ℕ) → AllIn S taken digits y word → Allows S taken digits words₀ → Allows S taken digits words)))
 
-abbrev decreases-loop : tie.decreases-loop
+abbrev decreases-loop : tie.decreases-loop-v
 decreases-loop words₀ chains y word v₀ words v = v
 
-mul-v : tie.Need-overflow-mul-v invariant-loop decreases-loop
+mul-v : tie.Need-offset_bounds-chains-y invariant-loop decreases-loop
 mul-v c = search rules
 
-element-copy-out-v : tie.Need-element-copy-out-v invariant-loop decreases-loop
+element-copy-out-v : tie.Need-bounds-chains-y invariant-loop decreases-loop
 element-copy-out-v c = search rules
 
-cast-v : tie.Need-overflow-cast-v invariant-loop decreases-loop
-cast-v c = let w = c.before.requires.2.within c.before.args.y in omega arith
+cast-v : tie.Need-overflow_cast-v invariant-loop decreases-loop
+cast-v c = let w = c.requires.2.within c.args.y in omega arith
 
-loop-holds : tie.Need-loop-init invariant-loop decreases-loop
-loop-holds c = let s = c.before in
+loop-holds : tie.Need-loop-v-init invariant-loop decreases-loop
+loop-holds c = let s = c in
     let a = s.args in
     (s.requires.2.within a.y, s.requires.2.above a.y, s.requires.1, λ S n k. ((λ e. (k.nodes.within a.y, chain_first S n a.chains.now k a.y s.requires.0 e)), λ taken digits u w. w))
 
-sub-i : tie.Need-overflow-sub-i invariant-loop decreases-loop
-sub-i c = c.before.loop.invariant.1 c.loop-test.true
+sub-i : tie.Need-overflow_sub-i invariant-loop decreases-loop
+sub-i c = c.loop-v.invariant.1 c.loop-v-test.true
 
-mul_words : tie.Need-overflow-mul-words invariant-loop decreases-loop
+mul_words : tie.Need-offset_bounds-words-i invariant-loop decreases-loop
 mul_words c = search rules
 
-element-copy-out-words : tie.Need-element-copy-out-words invariant-loop decreases-loop
-element-copy-out-words c = atom-few c.before.loop.v (c.before.loop.invariant.1 c.loop-test.true) c.before.loop.invariant.0
+element-copy-out-words : tie.Need-bounds-words-i invariant-loop decreases-loop
+element-copy-out-words c = atom-few c.loop-v.v (c.loop-v.invariant.1 c.loop-v-test.true) c.loop-v.invariant.0
 
-mul-words-2 : tie.Need-overflow-mul-words-2 invariant-loop decreases-loop
+mul-words-2 : tie.Need-offset_bounds-words-i-in-loop-v invariant-loop decreases-loop
 mul-words-2 c = search rules
 
-element-write-words : tie.Need-element-write-words invariant-loop decreases-loop
-element-write-words c = atom-few c.before.before.loop.v (c.before.before.loop.invariant.1 c.before.loop-test.true) c.before.before.loop.invariant.0
+element-write-words : tie.Need-bounds-words-i-in-loop-v invariant-loop decreases-loop
+element-write-words c = atom-few c.loop-v.v (c.loop-v.invariant.1 c.loop-v-test.true) c.loop-v.invariant.0
 
-mul-v-2 : tie.Need-overflow-mul-v-2 invariant-loop decreases-loop
+mul-v-2 : tie.Need-offset_bounds-chains-v invariant-loop decreases-loop
 mul-v-2 c = search rules
 
-element-copy-out-v-2 : tie.Need-element-copy-out-v-2 invariant-loop decreases-loop
-element-copy-out-v-2 c = c.before.before.loop.invariant.0
+element-copy-out-v-2 : tie.Need-bounds-chains-v invariant-loop decreases-loop
+element-copy-out-v-2 c = c.loop-v.invariant.0
 
-cast-v-2 : tie.Need-overflow-cast-v-2 invariant-loop decreases-loop
-cast-v-2 c = let w = c.before.before.before.before.before.requires.2.within c.before.before.before.loop.v in omega arith
+cast-v-2 : tie.Need-overflow_cast-v-in-loop-v invariant-loop decreases-loop
+cast-v-2 c = let w = c.requires.2.within c.loop-v.v in omega arith
 
-loop-less : tie.Need-loop-smaller invariant-loop decreases-loop
-loop-less c = c.before.before.before.before.before.requires.2.falls c.before.before.before.loop.v (c.before.before.before.loop.invariant.1 c.before.before.loop-test.true)
+loop-less : tie.Need-loop-v-smaller invariant-loop decreases-loop
+loop-less c = c.requires.2.falls c.loop-v.v (c.loop-v.invariant.1 c.loop-v-test.true)
 
-loop-again : tie.Need-loop-preserved invariant-loop decreases-loop
-loop-again c = let s = c.before.before.before.before.before in
+loop-again : tie.Need-loop-v-preserved invariant-loop decreases-loop
+loop-again c = let s = c in
     let a = s.args in
-    let l = c.before.before.before.loop in
-    let t = c.before.before.loop-test.true in
+    let l = c.loop-v in
+    let t = c.loop-v-test.true in
     let few = atom-few l.v (l.invariant.1 t) l.invariant.0 in (
       s.requires.2.within l.v,
       s.requires.2.above l.v,
@@ -80,7 +80,7 @@ loop-again c = let s = c.before.before.before.before.before in
     )
 
 returns : tie.Need-returns invariant-loop decreases-loop
-returns c = (c.before.loop.invariant.2, λ S n k. (c.before.loop.invariant.3 S n k).1)
+returns c = (c.loop-v.invariant.2, λ S n k. (c.loop-v.invariant.3 S n k).1)
 
 pub cut_spec : {M : Type 1} → statement M
 cut_spec =

@@ -4,11 +4,11 @@ use borrow.Author.Rules.{rules}
 use Rattle.remaining.proofs.atoms.kept_by.Statement.{statement}
 use Rattle.remaining.proofs.atoms.kept_by.Tie as tie
 
-returns : tie.Need-returns
+returns : tie.Need-returns-then-taken-eq1
 returns c = record { kept = λ t i f. i }
 
-returns-2 : tie.Need-returns-2
-returns-2 c = record { kept = λ t i f. in_and c.before.args.word c.before.args.closed t i (f c.if1.false) }
+returns-2 : tie.Need-returns
+returns-2 c = record { kept = λ t i f. in_and c.args.word c.args.closed t i (f c.if-taken-eq1.false) }
 
-pub kept-by-spec : {M : Type 1} → statement M
-kept-by-spec = tie.close (tie.spec returns returns-2)
+pub kept_by_spec : {M : Type 1} → statement M
+kept_by_spec = tie.close (tie.spec returns returns-2)

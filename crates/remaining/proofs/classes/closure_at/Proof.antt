@@ -13,52 +13,52 @@ first-requires c κs = c.requires.1
 one-requires : tie.Need-one-requires
 one-requires c κs = search rules
 
-minus-requires : tie.Need-minus-requires
+minus-requires : tie.Need-minus-rest-requires
 minus-requires c κs = search rules
 
-cast-closure : tie.Need-overflow-cast-closure
-cast-closure c = omega (arith, c.before.before.before.before.requires.2)
+cast-closure : tie.Need-overflow_cast-w
+cast-closure c = omega (arith, c.requires.2)
 
 closure-requires : tie.Need-closure-requires
 closure-requires c κs = search rules
 
-returns : tie.Need-returns
+returns : tie.Need-returns-then-rest-eq0
 returns c = c.closure.ensures
 
-minus-requires-2 : tie.Need-minus-requires-2
+minus-requires-2 : tie.Need-minus-head-requires
 minus-requires-2 c κs = search rules
 
-mul-result : tie.Need-overflow-mul-result
-mul-result c = let a = c.before.before.before.before.before.args in
-    let l = rest-less a.w c.before.before.minus.result c.before.before.before.before.before.requires.2 c.before.before.before.one.result c.before.before.before.before.first.result c.before.before.before.before.first.ensures.1 (alone-in c.before.before.before.before.first.result c.before.before.before.one.result c.before.before.before.one.ensures) c.before.before.minus.ensures in
-    let h = head-less a.w c.before.before.minus.result c.before.before.before.before.before.requires.2 c.before.before.before.one.result c.minus2.result c.before.before.minus.ensures c.minus2.ensures c.before.if1.false l in
-    omega (arith, h, c.before.before.before.before.before.requires.2)
+mul-result : tie.Need-offset_bounds-table-head
+mul-result c = let a = c.args in
+    let l = rest-less a.w c.minus-rest.result c.requires.2 c.one.result c.first.result c.first.ensures.1 (alone-in c.first.result c.one.result c.one.ensures) c.minus-rest.ensures in
+    let h = head-less a.w c.minus-rest.result c.requires.2 c.one.result c.minus-head.result c.minus-rest.ensures c.minus-head.ensures c.if-rest-eq0.false l in
+    omega (arith, h, c.requires.2)
 
-element-copy-out-result : tie.Need-element-copy-out-result
-element-copy-out-result c = let a = c.before.before.before.before.before.args in
-    let l = rest-less a.w c.before.before.minus.result c.before.before.before.before.before.requires.2 c.before.before.before.one.result c.before.before.before.before.first.result c.before.before.before.before.first.ensures.1 (alone-in c.before.before.before.before.first.result c.before.before.before.one.result c.before.before.before.one.ensures) c.before.before.minus.ensures in
-    let h = head-less a.w c.before.before.minus.result c.before.before.before.before.before.requires.2 c.before.before.before.one.result c.minus2.result c.before.before.minus.ensures c.minus2.ensures c.before.if1.false l in
-    omega (arith, h, c.before.before.before.before.before.requires.2)
+element-copy-out-result : tie.Need-bounds-table-head
+element-copy-out-result c = let a = c.args in
+    let l = rest-less a.w c.minus-rest.result c.requires.2 c.one.result c.first.result c.first.ensures.1 (alone-in c.first.result c.one.result c.one.ensures) c.minus-rest.ensures in
+    let h = head-less a.w c.minus-rest.result c.requires.2 c.one.result c.minus-head.result c.minus-rest.ensures c.minus-head.ensures c.if-rest-eq0.false l in
+    omega (arith, h, c.requires.2)
 
-mul-result-2 : tie.Need-overflow-mul-result-2
-mul-result-2 c = let a = c.before.before.before.before.before.before.args in
-    let l = rest-less a.w c.before.before.before.minus.result c.before.before.before.before.before.before.requires.2 c.before.before.before.before.one.result c.before.before.before.before.before.first.result c.before.before.before.before.before.first.ensures.1 (alone-in c.before.before.before.before.before.first.result c.before.before.before.before.one.result c.before.before.before.before.one.ensures) c.before.before.before.minus.ensures in
-    omega (arith, l, c.before.before.before.before.before.before.requires.2)
+mul-result-2 : tie.Need-offset_bounds-table-rest
+mul-result-2 c = let a = c.args in
+    let l = rest-less a.w c.minus-rest.result c.requires.2 c.one.result c.first.result c.first.ensures.1 (alone-in c.first.result c.one.result c.one.ensures) c.minus-rest.ensures in
+    omega (arith, l, c.requires.2)
 
-element-copy-out-result-2 : tie.Need-element-copy-out-result-2
-element-copy-out-result-2 c = let a = c.before.before.before.before.before.before.args in
-    let l = rest-less a.w c.before.before.before.minus.result c.before.before.before.before.before.before.requires.2 c.before.before.before.before.one.result c.before.before.before.before.before.first.result c.before.before.before.before.before.first.ensures.1 (alone-in c.before.before.before.before.before.first.result c.before.before.before.before.one.result c.before.before.before.before.one.ensures) c.before.before.before.minus.ensures in
-    omega (arith, l, c.before.before.before.before.before.before.requires.2)
+element-copy-out-result-2 : tie.Need-bounds-table-rest
+element-copy-out-result-2 c = let a = c.args in
+    let l = rest-less a.w c.minus-rest.result c.requires.2 c.one.result c.first.result c.first.ensures.1 (alone-in c.first.result c.one.result c.one.ensures) c.minus-rest.ensures in
+    omega (arith, l, c.requires.2)
 
-returns-2 : tie.Need-returns-2
-returns-2 c = let a = c.before.before.before.before.before.before.before.args in
-    let l = rest-less a.w c.before.before.before.before.minus.result c.before.before.before.before.before.before.before.requires.2 c.before.before.before.before.before.one.result c.before.before.before.before.before.before.first.result c.before.before.before.before.before.before.first.ensures.1 (alone-in c.before.before.before.before.before.before.first.result c.before.before.before.before.before.one.result c.before.before.before.before.before.one.ensures) c.before.before.before.before.minus.ensures in
-    let h = head-less a.w c.before.before.before.before.minus.result c.before.before.before.before.before.before.before.requires.2 c.before.before.before.before.before.one.result c.before.before.minus2.result c.before.before.before.before.minus.ensures c.before.before.minus2.ensures c.before.before.before.if1.false l in
-    closure-both a.standing.now a.flags.now a.to.now a.count 0 c.before.before.minus2.result c.before.before.before.before.minus.result a.w (get_or a.table.now c.before.before.minus2.result 0) (get_or a.table.now c.before.before.before.before.minus.result 0)
-    (head-or-rest a.w c.before.before.before.before.minus.result c.before.before.before.before.before.before.before.requires.2 c.before.before.before.before.before.one.result c.before.before.minus2.result c.before.before.before.before.minus.ensures c.before.before.minus2.ensures) (c.before.before.before.before.before.before.before.requires.3 c.before.before.minus2.result h) (c.before.before.before.before.before.before.before.requires.3 c.before.before.before.before.minus.result l)
+returns-2 : tie.Need-returns
+returns-2 c = let a = c.args in
+    let l = rest-less a.w c.minus-rest.result c.requires.2 c.one.result c.first.result c.first.ensures.1 (alone-in c.first.result c.one.result c.one.ensures) c.minus-rest.ensures in
+    let h = head-less a.w c.minus-rest.result c.requires.2 c.one.result c.minus-head.result c.minus-rest.ensures c.minus-head.ensures c.if-rest-eq0.false l in
+    closure-both a.standing.now a.flags.now a.to.now a.count 0 c.minus-head.result c.minus-rest.result a.w (get_or a.table.now c.minus-head.result 0) (get_or a.table.now c.minus-rest.result 0)
+    (head-or-rest a.w c.minus-rest.result c.requires.2 c.one.result c.minus-head.result c.minus-rest.ensures c.minus-head.ensures) (c.requires.3 c.minus-head.result h) (c.requires.3 c.minus-rest.result l)
 
-pub closure-at-spec : {M : Type 1} → statement M
-closure-at-spec =
+pub closure_at_spec : {M : Type 1} → statement M
+closure_at_spec =
     tie.close
     (tie.spec
     first-requires

@@ -8,42 +8,42 @@ use Rattle.remaining.proofs.JoinLaws.{TableTo, table-start, table-next, table-en
 use Rattle.remaining.proofs.classes.closures.Statement.{statement}
 use Rattle.remaining.proofs.classes.closures.Tie as tie
 
-abbrev invariant-loop : tie.invariant-loop
+abbrev invariant-loop : tie.invariant-loop-w
 invariant-loop table₀ standing flags to count w₀ table w = (1 ≤ w) × (w ≤ word_count) × TableTo standing flags to count w table
 
-abbrev decreases-loop : tie.decreases-loop
+abbrev decreases-loop : tie.decreases-loop-w
 decreases-loop table₀ standing flags to count w₀ table w = word_count - w
 
-loop-holds : tie.Need-loop-init invariant-loop decreases-loop
+loop-holds : tie.Need-loop-w-init invariant-loop decreases-loop
 loop-holds c = let s = c in (omega arith, omega arith, table-start s.args.standing.now s.args.flags.now s.args.to.now s.args.count s.args.table.now s.requires.1)
 
-closure-at-requires : tie.Need-closure-at-requires invariant-loop decreases-loop
-closure-at-requires c κs = (c.before.before.before.requires.0, omega (arith, c.before.before.loop.invariant.0), c.before.loop-test.true, c.before.before.loop.invariant.2.1)
+closure-at-requires : tie.Need-closure_at-closed-requires invariant-loop decreases-loop
+closure-at-requires c κs = (c.requires.0, omega (arith, c.loop-w.invariant.0), c.loop-w-test.true, c.loop-w.invariant.2.1)
 
-mul-table : tie.Need-overflow-mul-table invariant-loop decreases-loop
+mul-table : tie.Need-offset_bounds-table-w invariant-loop decreases-loop
 mul-table c = search rules
 
-element-write-table : tie.Need-element-write-table invariant-loop decreases-loop
-element-write-table c = c.before.before.loop-test.true
+element-write-table : tie.Need-bounds-table-w invariant-loop decreases-loop
+element-write-table c = c.loop-w-test.true
 
-add-w : tie.Need-overflow-add-w invariant-loop decreases-loop
+add-w : tie.Need-overflow_add-w invariant-loop decreases-loop
 add-w c = search rules
 
-loop-less : tie.Need-loop-smaller invariant-loop decreases-loop
+loop-less : tie.Need-loop-w-smaller invariant-loop decreases-loop
 loop-less c = search rules
 
-loop-again : tie.Need-loop-preserved invariant-loop decreases-loop
-loop-again c = let s = c.before.before.before.before in
-    let l = c.before.before.before.loop in
-    (omega arith, omega (arith, c.before.before.loop-test.true), table-next s.args.standing.now s.args.flags.now s.args.to.now s.args.count l.w l.table c.before.before.loop-test.true l.invariant.2 c.closure-at.result c.closure-at.ensures)
+loop-again : tie.Need-loop-w-preserved invariant-loop decreases-loop
+loop-again c = let s = c in
+    let l = c.loop-w in
+    (omega arith, omega (arith, c.loop-w-test.true), table-next s.args.standing.now s.args.flags.now s.args.to.now s.args.count l.w l.table c.loop-w-test.true l.invariant.2 c.closure_at-closed.result c.closure_at-closed.ensures)
 
 returns : tie.Need-returns invariant-loop decreases-loop
-returns c = let s = c.before.before in
-    let l = c.before.loop in
-    table-end s.args.standing.now s.args.flags.now s.args.to.now s.args.count l.w l.table (omega (arith, c.loop-test.false)) l.invariant.2
+returns c = let s = c in
+    let l = c.loop-w in
+    table-end s.args.standing.now s.args.flags.now s.args.to.now s.args.count l.w l.table (omega (arith, c.loop-w-test.false)) l.invariant.2
 
-pub closures-spec : {M : Type 1} → statement M
-closures-spec =
+pub closures_spec : {M : Type 1} → statement M
+closures_spec =
     tie.close
     (tie.spec
     invariant-loop

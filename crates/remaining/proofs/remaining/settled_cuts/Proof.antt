@@ -13,35 +13,35 @@ use Rattle.remaining.specs.Allowing.{Allows, SettledIn}
 use Rattle.remaining.proofs.remaining.settled_cuts.Statement.{statement}
 use Rattle.remaining.proofs.remaining.settled_cuts.Tie as tie
 
-abbrev invariant-loop : tie.invariant-loop
+abbrev invariant-loop : tie.invariant-loop-x
 invariant-loop words₀ chains standing to flags count none x₀ words x = (x ≤ count) × (length words ≡ sheet_atom_limit) × ((S : Net) (n : ℕ) → Chained S n chains → (taken : List ℕ) (digits : ℕ → ℕ) → SettledIn S taken digits standing flags to count none → Allows S taken digits words₀ → Allows S taken digits words)
 
-abbrev decreases-loop : tie.decreases-loop
+abbrev decreases-loop : tie.decreases-loop-x
 decreases-loop words₀ chains standing to flags count none x₀ words x = count - x
 
-loop-holds : tie.Need-loop-init invariant-loop decreases-loop
+loop-holds : tie.Need-loop-x-init invariant-loop decreases-loop
 loop-holds c = (omega arith, c.requires.3, λ S n k taken digits g a. a)
 
-settled-cut-requires : tie.Need-settled-cut-requires invariant-loop decreases-loop
-settled-cut-requires c κs = let s = c.before.before.before in (s.requires.0, c.before.loop-test.true, s.requires.1, s.requires.2, c.before.before.loop.invariant.1, s.requires.4)
+settled-cut-requires : tie.Need-settled_cut-requires invariant-loop decreases-loop
+settled-cut-requires c κs = let s = c in (s.requires.0, c.loop-x-test.true, s.requires.1, s.requires.2, c.loop-x.invariant.1, s.requires.4)
 
-returns : tie.Need-returns invariant-loop decreases-loop
-returns c = (c.before.settled-cut.ensures.0, (λ e. c.before.settled-cut.ensures.1 c.if1.true), λ S n k taken digits g a. c.before.settled-cut.ensures.2 S n k taken digits g (c.before.before.before.before.loop.invariant.2 S n k taken digits g a))
+returns : tie.Need-returns-then-settled_cut invariant-loop decreases-loop
+returns c = (c.settled_cut.ensures.0, (λ e. c.settled_cut.ensures.1 c.if-settled_cut.true), λ S n k taken digits g a. c.settled_cut.ensures.2 S n k taken digits g (c.loop-x.invariant.2 S n k taken digits g a))
 
-add-x : tie.Need-overflow-add-x invariant-loop decreases-loop
+add-x : tie.Need-overflow_add-x invariant-loop decreases-loop
 add-x c = search rules
 
-loop-less : tie.Need-loop-smaller invariant-loop decreases-loop
+loop-less : tie.Need-loop-x-smaller invariant-loop decreases-loop
 loop-less c = search rules
 
-loop-again : tie.Need-loop-preserved invariant-loop decreases-loop
-loop-again c = (omega (arith, c.before.before.before.loop-test.true), c.before.settled-cut.ensures.0, λ S n k taken digits g a. c.before.settled-cut.ensures.2 S n k taken digits g (c.before.before.before.before.loop.invariant.2 S n k taken digits g a))
+loop-again : tie.Need-loop-x-preserved invariant-loop decreases-loop
+loop-again c = (omega (arith, c.loop-x-test.true), c.settled_cut.ensures.0, λ S n k taken digits g a. c.settled_cut.ensures.2 S n k taken digits g (c.loop-x.invariant.2 S n k taken digits g a))
 
-returns-2 : tie.Need-returns-2 invariant-loop decreases-loop
-returns-2 c = (c.before.loop.invariant.1, (λ e. both_ways e refl), c.before.loop.invariant.2)
+returns-2 : tie.Need-returns invariant-loop decreases-loop
+returns-2 c = (c.loop-x.invariant.1, (λ e. both_ways e refl), c.loop-x.invariant.2)
 
-pub settled-cuts-spec : {M : Type 1} → statement M
-settled-cuts-spec =
+pub settled_cuts_spec : {M : Type 1} → statement M
+settled_cuts_spec =
     tie.close
     (tie.spec
     invariant-loop

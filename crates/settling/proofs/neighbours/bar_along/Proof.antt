@@ -18,112 +18,112 @@ use Rattle.faults.proofs.Finding.{to-within, none-room, links-few, falls}
 use Rattle.settling.proofs.neighbours.bar_along.Statement.{statement}
 use Rattle.settling.proofs.neighbours.bar_along.Tie as tie
 
-abbrev invariant-loop : tie.invariant-loop
+abbrev invariant-loop : tie.invariant-loop-v
 invariant-loop nets laid chains taken kinds standing to x y bars₀ used v₀ bars v = (v < node_of nets.atoms 0) × (v ≢ 0 → sheet_link_limit ≤ v) × ((sheet figure : form.Sheet) (flags : List ℕ) → Tables sheet figure nets laid chains kinds standing to → length flags ≡ sheet_link_limit → KeepsBars sheet figure taken to flags bars₀ x bars)
 
-abbrev decreases-loop : tie.decreases-loop
+abbrev decreases-loop : tie.decreases-loop-v
 decreases-loop nets laid chains taken kinds standing to x y bars₀ used v₀ bars v = v
 
-one-each-requires : tie.Need-one-each-requires invariant-loop decreases-loop
-one-each-requires c κs = let s = c.before in (s.args.nets.count, ports-of s.requires.0.2.over.nets-in.contexts-in)
+one-each-requires : tie.Need-one_each-requires invariant-loop decreases-loop
+one-each-requires c κs = let s = c in (s.args.nets.count, ports-of s.requires.0.2.over.nets-in.contexts-in)
 
-returns : tie.Need-returns invariant-loop decreases-loop
-returns c = let s = c.before.before.before in
+returns : tie.Need-returns-then-not-one_each invariant-loop decreases-loop
+returns c = let s = c in
     let a = s.args in
     let o = s.requires.0.2.over in
     λ sheet figure flags u e. tried_same sheet figure a.taken.now a.to.now flags a.bars.now a.x
 
-add-used-links : tie.Need-overflow-add-used-links invariant-loop decreases-loop
-add-used-links c = let s = c.before.before.before.before in
+add-used-links : tie.Need-overflow_add-nets invariant-loop decreases-loop
+add-used-links c = let s = c in
     let a = s.args in
     let o = s.requires.0.2.over in
     omega (arith, links-few o)
 
-cast-used-links : tie.Need-overflow-cast-used-links invariant-loop decreases-loop
-cast-used-links c = let s = c.before.before.before.before in
+cast-used-links : tie.Need-overflow_cast-nets invariant-loop decreases-loop
+cast-used-links c = let s = c in
     let a = s.args in
     let o = s.requires.0.2.over in
     omega (arith, links-few o)
 
-used-links-requires : tie.Need-used-links-requires invariant-loop decreases-loop
-used-links-requires c κs = let s = c.before.before.before.before in
+used-links-requires : tie.Need-used_links-used-requires invariant-loop decreases-loop
+used-links-requires c κs = let s = c in
     let a = s.args in
     let o = s.requires.0.2.over in
     ((ports-of o.nets-in.contexts-in).links-few, none-room o, to-within o)
 
-mul-v : tie.Need-overflow-mul-v invariant-loop decreases-loop
+mul-v : tie.Need-offset_bounds-chains-y invariant-loop decreases-loop
 mul-v c = search rules
 
-element-copy-out-v : tie.Need-element-copy-out-v invariant-loop decreases-loop
-element-copy-out-v c = let s = c.before.before.before.before.before in
+element-copy-out-v : tie.Need-bounds-chains-y invariant-loop decreases-loop
+element-copy-out-v c = let s = c in
     let a = s.args in
     let o = s.requires.0.2.over in
     omega (arith, s.requires.2, links-few o)
 
-cast-v : tie.Need-overflow-cast-v invariant-loop decreases-loop
-cast-v c = let s = c.before.before.before.before.before.before in
+cast-v : tie.Need-overflow_cast-v invariant-loop decreases-loop
+cast-v c = let s = c in
     let a = s.args in
     let o = s.requires.0.2.over in
     let w = (falls o).within a.y in let few = o.nets-in.ready.sheet-fit.atom-count in omega (arith, o.nets-in.laid_out.count)
 
-loop-holds : tie.Need-loop-init invariant-loop decreases-loop
-loop-holds c = let s = c.before.before.before.before.before.before in
+loop-holds : tie.Need-loop-v-init invariant-loop decreases-loop
+loop-holds c = let s = c in
     let a = s.args in
     let o = s.requires.0.2.over in
     ((falls o).within a.y, (falls o).above a.y, λ sheet figure flags u e. tried_same sheet figure a.taken.now a.to.now flags a.bars.now a.x)
 
-sub-t : tie.Need-overflow-sub-t invariant-loop decreases-loop
-sub-t c = c.before.loop.invariant.1 c.loop-test.true
+sub-t : tie.Need-overflow_sub-t invariant-loop decreases-loop
+sub-t c = c.loop-v.invariant.1 c.loop-v-test.true
 
 follow-requires : tie.Need-follow-requires invariant-loop decreases-loop
-follow-requires c κs = let s = c.before.before.before.before.before.before.before.before.before.before in
+follow-requires c κs = let s = c in
     let a = s.args in
     let o = s.requires.0.2.over in
-    let l = c.before.before.before.loop in
-    let low = l.invariant.1 c.before.before.loop-test.true in
+    let l = c.loop-v in
+    let low = l.invariant.1 c.loop-v-test.true in
     let top = l.invariant.0 in
-    ((s.requires.0.0, s.requires.0.1, a.to.now, (along-of s.requires.0.2 (c.before.before.before.before.before.before.before.before.one_each.ensures (not-false _ c.before.before.before.before.before.before.before.if1.false) s.requires.0.1 a.nets.count s.requires.0.2.over.nets-in.contexts-in) c.before.before.before.before.before.used-links.result c.before.before.before.before.before.used-links.ensures)), s.requires.1, s.requires.2, omega (arith, low, top))
+    ((s.requires.0.0, s.requires.0.1, a.to.now, (along-of s.requires.0.2 (c.one_each.ensures (not-false _ c.if-not-one_each.false-raw) s.requires.0.1 a.nets.count s.requires.0.2.over.nets-in.contexts-in) c.used_links-used.result c.used_links-used.ensures)), s.requires.1, s.requires.2, omega (arith, low, top))
 
-mul-v-2 : tie.Need-overflow-mul-v-2 invariant-loop decreases-loop
-mul-v-2 c = let s = c.before.before.before.before.before.before.before.before.before.before.before in
+mul-v-2 : tie.Need-offset_bounds-chains-v invariant-loop decreases-loop
+mul-v-2 c = let s = c in
     let a = s.args in
     let o = s.requires.0.2.over in
-    let top = c.before.before.before.before.loop.invariant.0 in omega (arith, top, o.nets-in.ready.sheet-fit.atom-count, o.nets-in.laid_out.count)
+    let top = c.loop-v.invariant.0 in omega (arith, top, o.nets-in.ready.sheet-fit.atom-count, o.nets-in.laid_out.count)
 
-element-copy-out-v-2 : tie.Need-element-copy-out-v-2 invariant-loop decreases-loop
-element-copy-out-v-2 c = let s = c.before.before.before.before.before.before.before.before.before.before.before in
+element-copy-out-v-2 : tie.Need-bounds-chains-v invariant-loop decreases-loop
+element-copy-out-v-2 c = let s = c in
     let a = s.args in
     let o = s.requires.0.2.over in
-    let top = c.before.before.before.before.loop.invariant.0 in omega (arith, top, o.nets-in.ready.sheet-fit.atom-count, o.nets-in.laid_out.count)
+    let top = c.loop-v.invariant.0 in omega (arith, top, o.nets-in.ready.sheet-fit.atom-count, o.nets-in.laid_out.count)
 
-cast-v-2 : tie.Need-overflow-cast-v-2 invariant-loop decreases-loop
-cast-v-2 c = let s = c.before.before.before.before.before.before.before.before.before.before.before.before in
+cast-v-2 : tie.Need-overflow_cast-v-in-loop-v invariant-loop decreases-loop
+cast-v-2 c = let s = c in
     let a = s.args in
     let o = s.requires.0.2.over in
-    let w = (falls o).within c.before.before.before.before.before.loop.v in omega (arith, w, o.nets-in.ready.sheet-fit.atom-count, o.nets-in.laid_out.count)
+    let w = (falls o).within c.loop-v.v in omega (arith, w, o.nets-in.ready.sheet-fit.atom-count, o.nets-in.laid_out.count)
 
-loop-less : tie.Need-loop-smaller invariant-loop decreases-loop
-loop-less c = let s = c.before.before.before.before.before.before.before.before.before.before.before.before in
+loop-less : tie.Need-loop-v-smaller invariant-loop decreases-loop
+loop-less c = let s = c in
     let a = s.args in
     let o = s.requires.0.2.over in
-    (falls o).falls c.before.before.before.before.before.loop.v (c.before.before.before.before.before.loop.invariant.1 c.before.before.before.before.loop-test.true)
+    (falls o).falls c.loop-v.v (c.loop-v.invariant.1 c.loop-v-test.true)
 
-loop-again : tie.Need-loop-preserved invariant-loop decreases-loop
-loop-again c = let s = c.before.before.before.before.before.before.before.before.before.before.before.before in
+loop-again : tie.Need-loop-v-preserved invariant-loop decreases-loop
+loop-again c = let s = c in
     let a = s.args in
     let o = s.requires.0.2.over in
-    let l = c.before.before.before.before.before.loop in
-    let v = c.before.follow in (
+    let l = c.loop-v in
+    let v = c.follow in (
       (falls o).within l.v,
       (falls o).above l.v,
-      λ sheet figure flags u e. tried_then sheet figure a.taken.now a.to.now flags a.bars.now l.bars v.new.1.1.1.1.1.1.1.1.1.0 a.x (l.invariant.2 sheet figure flags u e) (v.ensures sheet figure a.to.now flags (along-of u (c.before.before.before.before.before.before.before.before.before.before.one_each.ensures (not-false _ c.before.before.before.before.before.before.before.before.before.if1.false) figure a.nets.count u.over.nets-in.contexts-in) c.before.before.before.before.before.before.before.used-links.result c.before.before.before.before.before.before.before.used-links.ensures) e),
+      λ sheet figure flags u e. tried_then sheet figure a.taken.now a.to.now flags a.bars.now l.bars v.new.bars a.x (l.invariant.2 sheet figure flags u e) (v.ensures sheet figure a.to.now flags (along-of u (c.one_each.ensures (not-false _ c.if-not-one_each.false-raw) figure a.nets.count u.over.nets-in.contexts-in) c.used_links-used.result c.used_links-used.ensures) e),
     )
 
-returns-2 : tie.Need-returns-2 invariant-loop decreases-loop
-returns-2 c = c.before.loop.invariant.2
+returns-2 : tie.Need-returns invariant-loop decreases-loop
+returns-2 c = c.loop-v.invariant.2
 
-pub bar-along-spec : {M : Type 1} → statement M
-bar-along-spec =
+pub bar_along_spec : {M : Type 1} → statement M
+bar_along_spec =
     tie.close
     (tie.spec
     invariant-loop

@@ -14,78 +14,78 @@ use Rattle.settling.proofs.neighbours.bar_beyond.Statement.{statement}
 use Rattle.settling.proofs.neighbours.bar_beyond.Tie as tie
 
 barred-requires : tie.Need-barred-requires
-barred-requires c κs = let s = c.before in
+barred-requires c κs = let s = c in
     let a = s.args in
     let p = s.requires in
     (omega (arith, p.1, along-count p.0.0 p.0.1 a.nets a.laid.now a.chains.now a.kinds.now a.used.now p.0.2 p.0.3), omega (arith, p.2, along-links p.0.0 p.0.1 a.nets a.laid.now a.chains.now a.kinds.now a.used.now p.0.2 p.0.3))
 
-returns : tie.Need-returns
+returns : tie.Need-returns-then-not-barred
 returns c = (omega arith, λ sheet figure to flags w e atoms un k m b. b)
 
-add-stands : tie.Need-overflow-add-stands
-add-stands c = let s = c.before.before.before in
+add-stands : tie.Need-overflow_add-y
+add-stands c = let s = c in
     let a = s.args in
     let p = s.requires in
     omega (arith, p.2, along-links p.0.0 p.0.1 a.nets a.laid.now a.chains.now a.kinds.now a.used.now p.0.2 p.0.3)
 
 stands-requires : tie.Need-stands-requires
-stands-requires c κs = let s = c.before.before.before in
+stands-requires c κs = let s = c in
     let a = s.args in
     let p = s.requires in
     along-rowed p.0.0 p.0.1 a.nets a.laid.now a.chains.now a.kinds.now a.used.now p.0.2 p.0.3
 
-returns-2 : tie.Need-returns-2
+returns-2 : tie.Need-returns-then-not-stands
 returns-2 c = (omega arith, λ sheet figure to flags w e atoms un k m b. b)
 
-step-over-requires : tie.Need-step-over-requires
-step-over-requires c κs = let s = c.before.before.before.before.before in
+step-over-requires : tie.Need-step_over-z-requires
+step-over-requires c κs = let s = c in
     let a = s.args in
     let p = s.requires in
     (along-rowed p.0.0 p.0.1 a.nets a.laid.now a.chains.now a.kinds.now a.used.now p.0.2 p.0.3, along-falls p.0.0 p.0.1 a.nets a.laid.now a.chains.now a.kinds.now a.used.now p.0.2 p.0.3, p.3, omega (arith, p.2, along-links p.0.0 p.0.1 a.nets a.laid.now a.chains.now a.kinds.now a.used.now p.0.2 p.0.3))
 
-returns-3 : tie.Need-returns-3
+returns-3 : tie.Need-returns-then-z-eq0
 returns-3 c = (omega arith, λ sheet figure to flags w e atoms un k m b. b)
 
-returns-4 : tie.Need-returns-4
+returns-4 : tie.Need-returns-then-nets-z
 returns-4 c = (omega arith, λ sheet figure to flags w e atoms un k m b. b)
 
-sub-barred : tie.Need-overflow-sub-barred
-sub-barred c = omega (arith, c.before.before.before.if3.false)
+sub-barred : tie.Need-overflow_sub-z
+sub-barred c = omega (arith, c.if-z-eq0.false)
 
 barred-requires-2 : tie.Need-barred-requires-2
-barred-requires-2 c κs = let s = c.before.before.before.before.before.before.before.before.before.before in
+barred-requires-2 c κs = let s = c in
     let a = s.args in
     let p = s.requires in
-    (omega (arith, p.1, along-count p.0.0 p.0.1 a.nets a.laid.now a.chains.now a.kinds.now a.used.now p.0.2 p.0.3), omega (arith, c.before.if4.false, c.before.before.before.if3.false, along-links p.0.0 p.0.1 a.nets a.laid.now a.chains.now a.kinds.now a.used.now p.0.2 p.0.3))
+    (omega (arith, p.1, along-count p.0.0 p.0.1 a.nets a.laid.now a.chains.now a.kinds.now a.used.now p.0.2 p.0.3), omega (arith, c.if-nets-z.false, c.if-z-eq0.false, along-links p.0.0 p.0.1 a.nets a.laid.now a.chains.now a.kinds.now a.used.now p.0.2 p.0.3))
 
-returns-5 : tie.Need-returns-5
+returns-5 : tie.Need-returns-then-barred
 returns-5 c = (omega arith, λ sheet figure to flags w e atoms un k m b. b)
 
-sub-bar : tie.Need-overflow-sub-bar
-sub-bar c = omega (arith, c.before.before.before.before.before.before.if3.false)
+sub-bar : tie.Need-overflow_sub-z-2
+sub-bar c = omega (arith, c.if-z-eq0.false)
 
 bar-requires : tie.Need-bar-requires
-bar-requires c κs = let s = c.before.before.before.before.before.before.before.before.before.before.before.before.before in
+bar-requires c κs = let s = c in
     let a = s.args in
     let p = s.requires in
-    (along-count p.0.0 p.0.1 a.nets a.laid.now a.chains.now a.kinds.now a.used.now p.0.2 p.0.3, p.1, omega (arith, c.before.before.before.before.if4.false, c.before.before.before.before.before.before.if3.false, along-links p.0.0 p.0.1 a.nets a.laid.now a.chains.now a.kinds.now a.used.now p.0.2 p.0.3))
+    (along-count p.0.0 p.0.1 a.nets a.laid.now a.chains.now a.kinds.now a.used.now p.0.2 p.0.3, p.1, omega (arith, c.if-nets-z.false, c.if-z-eq0.false, along-links p.0.0 p.0.1 a.nets a.laid.now a.chains.now a.kinds.now a.used.now p.0.2 p.0.3))
 
-returns-6 : tie.Need-returns-6
-returns-6 c = let s = c.before.before.before.before.before.before.before.before.before.before.before.before.before.before in
+returns-6 : tie.Need-returns
+returns-6 c = let s = c in
     let a = s.args in
     let p = s.requires in
-    let z = c.before.before.before.before.before.before.before.before.step-over.result in
-    let n = c.before.before.before.before.before.before.before.if3.false in (
-      omega (arith, c.before.before.before.before.before.if4.false),
-      λ sheet figure to flags w e. beyond-keeps sheet figure a.nets a.laid.now a.chains.now a.kinds.now a.used.now to w a.taken.now flags e a.x a.y a.t (z - 1) p.1 p.2 (omega (arith, c.before.before.before.before.before.if4.false, n)) a.bars.now (c.before.before.before.before.before.before.before.before.before.before.before.before.barred.ensures.0 (not-false _ c.before.before.before.before.before.before.before.before.before.before.before.if1.false))
+    let z = c.step_over-z.result in
+    let n = c.if-z-eq0.false in (
+      omega (arith, c.if-nets-z.false),
+      λ sheet figure to flags w e. beyond-keeps sheet figure a.nets a.laid.now a.chains.now a.kinds.now a.used.now to w a.taken.now flags e a.x a.y a.t (z - 1) p.1 p.2 (omega (arith, c.if-nets-z.false, n)) a.bars.now (c.barred.ensures.0 (not-false _ c.if-not-barred.false-raw))
           (λ atoms f. step-at (net_in sheet) (net_in figure) (state_in figure atoms to) (suc a.t) (suc a.y) z n
-          (c.before.before.before.before.before.before.before.before.step-over.ensures.1 n sheet figure (state_in figure atoms to) w.nets-in.laid_out w.chains-in (w.used-by atoms) f
-          (subst (Touches (net_in sheet) (suc a.t)) (add-one a.y) ((c.before.before.before.before.before.before.before.before.before.before.stands.ensures (not-false _ c.before.before.before.before.before.before.before.before.before.if2.false)).1 (net_in sheet) (laid_in sheet a.laid.now a.nets.atoms w.nets-in.laid_out)))))
-          c.bar.new.0 c.bar.ensures,
+          (c.step_over-z.ensures.1 n sheet figure (state_in figure atoms to) w.nets-in.laid_out w.chains-in (w.used-by atoms) f
+          (subst (Touches (net_in sheet) (suc a.t)) (add-one a.y) ((c.stands.ensures (not-false _ c.if-not-stands.false-raw)).1 (net_in sheet) (laid_in sheet a.laid.now a.nets.atoms w.nets-in.laid_out)))))
+          c.bar.new.bars c.bar.ensures,
     )
 
-pub bar-beyond-spec : {M : Type 1} → statement M
-bar-beyond-spec =
+pub bar_beyond_spec : {M : Type 1} → statement M
+bar_beyond_spec =
     tie.close
     (tie.spec
     barred-requires

@@ -5,26 +5,26 @@ use borrow.Author.Rules.{rules}
 use Rattle.settling.proofs.obstacle.obstacle.Statement.{statement}
 use Rattle.settling.proofs.obstacle.obstacle.Tie as tie
 
-find-requires : tie.Need-find-requires
+find-requires : tie.Need-find-fault-requires
 find-requires c κs = let p = c.requires.0 in (p.0, p.1, p.2)
 
-returns : tie.Need-returns
-returns c = let b = c.before.before.before in
+returns : tie.Need-returns-then-not-fault
+returns c = let b = c in
     let a = b.args in
-    λ sheet figure o s. find-hinders sheet figure o.nets-in.ready a.taken.now a.to.now a.flags.now b.requires.1 c.before.before.find.result (c.before.before.find.ensures sheet figure o)
+    λ sheet figure o s. find-hinders sheet figure o.nets-in.ready a.taken.now a.to.now a.flags.now b.requires.1 c.find-fault.result (c.find-fault.ensures sheet figure o)
 
 hopeless-requires : tie.Need-hopeless-requires
-hopeless-requires c κs = c.before.before.before.requires.0
+hopeless-requires c κs = c.requires.0
 
-returns-2 : tie.Need-returns-2
-returns-2 c = let b = c.before.before.before.before.before in
+returns-2 : tie.Need-returns-then-hopeless
+returns-2 c = let b = c in
     let a = b.args in
-    λ sheet figure o s. refused-hinders sheet figure o.nets-in.ready a.taken.now a.to.now a.flags.now b.requires.1 c.before.hopeless.result c.if2.true (c.before.hopeless.ensures sheet figure o s) _ refl
+    λ sheet figure o s. refused-hinders sheet figure o.nets-in.ready a.taken.now a.to.now a.flags.now b.requires.1 c.hopeless.result c.if-hopeless.true (c.hopeless.ensures sheet figure o s) _ refl
 
-returns-3 : tie.Need-returns-3
-returns-3 c = let b = c.before.before.before.before.before in
+returns-3 : tie.Need-returns
+returns-3 c = let b = c in
     let a = b.args in
-    λ sheet figure o s. find-hinders sheet figure o.nets-in.ready a.taken.now a.to.now a.flags.now b.requires.1 c.before.before.before.before.find.result (c.before.before.before.before.find.ensures sheet figure o)
+    λ sheet figure o s. find-hinders sheet figure o.nets-in.ready a.taken.now a.to.now a.flags.now b.requires.1 c.find-fault.result (c.find-fault.ensures sheet figure o)
 
-pub obstacle-spec : {M : Type 1} → statement M
-obstacle-spec = tie.close (tie.spec find-requires returns hopeless-requires returns-2 returns-3)
+pub obstacle_spec : {M : Type 1} → statement M
+obstacle_spec = tie.close (tie.spec find-requires returns hopeless-requires returns-2 returns-3)

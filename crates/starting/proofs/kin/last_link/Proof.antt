@@ -5,59 +5,59 @@ use borrow.Author.Rules.{rules}
 use Rattle.starting.proofs.kin.last_link.Statement.{statement}
 use Rattle.starting.proofs.kin.last_link.Tie as tie
 
-abbrev invariant-loop2 : tie.invariant-loop2
+abbrev invariant-loop2 : tie.invariant-loop-k
 invariant-loop2 parts m last₀ i k₀ last k = (i < m) × (k ≤ field_count)
 
-abbrev decreases-loop2 : tie.decreases-loop2
+abbrev decreases-loop2 : tie.decreases-loop-k
 decreases-loop2 parts m last₀ i k₀ last k = field_count - k
 
-abbrev invariant-loop : tie.invariant-loop
+abbrev invariant-loop : tie.invariant-loop-i
 invariant-loop parts m last₀ i₀ last i = i ≤ m
 
-abbrev decreases-loop : tie.decreases-loop
+abbrev decreases-loop : tie.decreases-loop-i
 decreases-loop parts m last₀ i₀ last i = m - i
 
-loop-holds : tie.Need-loop-init invariant-loop2 decreases-loop2 invariant-loop decreases-loop
+loop-holds : tie.Need-loop-i-init invariant-loop2 decreases-loop2 invariant-loop decreases-loop
 loop-holds c = search rules
 
-loop2-holds : tie.Need-loop2-init invariant-loop2 decreases-loop2 invariant-loop decreases-loop
+loop2-holds : tie.Need-loop-k-init invariant-loop2 decreases-loop2 invariant-loop decreases-loop
 loop2-holds c = search rules
 
-mul-x : tie.Need-overflow-mul-x invariant-loop2 decreases-loop2 invariant-loop decreases-loop
+mul-x : tie.Need-overflow_mul-x invariant-loop2 decreases-loop2 invariant-loop decreases-loop
 mul-x c = search rules
 
-add-x : tie.Need-overflow-add-x invariant-loop2 decreases-loop2 invariant-loop decreases-loop
+add-x : tie.Need-overflow_add-x invariant-loop2 decreases-loop2 invariant-loop decreases-loop
 add-x c = search rules
 
-mul-x-2 : tie.Need-overflow-mul-x-2 invariant-loop2 decreases-loop2 invariant-loop decreases-loop
+mul-x-2 : tie.Need-offset_bounds-parts-i invariant-loop2 decreases-loop2 invariant-loop decreases-loop
 mul-x-2 c = search rules
 
-element-copy-out-x : tie.Need-element-copy-out-x invariant-loop2 decreases-loop2 invariant-loop decreases-loop
+element-copy-out-x : tie.Need-bounds-parts-i invariant-loop2 decreases-loop2 invariant-loop decreases-loop
 element-copy-out-x c = search rules
 
-add-k : tie.Need-overflow-add-k invariant-loop2 decreases-loop2 invariant-loop decreases-loop
+add-k : tie.Need-overflow_add-k invariant-loop2 decreases-loop2 invariant-loop decreases-loop
 add-k c = search rules
 
-loop2-less : tie.Need-loop2-smaller invariant-loop2 decreases-loop2 invariant-loop decreases-loop
+loop2-less : tie.Need-loop-k-smaller invariant-loop2 decreases-loop2 invariant-loop decreases-loop
 loop2-less c = search rules
 
-loop2-again : tie.Need-loop2-preserved invariant-loop2 decreases-loop2 invariant-loop decreases-loop
+loop2-again : tie.Need-loop-k-preserved invariant-loop2 decreases-loop2 invariant-loop decreases-loop
 loop2-again c = search rules
 
-add-i : tie.Need-overflow-add-i invariant-loop2 decreases-loop2 invariant-loop decreases-loop
+add-i : tie.Need-overflow_add-i invariant-loop2 decreases-loop2 invariant-loop decreases-loop
 add-i c = search rules
 
-loop-less : tie.Need-loop-smaller invariant-loop2 decreases-loop2 invariant-loop decreases-loop
+loop-less : tie.Need-loop-i-smaller invariant-loop2 decreases-loop2 invariant-loop decreases-loop
 loop-less c = search rules
 
-loop-again : tie.Need-loop-preserved invariant-loop2 decreases-loop2 invariant-loop decreases-loop
+loop-again : tie.Need-loop-i-preserved invariant-loop2 decreases-loop2 invariant-loop decreases-loop
 loop-again c = search rules
 
 returns : tie.Need-returns invariant-loop2 decreases-loop2 invariant-loop decreases-loop
 returns c = search rules
 
-pub last-link-spec : {M : Type 1} → statement M
-last-link-spec =
+pub last_link_spec : {M : Type 1} → statement M
+last_link_spec =
     tie.close
     (tie.spec
     invariant-loop2

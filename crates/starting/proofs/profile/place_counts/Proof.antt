@@ -18,50 +18,50 @@ use Rattle.starting.proofs.Tallies.{rows-counted}
 use Rattle.starting.proofs.profile.place_counts.Statement.{statement}
 use Rattle.starting.proofs.profile.place_counts.Tie as tie
 
-abbrev invariant-loop : tie.invariant-loop
+abbrev invariant-loop : tie.invariant-loop-i
 invariant-loop laid n counts₀ i₀ counts i = (i ≤ n) × Tally counts (i * most_links) × ((net : NormalForm) → LaidOut net laid n → (x : ℕ) → x < sheet_link_limit → get_or counts x 0 ≡ count (x + 1) (cell_links (map atom_in (take i net.atoms))))
 
-abbrev decreases-loop : tie.decreases-loop
+abbrev decreases-loop : tie.decreases-loop-i
 decreases-loop laid n counts₀ i₀ counts i = n - i
 
-loop-holds : tie.Need-loop-init invariant-loop decreases-loop
+loop-holds : tie.Need-loop-i-init invariant-loop decreases-loop
 unfolding count
 loop-holds c = (search rules, c.requires.1, λ net o x h. omega (arith, c.requires.1.most x))
 
-laid-atom-requires : tie.Need-laid-atom-requires invariant-loop decreases-loop
-laid-atom-requires c κs = omega (arith, c.loop-test.true, c.before.before.requires.0.few)
+laid-atom-requires : tie.Need-laid_atom-atom-requires invariant-loop decreases-loop
+laid-atom-requires c κs = omega (arith, c.loop-i-test.true, c.requires.0.few)
 
-mul-count-places : tie.Need-overflow-mul-count-places invariant-loop decreases-loop
+mul-count-places : tie.Need-overflow_mul-i invariant-loop decreases-loop
 mul-count-places c = search rules
 
-count-places-requires : tie.Need-count-places-requires invariant-loop decreases-loop
-count-places-requires c κs = let l = c.before.before.before in
-    let f = l.before.requires.0 in
-    let h = c.before.before.loop-test.true in
-    (subst (λ (a : Atom). Used sheet_link_limit a.count a.links) (sym c.before.laid-atom.ensures) (f.atoms l.loop.i h), omega (arith, h, f.few), l.loop.invariant.1)
+count-places-requires : tie.Need-count_places-requires invariant-loop decreases-loop
+count-places-requires c κs = let l = c in
+    let f = l.requires.0 in
+    let h = c.loop-i-test.true in
+    (subst (λ (a : Atom). Used sheet_link_limit a.count a.links) (sym c.laid_atom-atom.ensures) (f.atoms l.loop-i.i h), omega (arith, h, f.few), l.loop-i.invariant.1)
 
-add-i : tie.Need-overflow-add-i invariant-loop decreases-loop
+add-i : tie.Need-overflow_add-i invariant-loop decreases-loop
 add-i c = search rules
 
-loop-less : tie.Need-loop-smaller invariant-loop decreases-loop
+loop-less : tie.Need-loop-i-smaller invariant-loop decreases-loop
 loop-less c = search rules
 
-loop-again : tie.Need-loop-preserved invariant-loop decreases-loop
-loop-again c = let l = c.before.before.before.before in
-    let s = l.before.args in
-    let a = c.before.before.laid-atom in
-    let f = c.count-places.ensures in (
+loop-again : tie.Need-loop-i-preserved invariant-loop decreases-loop
+loop-again c = let l = c in
+    let s = l.args in
+    let a = c.laid_atom-atom in
+    let f = c.count_places.ensures in (
       search rules,
       record { width = f.0.width; most = λ q. omega (arith, f.0.most q) },
-      λ net o. rows-counted net s.laid.now s.n o l.loop.counts c.count-places.new.1.0 l.loop.i a.result c.before.before.before.loop-test.true a.ensures (l.loop.invariant.2 net o) f.1,
+      λ net o. rows-counted net s.laid.now s.n o l.loop-i.counts c.count_places.new.counts l.loop-i.i a.result c.loop-i-test.true a.ensures (l.loop-i.invariant.2 net o) f.1,
     )
 
 returns : tie.Need-returns invariant-loop decreases-loop
-returns c = let l = c.before in
-    λ net o. let e : l.loop.i ≡ net.atom_count = omega (arith, o.count) in rw e at (l.loop.invariant.2 net o)
+returns c = let l = c in
+    λ net o. let e : l.loop-i.i ≡ net.atom_count = omega (arith, o.count) in rw e at (l.loop-i.invariant.2 net o)
 
-pub place-counts-spec : {M : Type 1} → statement M
-place-counts-spec =
+pub place_counts_spec : {M : Type 1} → statement M
+place_counts_spec =
     tie.close
     (tie.spec
     invariant-loop

@@ -13,55 +13,55 @@ use Rattle.starting.specs.Steps.{Enough}
 use Rattle.starting.proofs.start.enough_links.Statement.{statement}
 use Rattle.starting.proofs.start.enough_links.Tie as tie
 
-abbrev invariant-loop : tie.invariant-loop
+abbrev invariant-loop : tie.invariant-loop-y
 invariant-loop closed wanted counts n pair₀ y₀ pair y = (y ≤ n) × ((v : ℕ) → v < y → Enough closed wanted (get_or counts v 0) → InPair pair v)
 
-abbrev decreases-loop : tie.decreases-loop
+abbrev decreases-loop : tie.decreases-loop-y
 decreases-loop closed wanted counts n pair₀ y₀ pair y = n - y
 
-loop-holds : tie.Need-loop-init invariant-loop decreases-loop
+loop-holds : tie.Need-loop-y-init invariant-loop decreases-loop
 loop-holds c = (search rules, λ v h. absurd (omega arith))
 
-mul-enough : tie.Need-overflow-mul-enough invariant-loop decreases-loop
+mul-enough : tie.Need-offset_bounds-counts-y invariant-loop decreases-loop
 mul-enough c = search rules
 
-element-copy-out-enough : tie.Need-element-copy-out-enough invariant-loop decreases-loop
+element-copy-out-enough : tie.Need-bounds-counts-y invariant-loop decreases-loop
 element-copy-out-enough c = search rules
 
 enough-requires : tie.Need-enough-requires invariant-loop decreases-loop
 enough-requires c κs = search rules
 
-with-requires : tie.Need-with-requires invariant-loop decreases-loop
-with-requires c κs = let l = c.before.before.before.before in
-    omega (arith, c.before.before.before.loop-test.true, l.before.requires)
+with-requires : tie.Need-with-more-requires invariant-loop decreases-loop
+with-requires c κs = let l = c in
+    omega (arith, c.loop-y-test.true, l.requires)
 
-add-y : tie.Need-overflow-add-y invariant-loop decreases-loop
+add-y : tie.Need-overflow_add-y invariant-loop decreases-loop
 add-y c = search rules
 
-loop-less : tie.Need-loop-smaller invariant-loop decreases-loop
+loop-less : tie.Need-loop-y-smaller invariant-loop decreases-loop
 loop-less c = search rules
 
-loop-again : tie.Need-loop-preserved invariant-loop decreases-loop
-loop-again c = let l = c.before.before.before.before in
-    let s = l.before.args in
-    let small : l.loop.y < sheet_link_limit = omega (arith, c.before.before.before.loop-test.true, l.before.requires) in
+loop-again : tie.Need-loop-y-preserved invariant-loop decreases-loop
+loop-again c = let l = c in
+    let s = l.args in
+    let small : l.loop-y.y < sheet_link_limit = omega (arith, c.loop-y-test.true, l.requires) in
     ⊎_elim
     (λ w. (
       search rules,
-      rw w.2 (below_more (λ (v : ℕ). Enough s.closed s.wanted (get_or s.counts.now v 0) → InPair w.1.result v) l.loop.y (λ v h e. with-kept _ _ small _ w.1.ensures v (omega (arith, h, l.loop.invariant.0, l.before.requires)) (l.loop.invariant.1 v h e)) (λ e. with-there _ _ small _ w.1.ensures)),
+      rw w.pair-is (below_more (λ (v : ℕ). Enough s.closed s.wanted (get_or s.counts.now v 0) → InPair w.with-more.result v) l.loop-y.y (λ v h e. with-kept _ _ small _ w.with-more.ensures v (omega (arith, h, l.loop-y.invariant.0, l.requires)) (l.loop-y.invariant.1 v h e)) (λ e. with-there _ _ small _ w.with-more.ensures)),
     ))
     (λ w. (
       search rules,
-      rw w.1 (below_more (λ (v : ℕ). Enough s.closed s.wanted (get_or s.counts.now v 0) → InPair l.loop.pair v) l.loop.y l.loop.invariant.1 (λ e. absurd (both_ways (c.before.enough.ensures e) w.0.left))),
+      rw w.pair-is (below_more (λ (v : ℕ). Enough s.closed s.wanted (get_or s.counts.now v 0) → InPair l.loop-y.pair v) l.loop-y.y l.loop-y.invariant.1 (λ e. absurd (both_ways (c.enough.ensures e) w.if-enough.false))),
     ))
-    c.if1.branch
+    c.if-enough.branch-raw
 
 returns : tie.Need-returns invariant-loop decreases-loop
-returns c = let l = c.before in
-    λ v h. l.loop.invariant.1 v (omega arith)
+returns c = let l = c in
+    λ v h. l.loop-y.invariant.1 v (omega arith)
 
-pub enough-links-spec : {M : Type 1} → statement M
-enough-links-spec =
+pub enough_links_spec : {M : Type 1} → statement M
+enough_links_spec =
     tie.close
     (tie.spec
     invariant-loop

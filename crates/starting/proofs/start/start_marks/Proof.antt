@@ -13,58 +13,58 @@ use Rattle.starting.proofs.Marking.{mark_on}
 use Rattle.starting.proofs.start.start_marks.Statement.{statement}
 use Rattle.starting.proofs.start.start_marks.Tie as tie
 
-abbrev invariant-loop : tie.invariant-loop
+abbrev invariant-loop : tie.invariant-loop-p
 invariant-loop marks marked n figure-marks figure-marked m links₀ p₀ links p = (p ≤ m) × ((sheet figure : NormalForm) → MarksIn sheet marks marked n → MarksIn figure figure-marks figure-marked m → LinksStay links₀ links (MarksOn sheet figure))
 
-abbrev decreases-loop : tie.decreases-loop
+abbrev decreases-loop : tie.decreases-loop-p
 decreases-loop marks marked n figure-marks figure-marked m links₀ p₀ links p = m - p
 
-loop-holds : tie.Need-loop-init invariant-loop decreases-loop
+loop-holds : tie.Need-loop-p-init invariant-loop decreases-loop
 loop-holds c = (search rules, λ sheet figure os of z v h m p. m)
 
-mul-x : tie.Need-overflow-mul-x invariant-loop decreases-loop
+mul-x : tie.Need-offset_bounds-figure_marked-p invariant-loop decreases-loop
 mul-x c = search rules
 
-element-copy-out-x : tie.Need-element-copy-out-x invariant-loop decreases-loop
+element-copy-out-x : tie.Need-bounds-figure_marked-p invariant-loop decreases-loop
 element-copy-out-x c = search rules
 
-cast-x : tie.Need-overflow-cast-x invariant-loop decreases-loop
-cast-x c = let l = c.before.before in
-    omega (arith, (l.before.requires.1.numbered l.loop.p c.before.loop-test.true).1)
+cast-x : tie.Need-overflow_cast-x invariant-loop decreases-loop
+cast-x c = let l = c in
+    omega (arith, (l.requires.1.numbered l.loop-p.p c.loop-p-test.true).1)
 
-mul-link-of : tie.Need-overflow-mul-link-of invariant-loop decreases-loop
+mul-link-of : tie.Need-offset_bounds-figure_marks-p invariant-loop decreases-loop
 mul-link-of c = search rules
 
-element-copy-out-link-of : tie.Need-element-copy-out-link-of invariant-loop decreases-loop
+element-copy-out-link-of : tie.Need-bounds-figure_marks-p invariant-loop decreases-loop
 element-copy-out-link-of c = search rules
 
-link-of-requires : tie.Need-link-of-requires invariant-loop decreases-loop
-link-of-requires c κs = c.before.before.before.before.requires.0
+link-of-requires : tie.Need-link_of-y-requires invariant-loop decreases-loop
+link-of-requires c κs = c.requires.0
 
-only-link-requires : tie.Need-only-link-requires invariant-loop decreases-loop
-only-link-requires c κs = let l = c.before.before.before.before.before in
-    (l.before.requires.1.numbered l.loop.p c.before.before.before.before.loop-test.true, c.before.link-of.ensures.0)
+only-link-requires : tie.Need-only_link-requires invariant-loop decreases-loop
+only-link-requires c κs = let l = c in
+    (l.requires.1.numbered l.loop-p.p c.loop-p-test.true, c.link_of-y.ensures.0)
 
-add-p : tie.Need-overflow-add-p invariant-loop decreases-loop
+add-p : tie.Need-overflow_add-p invariant-loop decreases-loop
 add-p c = search rules
 
-loop-less : tie.Need-loop-smaller invariant-loop decreases-loop
+loop-less : tie.Need-loop-p-smaller invariant-loop decreases-loop
 loop-less c = search rules
 
-loop-again : tie.Need-loop-preserved invariant-loop decreases-loop
-loop-again c = let l = c.before.before.before.before.before.before in
-    let s = l.before.args in
-    let t = c.before.before.link-of in (
+loop-again : tie.Need-loop-p-preserved invariant-loop decreases-loop
+loop-again c = let l = c in
+    let s = l.args in
+    let t = c.link_of-y in (
       search rules,
-      λ sheet figure os of. links-then s.links.now l.loop.links c.only-link.new.1.1.0 (MarksOn sheet figure) (λ z v. z ≡ get_or s.figure-marked.now l.loop.p 0 - 1 → v + 1 ≡ t.result) (l.loop.invariant.1 sheet figure os of) c.only-link.ensures
-          (λ z v h. mark_on sheet figure s.figure-marks.now s.figure-marked.now s.m of l.loop.p t.result c.before.before.before.before.before.loop-test.true (t.ensures.1 sheet os) z v),
+      λ sheet figure os of. links-then s.links.now l.loop-p.links c.only_link.new.links (MarksOn sheet figure) (λ z v. z ≡ get_or s.figure_marked.now l.loop-p.p 0 - 1 → v + 1 ≡ t.result) (l.loop-p.invariant.1 sheet figure os of) c.only_link.ensures
+          (λ z v h. mark_on sheet figure s.figure_marks.now s.figure_marked.now s.m of l.loop-p.p t.result c.loop-p-test.true (t.ensures.1 sheet os) z v),
     )
 
 returns : tie.Need-returns invariant-loop decreases-loop
-returns c = c.before.loop.invariant.1
+returns c = c.loop-p.invariant.1
 
-pub start-marks-spec : {M : Type 1} → statement M
-start-marks-spec =
+pub start_marks_spec : {M : Type 1} → statement M
+start_marks_spec =
     tie.close
     (tie.spec
     invariant-loop

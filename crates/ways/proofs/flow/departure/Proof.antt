@@ -4,44 +4,44 @@ use Rattle.rows.specs.Format.{most_links}
 use Rattle.ways.proofs.flow.departure.Statement.{statement}
 use Rattle.ways.proofs.flow.departure.Tie as tie
 
-abbrev invariant-loop : tie.invariant-loop
+abbrev invariant-loop : tie.invariant-loop-k
 invariant-loop flow place first k₀ k = k ≤ most_links
 
-abbrev decreases-loop : tie.decreases-loop
+abbrev decreases-loop : tie.decreases-loop-k
 decreases-loop flow place first k₀ k = most_links - k
 
-mul-first : tie.Need-overflow-mul-first invariant-loop decreases-loop
+mul-first : tie.Need-overflow_mul-first invariant-loop decreases-loop
 mul-first c = search rules
 
-loop-holds : tie.Need-loop-init invariant-loop decreases-loop
+loop-holds : tie.Need-loop-k-init invariant-loop decreases-loop
 loop-holds c = search rules
 
-add-over : tie.Need-overflow-add-over invariant-loop decreases-loop
+add-over : tie.Need-overflow_add-over invariant-loop decreases-loop
 add-over c = search rules
 
-element-copy-out-over : tie.Need-element-copy-out-over invariant-loop decreases-loop
+element-copy-out-over : tie.Need-bounds-flow-first invariant-loop decreases-loop
 element-copy-out-over c = search rules
 
-add-result : tie.Need-overflow-add-result invariant-loop decreases-loop
+add-result : tie.Need-overflow_add-result invariant-loop decreases-loop
 add-result c = search rules
 
-returns : tie.Need-returns invariant-loop decreases-loop
+returns : tie.Need-returns-then-over-lt-OUTWARD invariant-loop decreases-loop
 returns c = search rules
 
-add-k : tie.Need-overflow-add-k invariant-loop decreases-loop
+add-k : tie.Need-overflow_add-k invariant-loop decreases-loop
 add-k c = search rules
 
-loop-less : tie.Need-loop-smaller invariant-loop decreases-loop
+loop-less : tie.Need-loop-k-smaller invariant-loop decreases-loop
 loop-less c = search rules
 
-loop-again : tie.Need-loop-preserved invariant-loop decreases-loop
+loop-again : tie.Need-loop-k-preserved invariant-loop decreases-loop
 loop-again c = search rules
 
-returns-2 : tie.Need-returns-2 invariant-loop decreases-loop
+returns-2 : tie.Need-returns invariant-loop decreases-loop
 returns-2 c = search rules
 
-pub departure-spec : {M : Type 1} → statement M
-departure-spec =
+pub departure_spec : {M : Type 1} → statement M
+departure_spec =
     tie.close
     (tie.spec
     invariant-loop

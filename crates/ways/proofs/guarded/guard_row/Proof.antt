@@ -6,45 +6,45 @@ use Rattle.ways.proofs.guarded.guard_row.Statement.{statement}
 use Rattle.ways.proofs.guarded.guard_row.Tie as tie
 
 -- the one place
-only : (c : tie.Then1) → Only c.before.before.args.atoms.now c.before.before.args.row c.before.before.args.n (c.before.forced.result - 1)
-only c = (c.before.forced.ensures (c.before.forced.result - 1)).0 (let n = c.if1.true in omega arith)
+only : (c : tie.Then-t-ne0) → Only c.args.atoms.now c.args.row c.args.n (c.forced-t.result - 1)
+only c = (c.forced-t.ensures (c.forced-t.result - 1)).0 (let n = c.if-t-ne0.true in omega arith)
 
-forced-requires : tie.Need-forced-requires
+forced-requires : tie.Need-forced-t-requires
 forced-requires c κs = omega (arith, c.requires.0.few, c.requires.1)
 
-sub-taken : tie.Need-overflow-sub-taken
+sub-taken : tie.Need-overflow_sub-taken
 sub-taken c = search rules
 
-element-write-taken : tie.Need-element-write-taken
-element-write-taken c = omega (arith, (only c).0, c.before.before.requires.2)
+element-write-taken : tie.Need-bounds-taken-t
+element-write-taken c = omega (arith, (only c.before).0, c.requires.2)
 
-returns : tie.Need-returns
-returns c = let s = c.before.before in
+returns : tie.Need-returns-then-t-ne0
+returns c = let s = c in
     let a = s.args in
-    (let h = s.requires.3 in omega arith, guards-taken a.parts.now a.standing.now a.atoms.now a.n a.side a.row a.taken.now a.breaking s.requires.4 (c.before.forced.result - 1) (omega (arith, (only c).0, s.requires.2)) (only c))
+    (let h = s.requires.3 in omega arith, guards-taken a.parts.now a.standing.now a.atoms.now a.n a.side a.row a.taken.now a.breaking s.requires.4 (c.forced-t.result - 1) (omega (arith, (only c.before).0, s.requires.2)) (only c.before))
 
-on-one-half-requires : tie.Need-on-one-half-requires
+on-one-half-requires : tie.Need-on_one_half-requires
 on-one-half-requires c κs = search rules
 
-returns-2 : tie.Need-returns-2
-returns-2 c = let s = c.before.before.before.before in
+returns-2 : tie.Need-returns-then-on_one_half
+returns-2 c = let s = c in
     let a = s.args in
-    (let h = s.requires.3 in omega arith, guards-half a.parts.now a.standing.now a.atoms.now a.n a.side a.row a.taken.now a.breaking s.requires.4 (c.before.on-one-half.ensures c.if2.true))
+    (let h = s.requires.3 in omega arith, guards-half a.parts.now a.standing.now a.atoms.now a.n a.side a.row a.taken.now a.breaking s.requires.4 (c.on_one_half.ensures c.if-on_one_half.true))
 
 guard-requires : tie.Need-guard-requires
-guard-requires c κs = let s = c.before.before.before.before.before in (omega (arith, s.requires.0.few, s.requires.1), s.requires.2, s.requires.4.room)
+guard-requires c κs = let s = c in (omega (arith, s.requires.0.few, s.requires.1), s.requires.2, s.requires.4.room)
 
-add-result : tie.Need-overflow-add-result
-add-result c = let s = c.before.before.before.before.before.before in omega (arith, s.requires.0.few, s.requires.1, s.requires.3)
+add-result : tie.Need-overflow_add-result
+add-result c = let s = c in omega (arith, s.requires.0.few, s.requires.1, s.requires.3)
 
-returns-3 : tie.Need-returns-3
-returns-3 c = let s = c.before.before.before.before.before.before in
+returns-3 : tie.Need-returns
+returns-3 c = let s = c in
     let a = s.args in
     let g = c.guard.ensures in
     (let h = s.requires.3 in omega arith, guards-breaking a.parts.now a.standing.now a.atoms.now a.n a.side a.row a.taken.now a.breaking s.requires.4 _ g.0 g.1 g.2)
 
-pub guard-row-spec : {M : Type 1} → statement M
-guard-row-spec =
+pub guard_row_spec : {M : Type 1} → statement M
+guard_row_spec =
     tie.close
     (tie.spec
     forced-requires

@@ -6,39 +6,39 @@ use Rattle.ways.proofs.GuardedLinks.{all-links}
 use Rattle.ways.proofs.guards.guarded_by.Statement.{statement}
 use Rattle.ways.proofs.guards.guarded_by.Tie as tie
 
-element-copy-out-if1 : tie.Need-element-copy-out-if1
+element-copy-out-if1 : tie.Need-bounds-flags-x
 element-copy-out-if1 c = search rules
 
-returns : tie.Need-returns
+returns : tie.Need-returns-then-flags-x-ne1
 returns c = search rules
 
-mul-half-of : tie.Need-overflow-mul-half-of
+mul-half-of : tie.Need-offset_bounds-standing-x
 mul-half-of c = search rules
 
-element-copy-out-half-of : tie.Need-element-copy-out-half-of
+element-copy-out-half-of : tie.Need-bounds-standing-x
 element-copy-out-half-of c = search rules
 
-half-of-requires : tie.Need-half-of-requires
+half-of-requires : tie.Need-half_of-requires
 half-of-requires c κs = search rules
 
-returns-2 : tie.Need-returns-2
+returns-2 : tie.Need-returns-then-half_of-ne3
 returns-2 c = search rules
 
-element-copy-out-if3 : tie.Need-element-copy-out-if3
+element-copy-out-if3 : tie.Need-bounds-opens-x
 element-copy-out-if3 c = search rules
 
-returns-3 : tie.Need-returns-3
+returns-3 : tie.Need-returns-then-opens-x-eq1
 returns-3 c = λ f b y h may. all-links y h
 
-pair-at-requires : tie.Need-pair-at-requires
+pair-at-requires : tie.Need-pair_at-requires
 pair-at-requires c κs = search rules
 
-returns-4 : tie.Need-returns-4
-returns-4 c = let a = c.before.before.before.before.before.before.before.before.args in
-    λ f b y h may. subst (λ (l : List ℕ). InPair l y) (sym c.pair-at.ensures) (pair-in a.sets.now a.x y h (may c.before.if3.false))
+returns-4 : tie.Need-returns
+returns-4 c = let a = c.args in
+    λ f b y h may. subst (λ (l : List ℕ). InPair l y) (sym c.pair_at.ensures) (pair-in a.sets.now a.x y h (may c.if-opens-x-eq1.false))
 
-pub guarded-by-spec : {M : Type 1} → statement M
-guarded-by-spec =
+pub guarded_by_spec : {M : Type 1} → statement M
+guarded_by_spec =
     tie.close
     (tie.spec
     element-copy-out-if1

@@ -6,36 +6,36 @@ use Rattle.ways.proofs.GuardedLinks.{spread-more}
 use Rattle.ways.proofs.guards.spread.Statement.{statement}
 use Rattle.ways.proofs.guards.spread.Tie as tie
 
-abbrev invariant-loop : tie.invariant-loop
+abbrev invariant-loop : tie.invariant-loop-y
 invariant-loop pair n flags₀ y₀ flags y = (y ≤ n) × (length flags ≡ sheet_link_limit) × ((z : ℕ) → z < y → InPair pair z → get_or flags z 0 ≡ 1)
 
-abbrev decreases-loop : tie.decreases-loop
+abbrev decreases-loop : tie.decreases-loop-y
 decreases-loop pair n flags₀ y₀ flags y = n - y
 
-loop-holds : tie.Need-loop-init invariant-loop decreases-loop
+loop-holds : tie.Need-loop-y-init invariant-loop decreases-loop
 loop-holds c = (omega arith, refl, λ z h. absurd (omega arith))
 
-flag-of-requires : tie.Need-flag-of-requires invariant-loop decreases-loop
+flag-of-requires : tie.Need-flag_of-requires invariant-loop decreases-loop
 flag-of-requires c κs = search rules
 
-array-write-flags : tie.Need-array-write-flags invariant-loop decreases-loop
+array-write-flags : tie.Need-bounds-flags-y invariant-loop decreases-loop
 array-write-flags c = search rules
 
-add-y : tie.Need-overflow-add-y invariant-loop decreases-loop
+add-y : tie.Need-overflow_add-y invariant-loop decreases-loop
 add-y c = search rules
 
-loop-less : tie.Need-loop-smaller invariant-loop decreases-loop
+loop-less : tie.Need-loop-y-smaller invariant-loop decreases-loop
 loop-less c = search rules
 
-loop-again : tie.Need-loop-preserved invariant-loop decreases-loop
-loop-again c = let l = c.before.before.loop in
-    (omega arith, simp length-set l.invariant.1, spread-more c.before.before.before.args.pair l.flags l.y c.flag-of.result (let e = l.invariant.1 in let h = c.before.loop-test.true in omega arith) l.invariant.2 c.flag-of.ensures)
+loop-again : tie.Need-loop-y-preserved invariant-loop decreases-loop
+loop-again c = let l = c.loop-y in
+    (omega arith, simp length-set l.invariant.1, spread-more c.args.pair l.flags l.y c.flag_of.result (let e = l.invariant.1 in let h = c.loop-y-test.true in omega arith) l.invariant.2 c.flag_of.ensures)
 
 returns : tie.Need-returns invariant-loop decreases-loop
-returns c = λ y h. c.before.loop.invariant.2 y (omega arith)
+returns c = λ y h. c.loop-y.invariant.2 y (omega arith)
 
-pub spread-spec : {M : Type 1} → statement M
-spread-spec =
+pub spread_spec : {M : Type 1} → statement M
+spread_spec =
     tie.close
     (tie.spec
     invariant-loop

@@ -10,35 +10,35 @@ use Rattle.ways.proofs.row.link.Tie as tie
 few : (c : tie.Start) → (c.args.k < most_links) × (c.args.row < sheet_atom_limit)
 few c = (omega (arith, row-few c.args.parts.now c.args.n c.args.row c.requires.0 c.requires.1, c.requires.2), omega (arith, c.requires.0.few, c.requires.1))
 
-range : (c : tie.After-wide) → Range sheet_link_limit c.wide.result
-range c = let s = c.before.before in subst (Range sheet_link_limit) (sym c.wide.ensures.0) (place-range s.args.parts.now s.args.n s.args.row s.requires.0 s.requires.1 s.args.k s.requires.2)
+range : (c : tie.After-wide-x) → Range sheet_link_limit c.wide-x.result
+range c = let s = c in subst (Range sheet_link_limit) (sym c.wide-x.ensures.0) (place-range s.args.parts.now s.args.n s.args.row s.requires.0 s.requires.1 s.args.k s.requires.2)
 
-mul_wide : tie.Need-overflow-mul-wide
+mul_wide : tie.Need-overflow_mul-row
 mul_wide c = omega (arith, (few c).0, (few c).1)
 
-add_wide : tie.Need-overflow-add-wide
+add_wide : tie.Need-overflow_add-k
 add_wide c = omega (arith, (few c).0, (few c).1)
 
-add-wide-2 : tie.Need-overflow-add-wide-2
+add-wide-2 : tie.Need-overflow_add-row
 add-wide-2 c = omega (arith, (few c).0, (few c).1)
 
-mul-wide-2 : tie.Need-overflow-mul-wide-2
+mul-wide-2 : tie.Need-offset_bounds-parts-row
 mul-wide-2 c = omega (arith, (few c).0, (few c).1)
 
-element-copy-out-wide : tie.Need-element-copy-out-wide
-element-copy-out-wide c = omega (arith, (few c).0, (few c).1)
+element-copy-out-wide : tie.Need-bounds-parts-row
+element-copy-out-wide c = omega (arith, (few c.before).0, (few c.before).1)
 
-wide-requires : tie.Need-wide-requires
+wide-requires : tie.Need-wide-x-requires
 wide-requires c κs = search rules
 
-sub-result : tie.Need-overflow-sub-result
+sub-result : tie.Need-overflow_sub-result
 sub-result c = (range c).0
 
 returns : tie.Need-returns
-returns c = let r = range c in let e = c.wide.ensures.0 in (omega (arith, r.0, e), omega (arith, r.0, r.1))
+returns c = let r = range c in let e = c.wide-x.ensures.0 in (omega (arith, r.0, e), omega (arith, r.0, r.1))
 
-pub link-spec : {M : Type 1} → statement M
-link-spec =
+pub link_spec : {M : Type 1} → statement M
+link_spec =
     tie.close
     (tie.spec
     mul_wide

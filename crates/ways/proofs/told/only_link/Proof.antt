@@ -5,37 +5,37 @@ use Rattle.ways.proofs.Telling.{only-without}
 use Rattle.ways.proofs.told.only_link.Statement.{statement}
 use Rattle.ways.proofs.told.only_link.Tie as tie
 
-pair-at-requires : tie.Need-pair-at-requires
+pair-at-requires : tie.Need-pair_at-set-requires
 pair-at-requires c κs = search rules
 
-is-empty-requires : tie.Need-is-empty-requires
+is-empty-requires : tie.Need-is_empty-requires
 is-empty-requires c κs = search rules
 
-returns : tie.Need-returns
+returns : tie.Need-returns-then-is_empty
 returns c = λ n. absurd (n refl)
 
-first-link-requires : tie.Need-first-link-requires
-first-link-requires c κs = sym c.before.is-empty.ensures ∙ c.if1.false
+first-link-requires : tie.Need-first_link-y-requires
+first-link-requires c κs = sym c.is_empty.ensures ∙ c.if-is_empty.false
 
-without-link-requires : tie.Need-without-link-requires
+without-link-requires : tie.Need-without_link-rest-requires
 without-link-requires c κs = search rules
 
-is-empty-requires-2 : tie.Need-is-empty-requires-2
+is-empty-requires-2 : tie.Need-is_empty-requires-2
 is-empty-requires-2 c κs = search rules
 
-returns-2 : tie.Need-returns-2
+returns-2 : tie.Need-returns-then-not-is_empty
 returns-2 c = λ n. absurd (n refl)
 
-add-result : tie.Need-overflow-add-result
+add-result : tie.Need-overflow_add-result
 add-result c = search rules
 
-returns-3 : tie.Need-returns-3
-returns-3 c = let s = c.before.before.before.before.before.before.before in
-    let y = c.before.before.before.first-link in
-    λ n. only-without s.args.sets.now s.args.x c.before.before.before.before.before.before.pair-at.result c.before.before.before.before.before.before.pair-at.ensures y.result y.ensures.0 c.before.before.without-link.result c.before.before.without-link.ensures (sym c.before.is-empty2.ensures ∙ not-false _ c.if2.false)
+returns-3 : tie.Need-returns
+returns-3 c = let s = c in
+    let y = c.first_link-y in
+    λ n. only-without s.args.sets.now s.args.x c.pair_at-set.result c.pair_at-set.ensures y.result y.ensures.0 c.without_link-rest.result c.without_link-rest.ensures (sym c.is_empty-2.ensures ∙ not-false _ c.if-not-is_empty.false-raw)
 
-pub only-link-spec : {M : Type 1} → statement M
-only-link-spec =
+pub only_link_spec : {M : Type 1} → statement M
+only_link_spec =
     tie.close
     (tie.spec
     pair-at-requires

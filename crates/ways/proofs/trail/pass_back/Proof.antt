@@ -8,40 +8,40 @@ use Rattle.ways.proofs.trail.pass_back.Statement.{statement}
 use Rattle.ways.proofs.trail.pass_back.Tie as tie
 
 -- a step was found: its row
-row_in : (c : tie.After-row-of) → c.row_of.result < sheet_atom_limit
-row_in c = subst (λ (i : ℕ). i < sheet_atom_limit) (sym c.row_of.ensures) (step_row c.before.before.before.requires.0 (c.before.before.step_back.ensures.1 c.before.if1.false))
+row_in : (c : tie.After-row_of-j) → c.row_of-j.result < sheet_atom_limit
+row_in c = subst (λ (i : ℕ). i < sheet_atom_limit) (sym c.row_of-j.ensures) (step_row c.requires.0 (c.step_back-y.ensures.1 c.if-y-eq0.false))
 
-step-back-requires : tie.Need-step-back-requires
+step-back-requires : tie.Need-step_back-y-requires
 step-back-requires c κs = search rules
 
-returns : tie.Need-returns
-returns c = let s = c.before.before in not-passed s.args.laid.now s.args.taken.now s.args.atoms s.args.passed.now s.args.z s.requires.2
+returns : tie.Need-returns-then-y-eq0
+returns c = let s = c in not-passed s.args.laid.now s.args.taken.now s.args.atoms s.args.passed.now s.args.z s.requires.2
 
-row-of-requires : tie.Need-row-of-requires
+row-of-requires : tie.Need-row_of-j-requires
 row-of-requires c κs = search rules
 
-element-copy-out-if2 : tie.Need-element-copy-out-if2
-element-copy-out-if2 c = row_in c
+element-copy-out-if2 : tie.Need-bounds-passed-j
+element-copy-out-if2 c = row_in c.before
 
-returns-2 : tie.Need-returns-2
-returns-2 c = let s = c.before.before.before.before.before in not-passed s.args.laid.now s.args.taken.now s.args.atoms s.args.passed.now s.args.z s.requires.2
+returns-2 : tie.Need-returns-then-passed-j-eq2
+returns-2 c = let s = c in not-passed s.args.laid.now s.args.taken.now s.args.atoms s.args.passed.now s.args.z s.requires.2
 
-element-copy-out-passed : tie.Need-element-copy-out-passed
-element-copy-out-passed c = row_in c.before.before
+element-copy-out-passed : tie.Need-bounds-taken-j
+element-copy-out-passed c = row_in c.before.before.before.before
 
-element-write-passed : tie.Need-element-write-passed
-element-write-passed c = row_in c.before.before.before
+element-write-passed : tie.Need-bounds-passed-j-2
+element-write-passed c = row_in c.before.before.before.before.before
 
-returns-3 : tie.Need-returns-3
-returns-3 c = let s = c.before.before.before.before.before.before in
+returns-3 : tie.Need-returns
+returns-3 c = let s = c in
     let a = s.args in
-    let r = c.before.before.before.row_of in
-    let y = c.before.before.before.before.before.step_back in
-    row-passed a.laid.now a.taken.now a.atoms a.passed.now a.z s.requires.2 r.result y.result (row_in c.before.before.before) y.ensures.0
-    (subst (λ (i : ℕ). LaidStep a.laid.now a.taken.now a.atoms y.result (suc i) (suc a.z)) (sym r.ensures) (y.ensures.1 c.before.before.before.before.if1.false)) c.before.if2.false
+    let r = c.row_of-j in
+    let y = c.step_back-y in
+    row-passed a.laid.now a.taken.now a.atoms a.passed.now a.z s.requires.2 r.result y.result (row_in c.before.before.before.before.before) y.ensures.0
+    (subst (λ (i : ℕ). LaidStep a.laid.now a.taken.now a.atoms y.result (suc i) (suc a.z)) (sym r.ensures) (y.ensures.1 c.if-y-eq0.false)) c.if-passed-j-eq2.false
 
-pub pass-back-spec : {M : Type 1} → statement M
-pass-back-spec =
+pub pass_back_spec : {M : Type 1} → statement M
+pass_back_spec =
     tie.close
     (tie.spec
     step-back-requires

@@ -6,75 +6,75 @@ use Rattle.ways.proofs.Trails.{laid_none}
 use Rattle.ways.proofs.trail.ways.Statement.{statement}
 use Rattle.ways.proofs.trail.ways.Tie as tie
 
-abbrev invariant-loop : tie.invariant-loop
+abbrev invariant-loop : tie.invariant-loop-at
 invariant-loop laid atoms links taken guards sorted trails seen₀ passed₀ n₀ at₀ seen passed n at = (n ≤ at) × (at ≤ trail_room) × (length seen ≡ sheet_link_limit) × (length passed ≡ sheet_atom_limit) × FoundIn laid taken atoms guards links sorted seen passed n
 
-abbrev decreases-loop : tie.decreases-loop
+abbrev decreases-loop : tie.decreases-loop-at
 decreases-loop laid atoms links taken guards sorted trails seen₀ passed₀ n₀ at₀ seen passed n at = trail_room - at
 
-loop-holds : tie.Need-loop-init invariant-loop decreases-loop
+loop-holds : tie.Need-loop-at-init invariant-loop decreases-loop
 loop-holds c = let a = c.args in (omega arith, omega arith, refl, refl, laid_none a.laid.now a.taken.now a.atoms a.guards.now a.links a.sorted.now (replicate sheet_link_limit 0) (replicate sheet_atom_limit 0))
 
-mul_wide : tie.Need-overflow-mul-wide invariant-loop decreases-loop
+mul_wide : tie.Need-offset_bounds-trails-at invariant-loop decreases-loop
 mul_wide c = search rules
 
-element-copy-out-wide : tie.Need-element-copy-out-wide invariant-loop decreases-loop
+element-copy-out-wide : tie.Need-bounds-trails-at invariant-loop decreases-loop
 element-copy-out-wide c = search rules
 
-wide-requires : tie.Need-wide-requires invariant-loop decreases-loop
+wide-requires : tie.Need-wide-end-requires invariant-loop decreases-loop
 wide-requires c κs = search rules
 
-returns : tie.Need-returns invariant-loop decreases-loop
-returns c = c.before.before.before.before.loop.invariant.4.ways
+returns : tie.Need-returns-then-end-eq0 invariant-loop decreases-loop
+returns c = c.loop-at.invariant.4.ways
 
-returns-2 : tie.Need-returns-2 invariant-loop decreases-loop
-returns-2 c = c.before.before.before.before.before.loop.invariant.4.ways
+returns-2 : tie.Need-returns-then-links-end invariant-loop decreases-loop
+returns-2 c = c.loop-at.invariant.4.ways
 
-mul-if3 : tie.Need-overflow-mul-if3 invariant-loop decreases-loop
+mul-if3 : tie.Need-overflow_mul-t-15 invariant-loop decreases-loop
 mul-if3 c = search rules
 
-sub-if3 : tie.Need-overflow-sub-if3 invariant-loop decreases-loop
+sub-if3 : tie.Need-overflow_sub-end invariant-loop decreases-loop
 sub-if3 c = search rules
 
-add-if3 : tie.Need-overflow-add-if3 invariant-loop decreases-loop
+add-if3 : tie.Need-overflow_add-end invariant-loop decreases-loop
 add-if3 c = search rules
 
-element-copy-out-if3 : tie.Need-element-copy-out-if3 invariant-loop decreases-loop
+element-copy-out-if3 : tie.Need-bounds-sorted-end invariant-loop decreases-loop
 element-copy-out-if3 c = search rules
 
-returns-3 : tie.Need-returns-3 invariant-loop decreases-loop
-returns-3 c = c.before.before.before.before.before.before.before.loop.invariant.4.ways
+returns-3 : tie.Need-returns-then-sorted-end-ne1 invariant-loop decreases-loop
+returns-3 c = c.loop-at.invariant.4.ways
 
-add-follow : tie.Need-overflow-add-follow invariant-loop decreases-loop
+add-follow : tie.Need-overflow_add-at invariant-loop decreases-loop
 add-follow c = search rules
 
-sub-follow : tie.Need-overflow-sub-follow invariant-loop decreases-loop
+sub-follow : tie.Need-overflow_sub-end-in-loop-at invariant-loop decreases-loop
 sub-follow c = search rules
 
-follow-requires : tie.Need-follow-requires invariant-loop decreases-loop
-follow-requires c κs = let s = c.before.before.before.before.before.before.before.before.before.before in
-    let l = c.before.before.before.before.before.before.before.before.before.loop in
-    (s.requires.0, s.requires.1, let h = c.before.before.before.before.before.if1.false in let k = c.before.before.before.before.if2.false in omega arith, l.invariant.2, l.invariant.3, c.before.before.if3.false)
+follow-requires : tie.Need-follow-next-requires invariant-loop decreases-loop
+follow-requires c κs = let s = c in
+    let l = c.loop-at in
+    (s.requires.0, s.requires.1, let h = c.if-end-eq0.false in let k = c.if-links-end.false in omega arith, l.invariant.2, l.invariant.3, c.if-sorted-end-ne1.false)
 
-returns-4 : tie.Need-returns-4 invariant-loop decreases-loop
-returns-4 c = c.before.before.before.before.before.before.before.before.before.before.before.loop.invariant.4.ways
+returns-4 : tie.Need-returns-then-next-at invariant-loop decreases-loop
+returns-4 c = c.loop-at.invariant.4.ways
 
-add-n : tie.Need-overflow-add-n invariant-loop decreases-loop
+add-n : tie.Need-overflow_add-n invariant-loop decreases-loop
 add-n c = search rules
 
-loop-less : tie.Need-loop-smaller invariant-loop decreases-loop
+loop-less : tie.Need-loop-at-smaller invariant-loop decreases-loop
 loop-less c = search rules
 
-loop-again : tie.Need-loop-preserved invariant-loop decreases-loop
-loop-again c = let l = c.before.before.before.before.before.before.before.before.before.before.before.loop in
-    let f = c.before.follow.ensures in
-    (let h = c.if4.false in omega arith, f.few, f.room, f.atom-room, rw add-one (f.more (λ e. let h = c.if4.false in omega arith) l.n l.invariant.4))
+loop-again : tie.Need-loop-at-preserved invariant-loop decreases-loop
+loop-again c = let l = c.loop-at in
+    let f = c.follow-next.ensures in
+    (let h = c.if-next-at.false in omega arith, f.few, f.room, f.atom-room, rw add-one (f.more (λ e. let h = c.if-next-at.false in omega arith) l.n l.invariant.4))
 
-returns-5 : tie.Need-returns-5 invariant-loop decreases-loop
-returns-5 c = c.before.loop.invariant.4.ways
+returns-5 : tie.Need-returns invariant-loop decreases-loop
+returns-5 c = c.loop-at.invariant.4.ways
 
-pub ways-spec : {M : Type 1} → statement M
-ways-spec =
+pub ways_spec : {M : Type 1} → statement M
+ways_spec =
     tie.close
     (tie.spec
     invariant-loop
