@@ -46,7 +46,7 @@ fn read_open(file: &mut impl Read, text: &mut [u8]) -> io::Result<usize>
     Ok(bytes)
 }
 
-// Reads the file of this name until it ends or the text is full.
+// Opens the file of this name, and reads it until it ends or the text is full.
 fn read_path<R: Files>(rt: &R, path: &str, text: &mut [u8]) -> io::Result<usize>
     ensures { IfOk result (λ bytes. bytes ≤ length text.new) }
 {
@@ -54,6 +54,7 @@ fn read_path<R: Files>(rt: &R, path: &str, text: &mut [u8]) -> io::Result<usize>
     read_open(&mut file, text)
 }
 
+// The same, with what failed said on standard error. A path is text, so a name that is not UTF-8 fails.
 pub fn read_file<R: Files + Eprint>(rt: &R, name: &[u8], text: &mut [u8]) -> Input
     ensures { result.bytes ≤ length text.new }
 {
