@@ -48,9 +48,9 @@ returns-2 c =
 
 returns-3 : tie.Need-returns-in-Passed-two
 returns-3 c =
-    let x = c.before in
-    let t = x.before.before.before.before in
-    let r = t.before.before.before in
+    let x = c in
+    let t = c in
+    let r = c in
     let a = r.args in
     c.compare_normals.ensures
     ∙ both-passed a.a.now a.b.now r.read_sheet-first.result.normal t.read_sheet-second.result.normal
