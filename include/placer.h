@@ -1,6 +1,6 @@
 /* The figure placer for sheet networks: the tasks as C functions, in libplacer.a.
 
-   Build:  rt staticlib placer             writes target/staticlib/libplacer.a, for x86-64 Linux
+   Build:  bash examples/library           writes target/staticlib/libplacer.a, for x86-64 Linux
            cc -I include program.c target/staticlib/libplacer.a
    The library needs memcpy and memset, and nothing else. It allocates nothing and keeps nothing between
    calls, so threads may call it at the same time, each with buffers of its own. A call takes up to about

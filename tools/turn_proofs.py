@@ -116,9 +116,13 @@ def place_variables(text, known):
     return found
 
 
+# In a cycle, whose declarations are turned one by one: the lemmas of the whole file.
+CYCLE = {}
+
+
 def helpers(text):
     """The lemmas whose first argument is a place, with it, and with the place that they give, if so."""
-    found = {}
+    found = dict(CYCLE)
     for m in re.finditer(r"(?m)^\s*(?:abbrev |pub |unfoldable )*(" + WORD + r") : \(?(?:" + WORD + r" : )?tie\.(" + WORD + r")([^\n]*)", text):
         if not m.group(2).startswith(("Need-", "invariant-", "decreases-")):
             gives = re.search(r"→ tie\.(" + WORD + r")", m.group(3))
@@ -278,6 +282,10 @@ def turn_cycle(text, entries, missing):
     aliases = {}
     for m in re.finditer(r"(?m)^use \S+\.Lts-(\S+) as (\S+)$", text):
         aliases[m.group(2)] = Names(entries[m.group(1)])
+    for alias, names in aliases.items():
+        for name, (place, gives) in helpers(re.sub(r"(?<![\w.])" + re.escape(alias) + r"\.", "tie.", text)).items():
+            if norm(place) in names.places:
+                CYCLE[name] = (names.places[norm(place)], names.places.get(norm(gives)) if gives else None)
     parts = re.split(r"(?m)^(?= *(?:abbrev |pub )*\S+ : )", text)
     for k, part in enumerate(parts):
         used = [a for a in aliases if re.search(r"^ *(?:abbrev |pub )*\S+ : (?:\S+ → )?\(?(?:\w+ : )?" + re.escape(a) + r"\.", part)]
@@ -289,6 +297,7 @@ def turn_cycle(text, entries, missing):
         body = turn(body, aliases[used[0]], missing)
         body = re.sub(r"(?<![\w.])tie\.", used[0] + ".", body)
         parts[k] = re.sub(r"(?m)^(?=.)", indent, body) if indent else body
+    CYCLE.clear()
     return "".join(parts)
 
 

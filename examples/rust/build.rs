@@ -1,4 +1,4 @@
-// Links the static library that `rt staticlib placer` writes.
+// Links the static library that `bash examples/library` writes.
 use std::path::Path;
 
 fn main() {

@@ -10,16 +10,18 @@ use claiming::claim::claim;
 use comparing::compare::compare;
 use filling::fill::fill;
 use finding::place::place;
-use libc::STDOUT_FILENO;
 use normalising::normalise::{normalise_figure, normalise_sheet};
 use rows::Sheet;
+use std::rt::Files;
+use std::{env, io};
 use swapping::swap::swap;
 use task_files::read_named;
 
 // Where the word that begins at `from` ends.
 fn word_end(case: &[u8], from: usize) -> usize
     requires { from ≤ length case.now }
-    ensures { (from ≤ result) × (result ≤ length case.now) }
+    ensures after { from ≤ result }
+    ensures within { result ≤ length case.now }
 {
     let mut k = from;
     while k < case.len() {
@@ -34,63 +36,81 @@ fn word_end(case: &[u8], from: usize) -> usize
 // Where the word after the one that ends at `end` begins.
 fn next_word(case: &[u8], end: usize) -> usize
     requires { end ≤ length case.now }
-    ensures { (end ≤ result) × (result ≤ length case.now) }
+    ensures after { end ≤ result }
+    ensures within { result ≤ length case.now }
 {
     if end < case.len() { end + 1 } else { end }
 }
 
-fn print_answer(answer: TaskAnswer, out: &[u8]) {
-    io::write_all(STDOUT_FILENO, &answer_row(answer));
-    io::write_all(STDOUT_FILENO, written_part(answer, out));
+fn print_answer(rt: &impl Print, answer: TaskAnswer, out: &[u8]) -> io::Result<()> {
+    rt.write_all(&answer_row(answer))?;
+    rt.write_all(written_part(answer, out))
 }
 
-fn print_verdict(verdict: Verdict) {
-    io::write_all(STDOUT_FILENO, &verdict_row(verdict));
+fn print_verdict(rt: &impl Print, verdict: Verdict) -> io::Result<()> {
+    rt.write_all(&verdict_row(verdict))
 }
 
 // The task of this name on these texts; a text that it does not use is empty.
-fn run_task(task: &[u8], first: &[u8], second: &[u8], third: &[u8]) {
+fn run_task(
+    rt: &impl Print,
+    task: &[u8],
+    first: &[u8],
+    second: &[u8],
+    third: &[u8],
+) -> io::Result<()> {
     let mut out = [0u8; Sheet::SLIP];
-    if check::same(task, b"normalise") {
-        let done = normalise_sheet(first, &mut out);
-        print_answer(of_normalised(done), &out);
-    } else if check::same(task, b"normalise_figure") {
-        let done = normalise_figure(first, &mut out);
-        print_answer(of_normalised(done), &out);
-    } else if check::same(task, b"compare") {
-        print_verdict(of_compared(compare(first, second)));
-    } else if check::same(task, b"fill") {
-        let done = fill(first, second, &mut out);
-        print_answer(of_done(done), &out);
-    } else if check::same(task, b"place") {
-        let done = place(first, second, &mut out);
-        print_answer(of_done(done), &out);
-    } else if check::same(task, b"claim") {
-        print_verdict(of_claimed(claim(first, second, third)));
-    } else if check::same(task, b"swap") {
-        let done = swap(first, second, third, &mut out);
-        print_answer(of_done(done), &out);
+    match task {
+        b"normalise" => {
+            let done = normalise_sheet(first, &mut out);
+            print_answer(rt, of_normalised(done), &out)
+        }
+        b"normalise_figure" => {
+            let done = normalise_figure(first, &mut out);
+            print_answer(rt, of_normalised(done), &out)
+        }
+        b"compare" => print_verdict(rt, of_compared(compare(first, second))),
+        b"fill" => {
+            let done = fill(first, second, &mut out);
+            print_answer(rt, of_done(done), &out)
+        }
+        b"place" => {
+            let done = place(first, second, &mut out);
+            print_answer(rt, of_done(done), &out)
+        }
+        b"claim" => print_verdict(rt, of_claimed(claim(first, second, third))),
+        b"swap" => {
+            let done = swap(first, second, third, &mut out);
+            print_answer(rt, of_done(done), &out)
+        }
+        _ => Ok(()),
     }
 }
 
 // The task of this name on the texts in the files of these names; a name that it does not use is empty.
-fn run_files(task: &[u8], first: &[u8], second: &[u8], third: &[u8]) {
+fn run_files<R: Files + Print + Eprint>(
+    rt: &R,
+    task: &[u8],
+    first: &[u8],
+    second: &[u8],
+    third: &[u8],
+) -> io::Result<()> {
     let mut text = [0u8; Sheet::TEXT];
-    let input = read_named(first, &mut text);
+    let input = read_named(rt, first, &mut text);
     let mut other = [0u8; Sheet::TEXT];
-    let other_input = read_named(second, &mut other);
+    let other_input = read_named(rt, second, &mut other);
     let mut last = [0u8; Sheet::TEXT];
-    let last_input = read_named(third, &mut last);
+    let last_input = read_named(rt, third, &mut last);
     if input.failed || other_input.failed || last_input.failed {
-        return;
+        return Ok(());
     }
     let n = input.bytes;
     let m = other_input.bytes;
     let p = last_input.bytes;
-    run_task(task, &text[..n], &other[..m], &last[..p]);
+    run_task(rt, task, &text[..n], &other[..m], &last[..p])
 }
 
-fn run_case(case: &[u8]) {
+fn run_case<R: Files + Print + Eprint>(rt: &R, case: &[u8]) -> io::Result<()> {
     let task = 0;
     let end = word_end(case, task);
     let first = next_word(case, end);
@@ -100,20 +120,17 @@ fn run_case(case: &[u8]) {
     let third = next_word(case, second_end);
     let third_end = word_end(case, third);
     run_files(
+        rt,
         &case[task..end],
         &case[first..first_end],
         &case[second..second_end],
         &case[third..third_end],
-    );
+    )
 }
 
-fn main() {
-    let last = os::arg_count();
-    let mut k = 1;
-    while k < last {
-        let mut case = io::buffer();
-        let n = os::arg(k, &mut case);
-        run_case(&case[..n]);
-        k += 1;
+fn main(rt: HostRuntime) -> io::Result<()> {
+    for case in env::args(&rt)?.skip(1) {
+        run_case(&rt, case.as_bytes())?;
     }
+    Ok(())
 }

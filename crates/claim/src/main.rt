@@ -5,22 +5,22 @@
 use answers::of_claimed;
 use answers::row::verdict_row;
 use claiming::claim::claim;
-use libc::STDOUT_FILENO;
 use rows::Sheet;
+use std::io;
 
-fn main() {
+fn main(rt: HostRuntime) -> io::Result<()> {
     let mut sheet = [0u8; Sheet::TEXT];
-    let first = task_files::read_input(1, b"sheet.txt", &mut sheet);
+    let first = task_files::read_input(&rt, 1, b"sheet.txt", &mut sheet);
     let mut figure = [0u8; Sheet::TEXT];
-    let second = task_files::read_input(2, b"figure.txt", &mut figure);
+    let second = task_files::read_input(&rt, 2, b"figure.txt", &mut figure);
     let mut list = [0u8; Sheet::TEXT];
-    let third = task_files::read_input(3, b"list.txt", &mut list);
+    let third = task_files::read_input(&rt, 3, b"list.txt", &mut list);
     if first.failed || second.failed || third.failed {
-        return;
+        return Ok(());
     }
     let n = first.bytes;
     let m = second.bytes;
     let p = third.bytes;
     let claimed = claim(&sheet[..n], &figure[..m], &list[..p]);
-    io::write_all(STDOUT_FILENO, &verdict_row(of_claimed(claimed)));
+    rt.write_all(&verdict_row(of_claimed(claimed)))
 }

@@ -5,19 +5,19 @@
 use answers::of_compared;
 use answers::row::verdict_row;
 use comparing::compare::compare;
-use libc::STDOUT_FILENO;
 use rows::Sheet;
+use std::io;
 
-fn main() {
+fn main(rt: HostRuntime) -> io::Result<()> {
     let mut sheet = [0u8; Sheet::TEXT];
-    let first = task_files::read_input(1, b"sheet.txt", &mut sheet);
+    let first = task_files::read_input(&rt, 1, b"sheet.txt", &mut sheet);
     let mut other = [0u8; Sheet::TEXT];
-    let second = task_files::read_input(2, b"other.txt", &mut other);
+    let second = task_files::read_input(&rt, 2, b"other.txt", &mut other);
     if first.failed || second.failed {
-        return;
+        return Ok(());
     }
     let n = first.bytes;
     let m = second.bytes;
     let compared = compare(&sheet[..n], &other[..m]);
-    io::write_all(STDOUT_FILENO, &verdict_row(of_compared(compared)));
+    rt.write_all(&verdict_row(of_compared(compared)))
 }

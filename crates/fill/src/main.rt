@@ -5,22 +5,22 @@
 use answers::of_done;
 use answers::row::{answer_row, written_part};
 use filling::fill::fill;
-use libc::STDOUT_FILENO;
 use rows::Sheet;
+use std::io;
 
-fn main() {
+fn main(rt: HostRuntime) -> io::Result<()> {
     let mut figure = [0u8; Sheet::TEXT];
-    let first = task_files::read_input(1, b"figure.txt", &mut figure);
+    let first = task_files::read_input(&rt, 1, b"figure.txt", &mut figure);
     let mut list = [0u8; Sheet::TEXT];
-    let second = task_files::read_input(2, b"list.txt", &mut list);
+    let second = task_files::read_input(&rt, 2, b"list.txt", &mut list);
     if first.failed || second.failed {
-        return;
+        return Ok(());
     }
     let n = first.bytes;
     let m = second.bytes;
     let mut out = [0u8; Sheet::SLIP];
     let done = fill(&figure[..n], &list[..m], &mut out);
     let answer = of_done(done);
-    io::write_all(STDOUT_FILENO, &answer_row(answer));
-    io::write_all(STDOUT_FILENO, written_part(answer, &out));
+    rt.write_all(&answer_row(answer))?;
+    rt.write_all(written_part(answer, &out))
 }

@@ -4,20 +4,20 @@
 
 use answers::of_normalised;
 use answers::row::{answer_row, written_part};
-use libc::STDOUT_FILENO;
 use normalising::normalise::normalise_figure;
 use rows::Sheet;
+use std::io;
 
-fn main() {
+fn main(rt: HostRuntime) -> io::Result<()> {
     let mut figure = [0u8; Sheet::TEXT];
-    let input = task_files::read_input(1, b"figure.txt", &mut figure);
+    let input = task_files::read_input(&rt, 1, b"figure.txt", &mut figure);
     if input.failed {
-        return;
+        return Ok(());
     }
     let n = input.bytes;
     let mut out = [0u8; Sheet::SLIP];
     let done = normalise_figure(&figure[..n], &mut out);
     let answer = of_normalised(done);
-    io::write_all(STDOUT_FILENO, &answer_row(answer));
-    io::write_all(STDOUT_FILENO, written_part(answer, &out));
+    rt.write_all(&answer_row(answer))?;
+    rt.write_all(written_part(answer, &out))
 }

@@ -1,6 +1,5 @@
-// The tasks as C and Rust callers link them, in libplacer.a; include/placer.h declares them. A text, and the
-// output buffer, is a pointer and a length. Each function returns the table's number and writes the other values
-// of the answer through its last parameters. Nothing is asked of the texts or of the buffer's length.
+// The tasks as placer_c exports them to C and Rust callers. Each function returns the table's number and writes the
+// other values of the answer through its last parameters. Nothing is asked of the texts or of the buffer's length.
 #![tactic(auto)]
 
 ghost use Rattle.std.specs.Prelude.{◌≡◌, length};
@@ -25,10 +24,10 @@ use swapping::swap::swap;
 
 // The values of an answer, each where the caller wants it.
 fn hand_out(answer: TaskAnswer, input: &mut u16, row: &mut usize, bytes: &mut usize) -> u16
-    ensures value { result ≡ answer.number }
-    ensures input_after { input.new ≡ answer.input }
-    ensures row_after { row.new ≡ answer.row }
-    ensures bytes_after { bytes.new ≡ answer.bytes }
+    ensures number { result ≡ answer.number }
+    ensures input { input.new ≡ answer.input }
+    ensures row { row.new ≡ answer.row }
+    ensures bytes { bytes.new ≡ answer.bytes }
 {
     *input = answer.input;
     *row = answer.row;
@@ -44,11 +43,11 @@ fn hand_verdict(
     bytes: &mut usize,
     yes: &mut bool,
 ) -> u16
-    ensures value { result ≡ verdict.number }
-    ensures input_after { input.new ≡ verdict.input }
-    ensures row_after { row.new ≡ verdict.row }
-    ensures bytes_after { bytes.new ≡ verdict.bytes }
-    ensures yes_after { yes.new ≡ verdict.yes }
+    ensures number { result ≡ verdict.number }
+    ensures input { input.new ≡ verdict.input }
+    ensures row { row.new ≡ verdict.row }
+    ensures bytes { bytes.new ≡ verdict.bytes }
+    ensures yes { yes.new ≡ verdict.yes }
 {
     *input = verdict.input;
     *row = verdict.row;
@@ -58,45 +57,42 @@ fn hand_verdict(
 }
 
 // The normal text of a sheet.
-#[unsafe(no_mangle)]
-pub extern "C" fn placer_normalise_sheet(
+pub fn placer_normalise_sheet(
     text: &[u8],
     out: &mut [u8],
     input: &mut u16,
     row: &mut usize,
     bytes: &mut usize,
 ) -> u16
-    ensures out_after { out.new ≡ normalised_slip Kind.Plain text.now out.old }
-    ensures value { result ≡ normalised_number (normalised_answer Kind.Plain text.now (length out.old)) }
-    ensures input_after { input.new ≡ normalised_input (normalised_answer Kind.Plain text.now (length out.old)) }
-    ensures row_after { row.new ≡ normalised_row (normalised_answer Kind.Plain text.now (length out.old)) }
-    ensures bytes_after { bytes.new ≡ normalised_bytes (normalised_answer Kind.Plain text.now (length out.old)) }
+    ensures out { out.new ≡ normalised_slip Kind.Plain text.now out.old }
+    ensures number { result ≡ normalised_number (normalised_answer Kind.Plain text.now (length out.old)) }
+    ensures input { input.new ≡ normalised_input (normalised_answer Kind.Plain text.now (length out.old)) }
+    ensures row { row.new ≡ normalised_row (normalised_answer Kind.Plain text.now (length out.old)) }
+    ensures bytes { bytes.new ≡ normalised_bytes (normalised_answer Kind.Plain text.now (length out.old)) }
 {
     hand_out(of_normalised(normalise_sheet(text, out)), input, row, bytes)
 }
 
 // The normal text of a figure.
-#[unsafe(no_mangle)]
-pub extern "C" fn placer_normalise_figure(
+pub fn placer_normalise_figure(
     text: &[u8],
     out: &mut [u8],
     input: &mut u16,
     row: &mut usize,
     bytes: &mut usize,
 ) -> u16
-    ensures out_after { out.new ≡ normalised_slip Kind.Figure text.now out.old }
-    ensures value { result ≡ normalised_number (normalised_answer Kind.Figure text.now (length out.old)) }
-    ensures input_after { input.new ≡ normalised_input (normalised_answer Kind.Figure text.now (length out.old)) }
-    ensures row_after { row.new ≡ normalised_row (normalised_answer Kind.Figure text.now (length out.old)) }
-    ensures bytes_after { bytes.new ≡ normalised_bytes (normalised_answer Kind.Figure text.now (length out.old)) }
+    ensures out { out.new ≡ normalised_slip Kind.Figure text.now out.old }
+    ensures number { result ≡ normalised_number (normalised_answer Kind.Figure text.now (length out.old)) }
+    ensures input { input.new ≡ normalised_input (normalised_answer Kind.Figure text.now (length out.old)) }
+    ensures row { row.new ≡ normalised_row (normalised_answer Kind.Figure text.now (length out.old)) }
+    ensures bytes { bytes.new ≡ normalised_bytes (normalised_answer Kind.Figure text.now (length out.old)) }
 {
     let done = normalise_figure(text, out);
     hand_out(of_normalised(done), input, row, bytes)
 }
 
 // The figure filled from the list, as normal text.
-#[unsafe(no_mangle)]
-pub extern "C" fn placer_fill(
+pub fn placer_fill(
     figure: &[u8],
     list: &[u8],
     out: &mut [u8],
@@ -104,18 +100,17 @@ pub extern "C" fn placer_fill(
     row: &mut usize,
     bytes: &mut usize,
 ) -> u16
-    ensures out_after { out.new ≡ fill_slip figure.now list.now out.old }
-    ensures value { result ≡ done_number (fill_answer figure.now list.now (length out.old)) }
-    ensures input_after { input.new ≡ done_input (fill_answer figure.now list.now (length out.old)) }
-    ensures row_after { row.new ≡ done_row (fill_answer figure.now list.now (length out.old)) }
-    ensures bytes_after { bytes.new ≡ done_bytes (fill_answer figure.now list.now (length out.old)) }
+    ensures out { out.new ≡ fill_slip figure.now list.now out.old }
+    ensures number { result ≡ done_number (fill_answer figure.now list.now (length out.old)) }
+    ensures input { input.new ≡ done_input (fill_answer figure.now list.now (length out.old)) }
+    ensures row { row.new ≡ done_row (fill_answer figure.now list.now (length out.old)) }
+    ensures bytes { bytes.new ≡ done_bytes (fill_answer figure.now list.now (length out.old)) }
 {
     hand_out(of_done(fill(figure, list, out)), input, row, bytes)
 }
 
 // The list of fillings with which the pattern is the sheet.
-#[unsafe(no_mangle)]
-pub extern "C" fn placer_place(
+pub fn placer_place(
     sheet: &[u8],
     pattern: &[u8],
     out: &mut [u8],
@@ -123,18 +118,17 @@ pub extern "C" fn placer_place(
     row: &mut usize,
     bytes: &mut usize,
 ) -> u16
-    ensures out_after { out.new ≡ place_slip sheet.now pattern.now out.old }
-    ensures value { result ≡ done_number (place_answer sheet.now pattern.now (length out.old)) }
-    ensures input_after { input.new ≡ done_input (place_answer sheet.now pattern.now (length out.old)) }
-    ensures row_after { row.new ≡ done_row (place_answer sheet.now pattern.now (length out.old)) }
-    ensures bytes_after { bytes.new ≡ done_bytes (place_answer sheet.now pattern.now (length out.old)) }
+    ensures out { out.new ≡ place_slip sheet.now pattern.now out.old }
+    ensures number { result ≡ done_number (place_answer sheet.now pattern.now (length out.old)) }
+    ensures input { input.new ≡ done_input (place_answer sheet.now pattern.now (length out.old)) }
+    ensures row { row.new ≡ done_row (place_answer sheet.now pattern.now (length out.old)) }
+    ensures bytes { bytes.new ≡ done_bytes (place_answer sheet.now pattern.now (length out.old)) }
 {
     hand_out(of_done(place(sheet, pattern, out)), input, row, bytes)
 }
 
 // The sheet with the pattern swapped for the replacement, as normal text.
-#[unsafe(no_mangle)]
-pub extern "C" fn placer_swap(
+pub fn placer_swap(
     sheet: &[u8],
     pattern: &[u8],
     replacement: &[u8],
@@ -143,19 +137,18 @@ pub extern "C" fn placer_swap(
     row: &mut usize,
     bytes: &mut usize,
 ) -> u16
-    ensures out_after { out.new ≡ swap_slip sheet.now pattern.now replacement.now out.old }
-    ensures value { result ≡ done_number (swap_answer sheet.now pattern.now replacement.now (length out.old)) }
-    ensures input_after { input.new ≡ done_input (swap_answer sheet.now pattern.now replacement.now (length out.old)) }
-    ensures row_after { row.new ≡ done_row (swap_answer sheet.now pattern.now replacement.now (length out.old)) }
-    ensures bytes_after { bytes.new ≡ done_bytes (swap_answer sheet.now pattern.now replacement.now (length out.old)) }
+    ensures out { out.new ≡ swap_slip sheet.now pattern.now replacement.now out.old }
+    ensures number { result ≡ done_number (swap_answer sheet.now pattern.now replacement.now (length out.old)) }
+    ensures input { input.new ≡ done_input (swap_answer sheet.now pattern.now replacement.now (length out.old)) }
+    ensures row { row.new ≡ done_row (swap_answer sheet.now pattern.now replacement.now (length out.old)) }
+    ensures bytes { bytes.new ≡ done_bytes (swap_answer sheet.now pattern.now replacement.now (length out.old)) }
 {
     let done = swap(sheet, pattern, replacement, out);
     hand_out(of_done(done), input, row, bytes)
 }
 
 // Whether two sheets are the same.
-#[unsafe(no_mangle)]
-pub extern "C" fn placer_compare(
+pub fn placer_compare(
     a: &[u8],
     b: &[u8],
     input: &mut u16,
@@ -163,18 +156,17 @@ pub extern "C" fn placer_compare(
     bytes: &mut usize,
     yes: &mut bool,
 ) -> u16
-    ensures value { result ≡ compared_number (compare_answer a.now b.now) }
-    ensures input_after { input.new ≡ compared_input (compare_answer a.now b.now) }
-    ensures row_after { row.new ≡ compared_row (compare_answer a.now b.now) }
-    ensures bytes_after { bytes.new ≡ compared_bytes (compare_answer a.now b.now) }
-    ensures yes_after { yes.new ≡ compared_yes (compare_answer a.now b.now) }
+    ensures number { result ≡ compared_number (compare_answer a.now b.now) }
+    ensures input { input.new ≡ compared_input (compare_answer a.now b.now) }
+    ensures row { row.new ≡ compared_row (compare_answer a.now b.now) }
+    ensures bytes { bytes.new ≡ compared_bytes (compare_answer a.now b.now) }
+    ensures yes { yes.new ≡ compared_yes (compare_answer a.now b.now) }
 {
     hand_verdict(of_compared(compare(a, b)), input, row, bytes, yes)
 }
 
 // Whether the figure, filled from the list, is the same as the sheet.
-#[unsafe(no_mangle)]
-pub extern "C" fn placer_claim(
+pub fn placer_claim(
     sheet: &[u8],
     figure: &[u8],
     list: &[u8],
@@ -183,11 +175,11 @@ pub extern "C" fn placer_claim(
     bytes: &mut usize,
     yes: &mut bool,
 ) -> u16
-    ensures value { result ≡ claimed_number (claim_answer sheet.now figure.now list.now) }
-    ensures input_after { input.new ≡ claimed_input (claim_answer sheet.now figure.now list.now) }
-    ensures row_after { row.new ≡ claimed_row (claim_answer sheet.now figure.now list.now) }
-    ensures bytes_after { bytes.new ≡ claimed_bytes (claim_answer sheet.now figure.now list.now) }
-    ensures yes_after { yes.new ≡ claimed_yes (claim_answer sheet.now figure.now list.now) }
+    ensures number { result ≡ claimed_number (claim_answer sheet.now figure.now list.now) }
+    ensures input { input.new ≡ claimed_input (claim_answer sheet.now figure.now list.now) }
+    ensures row { row.new ≡ claimed_row (claim_answer sheet.now figure.now list.now) }
+    ensures bytes { bytes.new ≡ claimed_bytes (claim_answer sheet.now figure.now list.now) }
+    ensures yes { yes.new ≡ claimed_yes (claim_answer sheet.now figure.now list.now) }
 {
     let claimed = claim(sheet, figure, list);
     hand_verdict(of_claimed(claimed), input, row, bytes, yes)

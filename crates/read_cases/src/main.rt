@@ -4,30 +4,28 @@
 #![tactic(auto)]
 
 use answers::of_reading;
-use libc::STDOUT_FILENO;
 use reading::read::Reading;
 use rows::Sheet;
 use sheet::answer::Answer;
+use std::rt::Files;
+use std::{env, io};
 
 // The name of the file.
-fn print_name(file: usize) {
-    let mut path = io::buffer();
-    let n = os::arg(file, &mut path);
-    io::write_all(STDOUT_FILENO, &path[..n]);
+fn print_name(rt: &impl Print, file: &str) -> io::Result<()> {
+    rt.print(file)
 }
 
 // A space, and the number.
-fn print_number(number: u64) {
-    io::write_all(STDOUT_FILENO, b" ");
-    io::print_decimal(STDOUT_FILENO, number);
+fn print_number(rt: &impl Print, number: u64) -> io::Result<()> {
+    print!(rt; " {number}")
 }
 
-fn print_answer(answer: Answer) {
+fn print_answer(rt: &impl Print, answer: Answer) -> io::Result<()> {
     let values = of_reading(answer, 1);
-    print_number(values.number as u64);
-    print_number(values.input as u64);
-    print_number(values.row as u64);
-    io::write_all(STDOUT_FILENO, b"\n");
+    print_number(rt, values.number as u64)?;
+    print_number(rt, values.input as u64)?;
+    print_number(rt, values.row as u64)?;
+    rt.write_all(b"\n")
 }
 
 fn read_as(kind: u8, ports: [u16; Sheet::NUMBERS], text: &[u8]) -> Reading {
@@ -40,40 +38,37 @@ fn read_as(kind: u8, ports: [u16; Sheet::NUMBERS], text: &[u8]) -> Reading {
     }
 }
 
-// Reads the file that argument `file` names, as the kind that argument `kind` names, and prints the
-// answer. Gives the ports of the last pattern's contexts.
-fn read_case(kind: usize, file: usize, ports: [u16; Sheet::NUMBERS]) -> [u16; Sheet::NUMBERS] {
-    let mut word = io::buffer();
-    os::arg(kind, &mut word);
+// Reads the file as this kind, and prints the answer. Gives the ports of the last pattern's contexts.
+fn read_case<R: Files + Print + Eprint>(
+    rt: &R,
+    kind: &str,
+    file: &str,
+    ports: [u16; Sheet::NUMBERS],
+) -> io::Result<[u16; Sheet::NUMBERS]> {
     let mut text = [0u8; Sheet::TEXT];
-    let input = task_files::read_input(file, b"", &mut text);
+    let input = task_files::read_file(rt, file.as_bytes(), &mut text);
     if input.failed {
-        return ports;
+        return Ok(ports);
     }
     let length = input.bytes;
-    let reading = read_as(word[0], ports, &text[..length]);
-    print_name(file);
+    let letter = kind.as_bytes().first().copied().unwrap_or(0);
+    let reading = read_as(letter, ports, &text[..length]);
+    print_name(rt, file)?;
     let answer = reading.answer;
-    print_answer(answer);
-    if word[0] != b'p' {
-        return ports;
+    print_answer(rt, answer)?;
+    if letter != b'p' {
+        return Ok(ports);
     }
-    reading.ports
+    Ok(reading.ports)
 }
 
-fn main() {
+fn main(rt: HostRuntime) -> io::Result<()> {
     let mut ports = [0u16; Sheet::NUMBERS];
-    let last = os::arg_count();
-    let mut k = 1;
-    while k < last {
-        let file = k + 1;
-        if file < last {
-            let next = read_case(k, file, ports);
-            ports = next;
-        }
-        k = file;
-        if k < last {
-            k += 1;
+    let words: Vec<String> = env::args(&rt)?.skip(1).collect(rt.alloc())?;
+    for pair in words.chunks_exact(2) {
+        if let [kind, file] = pair {
+            ports = read_case(&rt, kind.as_str(), file.as_str(), ports)?;
         }
     }
+    Ok(())
 }

@@ -4,19 +4,19 @@
 
 use answers::of_done;
 use answers::row::{answer_row, written_part};
-use libc::STDOUT_FILENO;
 use rows::Sheet;
+use std::io;
 use swapping::swap::swap;
 
-fn main() {
+fn main(rt: HostRuntime) -> io::Result<()> {
     let mut sheet = [0u8; Sheet::TEXT];
-    let first = task_files::read_input(1, b"sheet.txt", &mut sheet);
+    let first = task_files::read_input(&rt, 1, b"sheet.txt", &mut sheet);
     let mut pattern = [0u8; Sheet::TEXT];
-    let second = task_files::read_input(2, b"figure.txt", &mut pattern);
+    let second = task_files::read_input(&rt, 2, b"figure.txt", &mut pattern);
     let mut replacement = [0u8; Sheet::TEXT];
-    let third = task_files::read_input(3, b"replacement.txt", &mut replacement);
+    let third = task_files::read_input(&rt, 3, b"replacement.txt", &mut replacement);
     if first.failed || second.failed || third.failed {
-        return;
+        return Ok(());
     }
     let n = first.bytes;
     let m = second.bytes;
@@ -24,6 +24,6 @@ fn main() {
     let mut out = [0u8; Sheet::SLIP];
     let done = swap(&sheet[..n], &pattern[..m], &replacement[..p], &mut out);
     let answer = of_done(done);
-    io::write_all(STDOUT_FILENO, &answer_row(answer));
-    io::write_all(STDOUT_FILENO, written_part(answer, &out));
+    rt.write_all(&answer_row(answer))?;
+    rt.write_all(written_part(answer, &out))
 }

@@ -1,7 +1,17 @@
 // What the programs share: a text read from a file.
 #![tactic(auto)]
 
-ghost use Rattle.io.specs.Counts.{IsPrefixLen};
+ghost use Rattle.std.specs.Prelude.{◌≡◌, ◌≤◌, length, IfOk};
+
+use std::env::{Env, FillError};
+use std::fmt::Display;
+use std::fs::File;
+use std::io::{Error, ErrorKind, Read};
+use std::rt::Files;
+use std::{io, str};
+
+// The longest path, with the zero that ends it.
+const PATH: usize = 4096;
 
 // What was read of a file: so many bytes; or its reading failed, which standard error says.
 #[derive(Clone, Copy)]
@@ -10,71 +20,76 @@ pub struct Input {
     pub failed: bool,
 }
 
-// Reads the open file until it ends or the text is full; a read that fails answers a negative number.
-fn read_open(fd: i32, text: &mut [u8]) -> Input
-    ensures { IsPrefixLen result.bytes text.new }
+// Says on standard error which file failed, and why.
+fn fail<D: Display + Drop>(rt: &impl Eprint, name: D, error: Error) -> Input
+    ensures { result.bytes ≡ 0 }
+{
+    let _ = eprintln!(rt; "{name}: {error}");
+    Input {
+        bytes: 0,
+        failed: true,
+    }
+}
+
+// Reads the open file until it ends or the text is full.
+fn read_open(file: &mut impl Read, text: &mut [u8]) -> io::Result<usize>
+    ensures { IfOk result (λ bytes. bytes ≤ length text.new) }
 {
     let mut bytes = 0;
     while bytes < text.len() {
-        let got = libc::read(fd, &mut text[bytes..]);
-        let more = io::count(got, &text[bytes..]);
+        let more = file.read(&mut text[bytes..])?;
         if more == 0 {
-            return Input {
-                bytes,
-                failed: got < 0,
-            };
+            return Ok(bytes);
         }
         bytes += more;
     }
-    Input {
-        bytes,
-        failed: false,
-    }
+    Ok(bytes)
 }
 
-// Reads the file of this name until it ends or the text is full.
-fn read_file(name: &[u8], text: &mut [u8]) -> Input
-    ensures { IsPrefixLen result.bytes text.new }
+// Opens the file of this name, and reads it until it ends or the text is full.
+fn read_path<R: Files>(rt: &R, path: &str, text: &mut [u8]) -> io::Result<usize>
+    ensures { IfOk result (λ bytes. bytes ≤ length text.new) }
 {
-    let fd = os::open_read(name);
-    if fd < 0 {
-        os::fail(name);
-        return Input {
-            bytes: 0,
-            failed: true,
-        };
+    let mut file = File::open(rt, path)?;
+    read_open(&mut file, text)
+}
+
+// The same, with what failed said on standard error. A path is text, so a name that is not UTF-8 fails.
+pub fn read_file<R: Files + Eprint>(rt: &R, name: &[u8], text: &mut [u8]) -> Input
+    ensures { result.bytes ≤ length text.new }
+{
+    let Ok(path) = str::from_utf8(name) else {
+        let error = Error::new(ErrorKind::InvalidFilename, "no UTF-8");
+        return fail(rt, name.escape_ascii(), error);
+    };
+    match read_path(rt, path, text) {
+        Ok(bytes) => Input {
+            bytes,
+            failed: false,
+        },
+        Err(error) => fail(rt, path, error),
     }
-    let input = read_open(fd, text);
-    if input.failed {
-        os::fail(name);
-    }
-    libc::close(fd);
-    input
 }
 
 // Reads the file that argument k names or, where there are not so many arguments, the file of this name.
-pub fn read_input(k: usize, name: &[u8], text: &mut [u8]) -> Input
-    ensures { IsPrefixLen result.bytes text.new }
+pub fn read_input<R: Files + Env + Eprint>(rt: &R, k: usize, name: &[u8], text: &mut [u8]) -> Input
+    ensures { result.bytes ≤ length text.new }
 {
-    if k >= os::arg_count() {
-        return read_file(name, text);
+    let mut path = [0u8; PATH];
+    match rt.arg(k, &mut path) {
+        Ok(n) => read_file(rt, &path[..n], text),
+        Err(FillError::NotPresent) => read_file(rt, name, text),
+        // An argument that is longer than any path.
+        Err(FillError::TooLong) => {
+            let error = Error::from(ErrorKind::InvalidFilename);
+            fail(rt, path.escape_ascii(), error)
+        }
     }
-    let mut path = io::buffer();
-    let n = os::arg(k, &mut path);
-    // An argument that is longer than any path.
-    if os::errno() != 0 {
-        os::fail(&path);
-        return Input {
-            bytes: 0,
-            failed: true,
-        };
-    }
-    read_file(&path[..n], text)
 }
 
 // Reads the file of this name; where there is no name, the text is empty.
-pub fn read_named(name: &[u8], text: &mut [u8]) -> Input
-    ensures { IsPrefixLen result.bytes text.new }
+pub fn read_named<R: Files + Eprint>(rt: &R, name: &[u8], text: &mut [u8]) -> Input
+    ensures { result.bytes ≤ length text.new }
 {
     if name.len() == 0 {
         return Input {
@@ -82,5 +97,5 @@ pub fn read_named(name: &[u8], text: &mut [u8]) -> Input
             failed: false,
         };
     }
-    read_file(name, text)
+    read_file(rt, name, text)
 }

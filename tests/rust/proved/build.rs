@@ -1,4 +1,4 @@
-//! Links libplacer.a, which `rt staticlib placer` writes to target/staticlib of the repository.
+//! Links libplacer.a, which `bash examples/library` writes to target/staticlib of the repository.
 
 use std::path::PathBuf;
 

@@ -7,31 +7,31 @@ use Rattle.claiming.proofs.ClaimCode.{found-claim, fewer-atoms}
 use Rattle.claiming.proofs.claim.claim_filled.Statement.{statement}
 use Rattle.claiming.proofs.claim.claim_filled.Tie as tie
 
-returns : tie.Need-returns
+returns : tie.Need-returns-then-filled-sheet
 returns c =
-    let s = c.before.before.before.before.before in
-    ap placed_claim (sym (fewer-atoms s.args.sheet s.args.filled s.requires c.before.before.before.if1.true c.if2.true))
+    let s = c in
+    ap placed_claim (sym (fewer-atoms s.args.sheet s.args.filled s.requires c.if-filled-eq0.true c.if-filled-sheet.true))
 
 identical-requires : tie.Need-identical-requires
-identical-requires c κs = c.before.before.requires
+identical-requires c κs = c.requires
 
-returns-2 : tie.Need-returns-2
-returns-2 c = ap placed_claim (sym (c.before.identical.ensures c.if3.true).1)
+returns-2 : tie.Need-returns-then-identical
+returns-2 c = ap placed_claim (sym (c.identical.ensures c.if-identical.true).1)
 
-smallest-placing-requires : tie.Need-smallest-placing-requires
-smallest-placing-requires c κs = c.before.before.before.before.requires
+smallest-placing-requires : tie.Need-smallest_placing-found-requires
+smallest-placing-requires c κs = c.requires
 
-returns-3 : tie.Need-returns-3
+returns-3 : tie.Need-returns-then-found
 returns-3 c =
-    let f = c.before in
-    let a = f.before.before.before.before.before.args in
-    found-claim a.sheet a.filled f.smallest-placing.result true f.smallest-placing.ensures c.if4.true
+    let f = c in
+    let a = f.args in
+    found-claim a.sheet a.filled f.smallest_placing-found.result true f.smallest_placing-found.ensures c.if-found.true
 
-returns-4 : tie.Need-returns-4
+returns-4 : tie.Need-returns
 returns-4 c =
-    let f = c.before in
-    let a = f.before.before.before.before.before.args in
-    found-claim a.sheet a.filled f.smallest-placing.result false f.smallest-placing.ensures c.if4.false
+    let f = c in
+    let a = f.args in
+    found-claim a.sheet a.filled f.smallest_placing-found.result false f.smallest_placing-found.ensures c.if-found.false
 
-pub claim-filled-spec : {M : Type 1} → statement M
-claim-filled-spec = tie.close (tie.spec returns identical-requires returns-2 smallest-placing-requires returns-3 returns-4)
+pub claim_filled_spec : {M : Type 1} → statement M
+claim_filled_spec = tie.close (tie.spec returns identical-requires returns-2 smallest-placing-requires returns-3 returns-4)

@@ -6,62 +6,60 @@ use Rattle.comparing.proofs.Comparing.{first-refused, second-refused, ready_read
 use Rattle.comparing.proofs.compare.compare.Statement.{statement}
 use Rattle.comparing.proofs.compare.compare.Tie as tie
 
-read-sheet-requires : tie.Need-read-sheet-requires
+read-sheet-requires : tie.Need-read_sheet-first-requires
 read-sheet-requires c κs = search rules
 
-enum-known-one : tie.Need-enum-known-one
+enum-known-one : tie.Need-enum_known-one
 enum-known-one c = search rules
 
-enum_told : tie.Need-enum-told
+enum_told : tie.Need-enum_told-1
 enum_told c = search rules
 
-read-sheet-requires-2 : tie.Need-read-sheet-requires-2
+read-sheet-requires-2 : tie.Need-read_sheet-second-requires
 read-sheet-requires-2 c κs = search rules
 
-enum-known-two : tie.Need-enum-known-two
+enum-known-two : tie.Need-enum_known-two
 enum-known-two c = search rules
 
-enum-told-2 : tie.Need-enum-told-2
+enum-told-2 : tie.Need-enum_told-in-Passed-two
 enum-told-2 c = search rules
 
-compare-normals-requires : tie.Need-compare-normals-requires
+compare-normals-requires : tie.Need-compare_normals-requires
 compare-normals-requires c κs =
-    let t = c.before.before.before.before in
-    let r = t.before.before.before in
-    let a = r.before.before.before.args in
-    ready_read a.a.now a.b.now r.read-sheet.result.normal t.read-sheet2.result.normal
-    (ap (λ (x : Reading). x.normal) r.read-sheet.ensures) (ap (λ (x : Reading). x.normal) t.read-sheet2.ensures)
+    let t = c in
+    let r = t in
+    let a = r.args in
+    ready_read a.a.now a.b.now r.read_sheet-first.result.normal t.read_sheet-second.result.normal
+    (ap (λ (x : Reading). x.normal) r.read_sheet-first.ensures) (ap (λ (x : Reading). x.normal) t.read_sheet-second.ensures)
 
-returns : tie.Need-returns
+returns : tie.Need-returns-in-Refused
 returns c =
-    let r = c.before.before.before in
-    let a = r.before.before.before.args in
-    let given = c.before.one.given in
-    first-refused a.a.now a.b.now given.0.0 given.0.1.0 (sym (ap (λ (x : Reading). x.answer) r.read-sheet.ensures) ∙ given.1)
+    let r = c in
+    let a = r.args in
+    first-refused a.a.now a.b.now c.in-Refused.why c.in-Refused.row (sym (ap (λ (x : Reading). x.answer) r.read_sheet-first.ensures) ∙ c.in-Refused.is)
 
-returns-2 : tie.Need-returns-2
+returns-2 : tie.Need-returns-in-Refused-two
 returns-2 c =
-    let t = c.before.before.before in
-    let r = t.before.before.before in
-    let a = r.before.before.before.args in
-    let given = c.before.two.given in
-    second-refused a.a.now a.b.now given.0.0 given.0.1.0
-    (sym (ap (λ (x : Reading). x.answer) r.read-sheet.ensures) ∙ t.before.enum_told.given.1) (sym (ap (λ (x : Reading). x.answer) t.read-sheet2.ensures) ∙ given.1)
+    let t = c in
+    let r = t in
+    let a = r.args in
+    second-refused a.a.now a.b.now c.in-Refused-two.why c.in-Refused-two.row
+    (sym (ap (λ (x : Reading). x.answer) r.read_sheet-first.ensures) ∙ t.in-Passed.is) (sym (ap (λ (x : Reading). x.answer) t.read_sheet-second.ensures) ∙ c.in-Refused-two.is)
 
-returns-3 : tie.Need-returns-3
+returns-3 : tie.Need-returns-in-Passed-two
 returns-3 c =
-    let x = c.before in
-    let t = x.before.before.before.before in
-    let r = t.before.before.before in
-    let a = r.before.before.before.args in
-    c.compare-normals.ensures
-    ∙ both-passed a.a.now a.b.now r.read-sheet.result.normal t.read-sheet2.result.normal
-    (ap (λ (x : Reading). x.normal) r.read-sheet.ensures) (ap (λ (x : Reading). x.normal) t.read-sheet2.ensures)
-    (sym (ap (λ (x : Reading). x.answer) r.read-sheet.ensures) ∙ t.before.enum_told.given.1)
-    (sym (ap (λ (x : Reading). x.answer) t.read-sheet2.ensures) ∙ x.before.before.enum-told2.given.1)
+    let x = c in
+    let t = c in
+    let r = c in
+    let a = r.args in
+    c.compare_normals.ensures
+    ∙ both-passed a.a.now a.b.now r.read_sheet-first.result.normal t.read_sheet-second.result.normal
+    (ap (λ (x : Reading). x.normal) r.read_sheet-first.ensures) (ap (λ (x : Reading). x.normal) t.read_sheet-second.ensures)
+    (sym (ap (λ (x : Reading). x.answer) r.read_sheet-first.ensures) ∙ t.in-Passed.is)
+    (sym (ap (λ (x : Reading). x.answer) t.read_sheet-second.ensures) ∙ x.in-Passed-two.is)
 
-pub compare-spec : {M : Type 1} → statement M
-compare-spec =
+pub compare_spec : {M : Type 1} → statement M
+compare_spec =
     tie.close
     (tie.spec
     read-sheet-requires

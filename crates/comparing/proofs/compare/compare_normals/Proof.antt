@@ -14,21 +14,21 @@ use Rattle.comparing.proofs.compare.compare_normals.Tie as tie
 identical-requires : tie.Need-identical-requires
 identical-requires c κs = search rules
 
-returns : tie.Need-returns
-returns c = ap (λ (o : Option Placing). pick (is_placed o) Same Differs) (sym (c.before.identical.ensures c.if1.true).1)
+returns : tie.Need-returns-then-identical
+returns c = ap (λ (o : Option Placing). pick (is_placed o) Same Differs) (sym (c.identical.ensures c.if-identical.true).1)
 
-smallest-placing-requires : tie.Need-smallest-placing-requires
+smallest-placing-requires : tie.Need-smallest_placing-found-requires
 smallest-placing-requires c κs = search rules
 
-returns-2 : tie.Need-returns-2
+returns-2 : tie.Need-returns-then-found
 returns-2 c =
-    let a = c.before.before.before.before.args in
-    compared-by a.sheet a.other c.before.smallest-placing.result true c.before.smallest-placing.ensures c.if2.true
+    let a = c.args in
+    compared-by a.sheet a.other c.smallest_placing-found.result true c.smallest_placing-found.ensures c.if-found.true
 
-returns-3 : tie.Need-returns-3
+returns-3 : tie.Need-returns
 returns-3 c =
-    let a = c.before.before.before.before.args in
-    compared-by a.sheet a.other c.before.smallest-placing.result false c.before.smallest-placing.ensures c.if2.false
+    let a = c.args in
+    compared-by a.sheet a.other c.smallest_placing-found.result false c.smallest_placing-found.ensures c.if-found.false
 
-pub compare-normals-spec : {M : Type 1} → statement M
-compare-normals-spec = tie.close (tie.spec identical-requires returns smallest-placing-requires returns-2 returns-3)
+pub compare_normals_spec : {M : Type 1} → statement M
+compare_normals_spec = tie.close (tie.spec identical-requires returns smallest-placing-requires returns-2 returns-3)

@@ -6,38 +6,38 @@ use borrow.Author.Tests.{lt-ltb, le-ltb}
 use Rattle.listing.proofs.ports.stands_on.Statement.{statement}
 use Rattle.listing.proofs.ports.stands_on.Tie as tie
 
-sub-i : tie.Need-overflow-sub-i
+sub-i : tie.Need-overflow_sub-i
 sub-i c = search rules
 
-mul-if1 : tie.Need-overflow-mul-if1
+mul-if1 : tie.Need-offset_bounds-links_to-i
 mul-if1 c = search rules
 
-shared-slice-read-if1 : tie.Need-shared-slice-read-if1
+shared-slice-read-if1 : tie.Need-bounds-links_to-i
 shared-slice-read-if1 c = search rules
 
-cast-if1 : tie.Need-overflow-cast-if1
-cast-if1 c = omega (arith, c.shared-slice-known.given (c.before.args.x - 1))
+cast-if1 : tie.Need-overflow_cast-links_to
+cast-if1 c = omega (arith, c.shared_slice_known-1.given (c.args.x - 1))
 
-cast-result : tie.Need-overflow-cast-result
+cast-result : tie.Need-overflow_cast-result
 cast-result c = search rules
 
-add-result : tie.Need-overflow-add-result
+add-result : tie.Need-overflow_add-result
 add-result c = search rules
 
-returns : tie.Need-returns
-returns c = rw (lt-ltb _ _ c.if1.true)
+returns : tie.Need-returns-then-links_to-i
+returns c = rw (lt-ltb _ _ c.if-links_to-i.true)
 
-mul-result : tie.Need-overflow-mul-result
+mul-result : tie.Need-offset_bounds-links_to-i-2
 mul-result c = search rules
 
-shared-slice-read-result : tie.Need-shared-slice-read-result
+shared-slice-read-result : tie.Need-bounds-links_to-i-2
 shared-slice-read-result c = search rules
 
-returns-2 : tie.Need-returns-2
-returns-2 c = rw (le-ltb _ _ c.before.if1.false)
+returns-2 : tie.Need-returns
+returns-2 c = rw (le-ltb _ _ c.if-links_to-i.false)
 
-pub stands-on-spec : {M : Type 1} → statement M
-stands-on-spec =
+pub stands_on_spec : {M : Type 1} → statement M
+stands_on_spec =
     tie.close
     (tie.spec
     sub-i

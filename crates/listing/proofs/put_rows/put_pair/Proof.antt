@@ -7,22 +7,22 @@ use Rattle.normalising.proofs.normal_text.NormalRows.{two-narrow}
 use Rattle.listing.proofs.put_rows.put_pair.Statement.{statement}
 use Rattle.listing.proofs.put_rows.put_pair.Tie as tie
 
-array-write-nums : tie.Need-array-write-nums
+array-write-nums : tie.Need-bounds-nums-0
 array-write-nums c = search rules
 
-array-write-nums-2 : tie.Need-array-write-nums-2
+array-write-nums-2 : tie.Need-bounds-nums-1
 array-write-nums-2 c = search rules
 
-put-row-requires : tie.Need-put-row-requires
-put-row-requires c κs = let s = c.before.before in
+put-row-requires : tie.Need-put_row-requires
+put-row-requires c κs = let s = c in
     (search rules, (omega arith, two-narrow s.args.first s.args.second (replicate most_links 0) s.requires.1.0 s.requires.1.1))
 
-same_length : tie.Need-same-length
+same_length : tie.Need-shape_of-out
 same_length c = search rules
 
 returns : tie.Need-returns
 returns c = search rules
 
-pub put-pair-spec : {M : Type 1} → statement M
-put-pair-spec =
+pub put_pair_spec : {M : Type 1} → statement M
+put_pair_spec =
     tie.close (tie.spec array-write-nums array-write-nums-2 put-row-requires same_length returns)

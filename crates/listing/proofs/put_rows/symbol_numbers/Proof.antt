@@ -13,77 +13,77 @@ use Rattle.listing.proofs.Steps.{links-next, links-few, number_put, number-later
 use Rattle.listing.proofs.put_rows.symbol_numbers.Statement.{statement}
 use Rattle.listing.proofs.put_rows.symbol_numbers.Tie as tie
 
-abbrev invariant-loop : tie.invariant-loop
+abbrev invariant-loop : tie.invariant-loop-k
 invariant-loop numbers₀ numbered₀ name count links nums₀ k₀ numbers numbered nums k = (k ≤ count) × (length links ≡ most_links) × (numbering numbers numbered ≡ with_classes (numbering numbers₀ numbered₀) (take k links))
     × ((later : List ℕ) → nums ≡ padded field_count 0 (name ∷ count ∷ map (number_in (with_classes (numbering numbers numbered) later).numbers) (take k links)))
 
-abbrev decreases-loop : tie.decreases-loop
+abbrev decreases-loop : tie.decreases-loop-k
 decreases-loop numbers₀ numbered₀ name count links nums₀ k₀ numbers numbered nums k = count - k
 
-array-write-nums : tie.Need-array-write-nums invariant-loop decreases-loop
+array-write-nums : tie.Need-bounds-nums-0 invariant-loop decreases-loop
 array-write-nums c = search rules
 
-array-write-nums-2 : tie.Need-array-write-nums-2 invariant-loop decreases-loop
+array-write-nums-2 : tie.Need-bounds-nums-1 invariant-loop decreases-loop
 array-write-nums-2 c = search rules
 
-loop-holds : tie.Need-loop-init invariant-loop decreases-loop
+loop-holds : tie.Need-loop-k-init invariant-loop decreases-loop
 unfolding padded with_classes
 loop-holds c = (search rules, search rules, refl, λ later. refl)
 
-mul-number-class : tie.Need-overflow-mul-number-class invariant-loop decreases-loop
+mul-number-class : tie.Need-offset_bounds-links-k invariant-loop decreases-loop
 mul-number-class c = search rules
 
-array-read-number-class : tie.Need-array-read-number-class invariant-loop decreases-loop
+array-read-number-class : tie.Need-bounds-links-k invariant-loop decreases-loop
 array-read-number-class c = search rules
 
-cast-number-class : tie.Need-overflow-cast-number-class invariant-loop decreases-loop
+cast-number-class : tie.Need-overflow_cast-links invariant-loop decreases-loop
 cast-number-class c = search rules
 
-number-class-requires : tie.Need-number-class-requires invariant-loop decreases-loop
-number-class-requires c κs = let l = c.before.before.before in
-    let s = l.before in
+number-class-requires : tie.Need-number_class-requires invariant-loop decreases-loop
+number-class-requires c κs = let l = c in
+    let s = l in
     let a = s.args in
-    let v = l.loop in
-    (s.requires.2 v.k (omega arith), omega (arith, s.requires.1, links-few (numbering a.numbers.now a.numbered.now) (numbering v.numbers v.numbered) a.t5 v.k v.invariant.2))
+    let v = l.loop-k in
+    (s.requires.2 v.k (omega arith), omega (arith, s.requires.1, links-few (numbering a.numbers.now a.numbered.now) (numbering v.numbers v.numbered) a.links v.k v.invariant.2))
 
-add-nums : tie.Need-overflow-add-nums invariant-loop decreases-loop
+add-nums : tie.Need-overflow_add-nums invariant-loop decreases-loop
 add-nums c = search rules
 
-mul-nums : tie.Need-overflow-mul-nums invariant-loop decreases-loop
+mul-nums : tie.Need-offset_bounds-nums-k invariant-loop decreases-loop
 mul-nums c = search rules
 
-array-write-nums-3 : tie.Need-array-write-nums-3 invariant-loop decreases-loop
+array-write-nums-3 : tie.Need-bounds-nums-k invariant-loop decreases-loop
 array-write-nums-3 c = search rules
 
-add-k : tie.Need-overflow-add-k invariant-loop decreases-loop
+add-k : tie.Need-overflow_add-k invariant-loop decreases-loop
 add-k c = search rules
 
-loop-less : tie.Need-loop-smaller invariant-loop decreases-loop
+loop-less : tie.Need-loop-k-smaller invariant-loop decreases-loop
 loop-less c = search rules
 
-loop-again : tie.Need-loop-preserved invariant-loop decreases-loop
-loop-again c = let l = c.before.before.before.before in
-    let s = l.before in
+loop-again : tie.Need-loop-k-preserved invariant-loop decreases-loop
+loop-again c = let l = c in
+    let s = l in
     let a = s.args in
-    let v = l.loop in
-    let g = c.number-class in
+    let v = l.loop-k in
+    let g = c.number_class in
     let n = numbering v.numbers v.numbered in
-    let m = numbering g.new.0 g.new.1.0 in
-    let x = get_or a.t5 v.k 0 in (
+    let m = numbering g.new.numbers g.new.count in
+    let x = get_or a.links v.k 0 in (
       omega arith,
       v.invariant.1,
-      g.ensures.0 ∙ links-next (numbering a.numbers.now a.numbered.now) n a.t5 v.k (omega arith) v.invariant.2,
+      g.ensures.0 ∙ links-next (numbering a.numbers.now a.numbered.now) n a.links v.k (omega arith) v.invariant.2,
       λ later. rw (number_put n m x g.ensures.0 later g.result g.ensures.1)
-          (numbers-next field_count (number_in (with_classes m later).numbers) (a.name ∷ a.count ∷ []) a.t5 v.nums v.k (v.k + 2) (omega arith) (rw (number-later n m x g.ensures.0 later) at (v.invariant.3 (x ∷ later))) (omega arith) (omega (arith, s.requires.0))),
+          (numbers-next field_count (number_in (with_classes m later).numbers) (a.name ∷ a.count ∷ []) a.links v.nums v.k (v.k + 2) (omega arith) (rw (number-later n m x g.ensures.0 later) at (v.invariant.3 (x ∷ later))) (omega arith) (omega (arith, s.requires.0))),
     )
 
 returns : tie.Need-returns invariant-loop decreases-loop
-returns c = let v = c.before.loop in
-    let e : v.k ≡ c.before.before.args.count = omega arith in
+returns c = let v = c.loop-k in
+    let e : v.k ≡ c.args.count = omega arith in
     (rw e at v.invariant.2, λ later. rw e at (v.invariant.3 later))
 
-pub symbol-numbers-spec : {M : Type 1} → statement M
-symbol-numbers-spec =
+pub symbol_numbers_spec : {M : Type 1} → statement M
+symbol_numbers_spec =
     tie.close
     (tie.spec
     invariant-loop

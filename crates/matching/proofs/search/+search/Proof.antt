@@ -53,10 +53,10 @@ search-at t = and 3 search-kinds.ps (is 3 search-kinds.ps μ-search t) search'.P
 abbrev search-below : ℕ → In 3 search-kinds.ps
 search-below t = and 3 search-kinds.ps (falls 3 search-kinds.ps ◌<◌ μ-search t) search'.Pre
 
-abbrev invariant-loop : search-lts.invariant-loop
+abbrev invariant-loop : search-lts.invariant-loop-t
 invariant-loop state uses owns kin atoms links laid parts lost₀ gone₀ n m placed k failed₀ work₀ t₀ lost gone failed work t = Tries (sheet_of state laid) (figure_of state parts) (take k placed) failed work t
 
-abbrev decreases-loop : search-lts.decreases-loop
+abbrev decreases-loop : search-lts.decreases-loop-t
 decreases-loop state uses owns kin atoms links laid parts lost₀ gone₀ n m placed k failed₀ work₀ t₀ lost gone failed work t = n - t
 
 abbrev claims : ℕ → search-lts.Claims
@@ -90,159 +90,159 @@ module _ (n : ℕ) where
   figure-of b = figure_of b.args.state b.args.parts.now
 
   -- what is placed where the search begins to try
-  onward : (d : search-lts.After-advance (claims n) (search-at n) search'.Post invariant-loop decreases-loop)
-      → let b = d.before.before.before.before in Onward (sheet-of b) (figure-of b) b.args.atoms.now b.args.links.now b.args.state.placed b.args.state.chosen d.advance.result d.advance.new.1.0
-  onward d = let b = d.before.before.before.before in d.advance.ensures.onward (sheet-of b) (figure-of b) b.args.links.now b.requires.1.lends.ready refl refl b.requires.1.atoms-in b.requires.1.kept.keeps
+  onward : (d : search-lts.After-advance-k (claims n) (search-at n) search'.Post invariant-loop decreases-loop)
+      → let b = d.before.before.before.before in Onward (sheet-of b) (figure-of b) b.args.atoms.now b.args.links.now b.args.state.placed b.args.state.chosen d.advance-k.result d.advance-k.new.chosen
+  onward d = let b = d in d.advance-k.ensures.onward (sheet-of b.before.before.before.before) (figure-of b.before.before.before.before) b.args.links.now b.requires.1.lends.ready refl refl b.requires.1.atoms-in b.requires.1.kept.keeps
 
   -- some figure atom is left
-  unfinished : (c : search-lts.Else2 (claims n) (search-at n) search'.Post invariant-loop decreases-loop) → c.before.advance.result < c.before.before.before.before.before.args.state.figure.atom_count
-  unfinished c = omega (arith, c.before.advance.ensures.within, c.if2.false)
+  unfinished : (c : search-lts.Else-k-m (claims n) (search-at n) search'.Post invariant-loop decreases-loop) → c.advance-k.result < c.args.state.figure.atom_count
+  unfinished c = omega (arith, c.advance-k.ensures.within, c.if-k-m.false)
 
   nothing-requires : search-lts.Need-nothing-requires (claims n) (search-at n) search'.Post invariant-loop decreases-loop
   nothing-requires c κs = search rules
 
-  returns : search-lts.Need-returns (claims n) (search-at n) search'.Post invariant-loop decreases-loop
+  returns : search-lts.Need-returns-then-state (claims n) (search-at n) search'.Post invariant-loop decreases-loop
   returns c =
-      let b = c.before.before in
-      nothing-begun (sheet-of b) (figure-of b) b.requires.1.lends.ready b.args.state.chosen b.args.state.placed b.requires.1.within b.requires.1.atoms-in (b.requires.1.kept.none c.before.if1.true) c.nothing.result c.nothing.ensures
+      let b = c in
+      nothing-begun (sheet-of b.before.before) (figure-of b.before.before) b.requires.1.lends.ready b.args.state.chosen b.args.state.placed b.requires.1.within b.requires.1.atoms-in (b.requires.1.kept.none c.if-state.true) c.nothing.result c.nothing.ensures
 
-  advance-requires : search-lts.Need-advance-requires (claims n) (search-at n) search'.Post invariant-loop decreases-loop
+  advance-requires : search-lts.Need-advance-k-requires (claims n) (search-at n) search'.Post invariant-loop decreases-loop
   advance-requires c κs =
-      let b = c.before.before.before in (b.requires.1.within, b.requires.1.lends.ready.figure-fit.atom-count, b.requires.1.lends.ready.sheet-fit.atom-count)
+      let b = c in (b.requires.1.within, b.requires.1.lends.ready.figure-fit.atom-count, b.requires.1.lends.ready.sheet-fit.atom-count)
 
   leaf-requires : search-lts.Need-leaf-requires (claims n) (search-at n) search'.Post invariant-loop decreases-loop
   leaf-requires c κs =
-      let d = c.before in
-      let b = d.before.before.before.before in
-      (b.requires.1.lends.ready, subst (λ (i : ℕ). AtomsIn (sheet-of b) i d.advance.new.1.0) c.if2.true (onward d).atoms-in, b.requires.1.lends.sheet-laid, b.requires.1.lends.figure-laid)
+      let d = c in
+      let b = d in
+      (b.requires.1.lends.ready, subst (λ (i : ℕ). AtomsIn (sheet-of b.before.before.before.before.before.before.before) i d.advance-k.new.chosen) c.if-k-m.true (onward d.before.before.before).atoms-in, b.requires.1.lends.sheet-laid, b.requires.1.lends.figure-laid)
 
-  returns-2 : search-lts.Need-returns-2 (claims n) (search-at n) search'.Post invariant-loop decreases-loop
+  returns-2 : search-lts.Need-returns-then-k-m (claims n) (search-at n) search'.Post invariant-loop decreases-loop
   returns-2 c =
-      let d = c.before.before in
-      let b = d.before.before.before.before in
-      c.leaf.ensures ∙ ap (λ (i : ℕ). search_from (net_in (sheet-of b)) (net_in (figure-of b)) (take i d.advance.new.1.0)) (sym c.before.if2.true) ∙ (onward d).same
+      let d = c in
+      let b = d in
+      c.leaf.ensures ∙ ap (λ (i : ℕ). search_from (net_in (sheet-of b.before.before.before.before.before.before.before.before)) (net_in (figure-of b.before.before.before.before.before.before.before.before)) (take i d.advance-k.new.chosen)) (sym c.if-k-m.true) ∙ (onward d.before.before.before.before).same
 
-  next-from-requires : search-lts.Need-next-from-requires (claims n) (search-at n) search'.Post invariant-loop decreases-loop
+  next-from-requires : search-lts.Need-next_from-t-requires (claims n) (search-at n) search'.Post invariant-loop decreases-loop
   next-from-requires c κs =
-      let b = c.before.before.before.before.before in
+      let b = c in
       (omega (arith, unfinished c, b.requires.1.lends.ready.figure-fit.atom-count), omega (arith, unfinished c, b.requires.1.lends.ready.figure-fit.atom-count))
 
-  loop-holds : search-lts.Need-loop-init (claims n) (search-at n) search'.Post invariant-loop decreases-loop
+  loop-holds : search-lts.Need-loop-t-init (claims n) (search-at n) search'.Post invariant-loop decreases-loop
   loop-holds c =
-      let d = c.before.before in
-      let b = d.before.before.before.before in
-      let f = c.next-from in
-      tries-skip (sheet-of b) (figure-of b) b.requires.1.lends.ready d.advance.new.1.0 d.advance.result d.advance.ensures.within (onward d).atoms-in (unfinished c.before) _ _ 0
-      (tries-start (sheet-of b) (figure-of b) b.requires.1.lends.ready d.advance.new.1.0 d.advance.result d.advance.ensures.within (onward d).atoms-in (unfinished c.before) _ refl)
-      b.args.atoms.now b.args.links.now (onward d).keeps f.result f.ensures.after (λ v h q. inr (f.ensures.passed v h q))
+      let d = c in
+      let b = d in
+      let f = c.next_from-t in
+      tries-skip (sheet-of b.before.before.before.before.before.before) (figure-of b.before.before.before.before.before.before) b.requires.1.lends.ready d.advance-k.new.chosen d.advance-k.result d.advance-k.ensures.within (onward d.before.before).atoms-in (unfinished c.before) _ _ 0
+      (tries-start (sheet-of b.before.before.before.before.before.before) (figure-of b.before.before.before.before.before.before) b.requires.1.lends.ready d.advance-k.new.chosen d.advance-k.result d.advance-k.ensures.within (onward d.before.before).atoms-in (unfinished c.before) _ refl)
+      b.args.atoms.now b.args.links.now (onward d.before.before).keeps f.result f.ensures.after (λ v h q. inr (f.ensures.passed v h q))
 
-  array-read-if3 : search-lts.Need-array-read-if3 (claims n) (search-at n) search'.Post invariant-loop decreases-loop
+  array-read-if3 : search-lts.Need-bounds-failed-t (claims n) (search-at n) search'.Post invariant-loop decreases-loop
   array-read-if3 c =
-      let l = c.before in
-      let d = l.before.before.before in
-      let b = d.before.before.before.before in
-      omega (arith, c.loop-test.true, b.requires.1.lends.ready.sheet-fit.atom-count)
+      let l = c in
+      let d = l in
+      let b = d in
+      omega (arith, c.loop-t-test.true, b.requires.1.lends.ready.sheet-fit.atom-count)
 
-  try-atom-requires : search-lts.Need-try-atom-requires (claims n) (search-at n) search'.Post invariant-loop decreases-loop
+  try-atom-requires : search-lts.Need-try_atom-none-requires (claims n) (search-at n) search'.Post invariant-loop decreases-loop
   try-atom-requires c κs =
-      let l = c.before.before.before.before.before.before.before.before in
-      let d = l.before.before.before in
-      let b = d.before.before.before.before in
-      (b.requires.1.lends, unfinished l.before.before, c.before.before.before.before.before.before.before.loop-test.true)
+      let l = c in
+      let d = l in
+      let b = d in
+      (b.requires.1.lends, unfinished l.before.before.before.before.before.before.before.before.before.before, c.loop-t-test.true)
 
-  with-atom-requires : search-lts.Need-with-atom-requires (claims n) (search-at n) search'.Post invariant-loop decreases-loop
+  with-atom-requires : search-lts.Need-with_atom-next-requires (claims n) (search-at n) search'.Post invariant-loop decreases-loop
   with-atom-requires c κs =
-      let l = c.before.before.before.before.before.before.before.before.before in
-      let d = l.before.before.before in
-      let b = d.before.before.before.before in
-      (omega (arith, unfinished l.before.before, b.requires.1.lends.ready.figure-fit.atom-count), omega (arith, c.before.before.before.before.before.before.before.before.loop-test.true, b.requires.1.lends.ready.sheet-fit.atom-count))
+      let l = c in
+      let d = l in
+      let b = d in
+      (omega (arith, unfinished l.before.before.before.before.before.before.before.before.before.before.before, b.requires.1.lends.ready.figure-fit.atom-count), omega (arith, c.loop-t-test.true, b.requires.1.lends.ready.sheet-fit.atom-count))
 
-  search-requires : search-lts.Need-search-requires (claims n) (search-at n) search'.Post invariant-loop decreases-loop
+  search-requires : search-lts.Need-search-r-requires (claims n) (search-at n) search'.Post invariant-loop decreases-loop
   search-requires c κs =
-      let l = c.before.before.before.before.before.before.before.before.before.before.before.before.before.before in
-      let d = l.before.before.before in
-      let b = d.before.before.before.before in
-      let u = unfinished l.before.before in
-      let h = c.before.before.before.before.before.before.before.before.before.before.before.before.before.loop-test.true in
-      let w = c.before.before.before.before.before.try-atom in
-      let next = c.before.before.before.before.with-atom.ensures in
-      let e = next-begin (sheet-of b) (figure-of b) b.requires.1.lends.ready d.advance.new.1.0 d.advance.result d.advance.ensures.within (onward d).atoms-in u l.loop.failed l.loop.work l.loop.t l.loop.invariant h in (
-        omega (arith, b.requires.0, u, d.advance.ensures.after, ap (λ (s : State). s.figure.atom_count) next, ap (λ (s : State). s.placed) next),
-        subst (λ (s : State). Stands s b.args.uses.now b.args.owns.now b.args.kin.now w.new.1.1.1.1.1.1.1.1.1.0 w.new.1.1.1.1.1.1.1.1.1.1.0 b.args.laid.now b.args.parts.now) (sym next) (record {
+      let l = c in
+      let d = l in
+      let b = d in
+      let u = unfinished l.before.before.before.before.before.before.before.before.before.before.before.before.before.before.before.before in
+      let h = c.loop-t-test.true in
+      let w = c.try_atom-none in
+      let next = c.with_atom-next.ensures in
+      let e = next-begin (sheet-of b.before.before.before.before.before.before.before.before.before.before.before.before.before.before.before.before.before.before.before.before.before) (figure-of b.before.before.before.before.before.before.before.before.before.before.before.before.before.before.before.before.before.before.before.before.before) b.requires.1.lends.ready d.advance-k.new.chosen d.advance-k.result d.advance-k.ensures.within (onward d.before.before.before.before.before.before.before.before.before.before.before.before.before.before.before.before.before).atoms-in u l.loop-t.failed l.loop-t.work l.loop-t.t l.loop-t.invariant h in (
+        omega (arith, b.requires.0, u, d.advance-k.ensures.after, ap (λ (s : State). s.figure.atom_count) next, ap (λ (s : State). s.placed) next),
+        subst (λ (s : State). Stands s b.args.uses.now b.args.owns.now b.args.kin.now w.new.atoms w.new.links b.args.laid.now b.args.parts.now) (sym next) (record {
           lends = b.requires.1.lends;
           within = omega (arith, u);
-          atoms-in = next-atoms (sheet-of b) (figure-of b) b.requires.1.lends.ready d.advance.new.1.0 d.advance.result d.advance.ensures.within (onward d).atoms-in u l.loop.failed l.loop.work l.loop.t l.loop.invariant h;
-          kept = subst (λ (m : List ℕ). Kept (sheet-of b) (figure-of b) m w.new.1.1.1.1.1.1.1.1.1.0 w.new.1.1.1.1.1.1.1.1.1.1.0 w.result) (sym e)
-              (sent-kept (sheet-of b) (figure-of b) (take d.advance.result d.advance.new.1.0) _ _ (pre-length (sheet-of b) (figure-of b) b.requires.1.lends.ready d.advance.new.1.0 d.advance.result d.advance.ensures.within (onward d).atoms-in) b.args.atoms.now b.args.links.now _ _ w.result (onward d).keeps w.ensures);
+          atoms-in = next-atoms (sheet-of b.before.before.before.before.before.before.before.before.before.before.before.before.before.before.before.before.before.before.before.before.before) (figure-of b.before.before.before.before.before.before.before.before.before.before.before.before.before.before.before.before.before.before.before.before.before) b.requires.1.lends.ready d.advance-k.new.chosen d.advance-k.result d.advance-k.ensures.within (onward d.before.before.before.before.before.before.before.before.before.before.before.before.before.before.before.before.before).atoms-in u l.loop-t.failed l.loop-t.work l.loop-t.t l.loop-t.invariant h;
+          kept = subst (λ (m : List ℕ). Kept (sheet-of b.before.before.before.before.before.before.before.before.before.before.before.before.before.before.before.before.before.before.before.before.before) (figure-of b.before.before.before.before.before.before.before.before.before.before.before.before.before.before.before.before.before.before.before.before.before) m w.new.atoms w.new.links w.result) (sym e)
+              (sent-kept (sheet-of b.before.before.before.before.before.before.before.before.before.before.before.before.before.before.before.before.before.before.before.before.before) (figure-of b.before.before.before.before.before.before.before.before.before.before.before.before.before.before.before.before.before.before.before.before.before) (take d.advance-k.result d.advance-k.new.chosen) _ _ (pre-length (sheet-of b.before.before.before.before.before.before.before.before.before.before.before.before.before.before.before.before.before.before.before.before.before) (figure-of b.before.before.before.before.before.before.before.before.before.before.before.before.before.before.before.before.before.before.before.before.before) b.requires.1.lends.ready d.advance-k.new.chosen d.advance-k.result d.advance-k.ensures.within (onward d.before.before.before.before.before.before.before.before.before.before.before.before.before.before.before.before.before).atoms-in) b.args.atoms.now b.args.links.now _ _ w.result (onward d.before.before.before.before.before.before.before.before.before.before.before.before.before.before.before.before.before).keeps w.ensures);
         }),
       )
 
-  returns-3 : search-lts.Need-returns-3 (claims n) (search-at n) search'.Post invariant-loop decreases-loop
+  returns-3 : search-lts.Need-returns-then-r (claims n) (search-at n) search'.Post invariant-loop decreases-loop
   returns-3 c =
-      let l = c.before.before.before.before.before.before.before.before.before.before.before.before.before.before.before.before in
-      let d = l.before.before.before in
-      let b = d.before.before.before.before in
-      tries-hit (sheet-of b) (figure-of b) b.requires.1.lends.ready d.advance.new.1.0 d.advance.result d.advance.ensures.within (onward d).atoms-in (unfinished l.before.before) l.loop.failed l.loop.work l.loop.t l.loop.invariant c.before.before.before.before.before.before.before.before.before.before.before.before.before.before.before.loop-test.true c.before.search.result
-      (moved _ _ b.args.laid.now b.args.parts.now c.before.search.result c.before.before.before.before.before.before.with-atom.ensures c.before.search.ensures) c.if4.true ∙ (onward d).same
+      let l = c in
+      let d = l in
+      let b = d in
+      tries-hit (sheet-of b.before.before.before.before.before.before.before.before.before.before.before.before.before.before.before.before.before.before.before.before.before.before.before) (figure-of b.before.before.before.before.before.before.before.before.before.before.before.before.before.before.before.before.before.before.before.before.before.before.before) b.requires.1.lends.ready d.advance-k.new.chosen d.advance-k.result d.advance-k.ensures.within (onward d.before.before.before.before.before.before.before.before.before.before.before.before.before.before.before.before.before.before.before).atoms-in (unfinished l.before.before.before.before.before.before.before.before.before.before.before.before.before.before.before.before.before.before) l.loop-t.failed l.loop-t.work l.loop-t.t l.loop-t.invariant c.loop-t-test.true c.search-r.result
+      (moved _ _ b.args.laid.now b.args.parts.now c.search-r.result c.with_atom-next.ensures c.search-r.ensures) c.if-r.true ∙ (onward d.before.before.before.before.before.before.before.before.before.before.before.before.before.before.before.before.before.before.before).same
 
-  tally-requires : search-lts.Need-tally-requires (claims n) (search-at n) search'.Post invariant-loop decreases-loop
+  tally-requires : search-lts.Need-tally-cost-requires (claims n) (search-at n) search'.Post invariant-loop decreases-loop
   tally-requires c κs = search rules
 
-  excuse-failed-requires : search-lts.Need-excuse-failed-requires (claims n) (search-at n) search'.Post invariant-loop decreases-loop
+  excuse-failed-requires : search-lts.Need-excuse_failed-requires (claims n) (search-at n) search'.Post invariant-loop decreases-loop
   excuse-failed-requires c κs =
-      let l = c.before.before.before.before.before.before.before.before.before.before.before.before.before.before.before.before.before.before.before in
-      let d = l.before.before.before in
-      let b = d.before.before.before.before in
-      (laid-rowed (sheet-of b) b.args.laid.now _ b.requires.1.lends.sheet-laid, b.requires.1.lends.ready.sheet-fit.mark-count, omega (arith, unfinished l.before.before, b.requires.1.lends.ready.figure-fit.atom-count), c.before.before.before.before.before.before.before.before.before.before.before.before.before.before.before.before.before.before.loop-test.true)
+      let l = c in
+      let d = l in
+      let b = d in
+      (laid-rowed (sheet-of b.before.before.before.before.before.before.before.before.before.before.before.before.before.before.before.before.before.before.before.before.before.before.before.before.before.before.before) b.args.laid.now _ b.requires.1.lends.sheet-laid, b.requires.1.lends.ready.sheet-fit.mark-count, omega (arith, unfinished l.before.before.before.before.before.before.before.before.before.before.before.before.before.before.before.before.before.before.before.before.before.before, b.requires.1.lends.ready.figure-fit.atom-count), c.loop-t-test.true)
 
-  tally-requires-2 : search-lts.Need-tally-requires-2 (claims n) (search-at n) search'.Post invariant-loop decreases-loop
-  tally-requires-2 c κs = c.before.before.before.before.before.before.before.before.before.before.before.before.before.before.before.before.before.before.before.before.loop.invariant.worked
+  tally-requires-2 : search-lts.Need-tally-work-requires (claims n) (search-at n) search'.Post invariant-loop decreases-loop
+  tally-requires-2 c κs = c.loop-t.invariant.worked
 
-  add-next-from : search-lts.Need-overflow-add-next-from (claims n) (search-at n) search'.Post invariant-loop decreases-loop
+  add-next-from : search-lts.Need-overflow_add-t (claims n) (search-at n) search'.Post invariant-loop decreases-loop
   add-next-from c =
-      let l = c.before.before in
-      let d = l.before.before.before in
-      let b = d.before.before.before.before in
-      omega (arith, c.before.loop-test.true, b.requires.1.lends.ready.sheet-fit.atom-count)
+      let l = c in
+      let d = l in
+      let b = d in
+      omega (arith, c.loop-t-test.true, b.requires.1.lends.ready.sheet-fit.atom-count)
 
-  next-from-requires-2 : search-lts.Need-next-from-requires-2 (claims n) (search-at n) search'.Post invariant-loop decreases-loop
+  next-from-requires-2 : search-lts.Need-next_from-t-requires-in-loop-t (claims n) (search-at n) search'.Post invariant-loop decreases-loop
   next-from-requires-2 c κs =
-      let l = c.before.before in
-      let d = l.before.before.before in
-      let b = d.before.before.before.before in
-      (omega (arith, unfinished l.before.before, b.requires.1.lends.ready.figure-fit.atom-count), omega (arith, c.before.loop-test.true, b.requires.1.lends.ready.sheet-fit.atom-count))
+      let l = c in
+      let d = l in
+      let b = d in
+      (omega (arith, unfinished l.before.before.before.before, b.requires.1.lends.ready.figure-fit.atom-count), omega (arith, c.loop-t-test.true, b.requires.1.lends.ready.sheet-fit.atom-count))
 
-  loop-less : search-lts.Need-loop-smaller (claims n) (search-at n) search'.Post invariant-loop decreases-loop
-  loop-less c = omega (arith, c.before.before.loop-test.true, c.next-from2.ensures.after)
+  loop-less : search-lts.Need-loop-t-smaller (claims n) (search-at n) search'.Post invariant-loop decreases-loop
+  loop-less c = omega (arith, c.loop-t-test.true, c.next_from-t-in-loop-t.ensures.after)
 
-  loop-again : search-lts.Need-loop-preserved (claims n) (search-at n) search'.Post invariant-loop decreases-loop
+  loop-again : search-lts.Need-loop-t-preserved (claims n) (search-at n) search'.Post invariant-loop decreases-loop
   loop-again c =
-      let l = c.before.before.before in
-      let d = l.before.before.before in
-      let b = d.before.before.before.before in
-      let u = unfinished l.before.before in
-      let h = c.before.before.loop-test.true in
-      let f = c.next-from2 in
+      let l = c in
+      let d = l in
+      let b = d in
+      let u = unfinished l.before.before.before.before.before in
+      let h = c.loop-t-test.true in
+      let f = c.next_from-t-in-loop-t in
       ⊎_elim
-      (λ w. tries-skip (sheet-of b) (figure-of b) b.requires.1.lends.ready d.advance.new.1.0 d.advance.result d.advance.ensures.within (onward d).atoms-in u c.before.if3.failed c.before.if3.work (l.loop.t + 1)
-      (tries-same w.22 w.23 (tries-miss (sheet-of b) (figure-of b) b.requires.1.lends.ready d.advance.new.1.0 d.advance.result d.advance.ensures.within (onward d).atoms-in u l.loop.failed l.loop.work l.loop.t l.loop.invariant h w.13.result (moved _ _ b.args.laid.now b.args.parts.now w.13.result w.8.ensures w.13.ensures) w.14.left w.18.last.1.1.1.1.1.1.0 (w.18.ensures (sheet-of b) (lent (sheet-of b) b.args.laid.now b.requires.1.lends.sheet-laid)) w.19.result w.19.ensures))
-      b.args.atoms.now b.args.links.now (onward d).keeps f.result f.ensures.after (λ v p q. inr (f.ensures.passed v p q)))
-      (λ w. tries-same w.3 w.4 (tries-skip (sheet-of b) (figure-of b) b.requires.1.lends.ready d.advance.new.1.0 d.advance.result d.advance.ensures.within (onward d).atoms-in u l.loop.failed l.loop.work l.loop.t l.loop.invariant
-      b.args.atoms.now b.args.links.now (onward d).keeps f.result (omega (arith, f.ensures.after)) (skip-failed b.args.atoms.now l.loop.failed d.advance.result l.loop.t f.result w.0.left f.ensures.passed)))
-      c.before.if3.branch
+      (λ w. tries-skip (sheet-of b.before.before.before.before.before.before.before.before.before.before) (figure-of b.before.before.before.before.before.before.before.before.before.before) b.requires.1.lends.ready d.advance-k.new.chosen d.advance-k.result d.advance-k.ensures.within (onward d.before.before.before.before.before.before).atoms-in u c.if-failed-t-ne1.failed c.if-failed-t-ne1.work (l.loop-t.t + 1)
+      (tries-same w.failed-is w.work-is (tries-miss (sheet-of b.before.before.before.before.before.before.before.before.before.before) (figure-of b.before.before.before.before.before.before.before.before.before.before) b.requires.1.lends.ready d.advance-k.new.chosen d.advance-k.result d.advance-k.ensures.within (onward d.before.before.before.before.before.before).atoms-in u l.loop-t.failed l.loop-t.work l.loop-t.t l.loop-t.invariant h w.search-r.result (moved _ _ b.args.laid.now b.args.parts.now w.search-r.result w.with_atom-next.ensures w.search-r.ensures) w.if-r.false w.excuse_failed.new.failed (w.excuse_failed.ensures (sheet-of b.before.before.before.before.before.before.before.before.before.before) (lent (sheet-of b.before.before.before.before.before.before.before.before.before.before) b.args.laid.now b.requires.1.lends.sheet-laid)) w.tally-work.result w.tally-work.ensures))
+      b.args.atoms.now b.args.links.now (onward d.before.before.before.before.before.before).keeps f.result f.ensures.after (λ v p q. inr (f.ensures.passed v p q)))
+      (λ w. tries-same w.failed-is w.work-is (tries-skip (sheet-of b.before.before.before.before.before.before.before.before.before.before) (figure-of b.before.before.before.before.before.before.before.before.before.before) b.requires.1.lends.ready d.advance-k.new.chosen d.advance-k.result d.advance-k.ensures.within (onward d.before.before.before.before.before.before).atoms-in u l.loop-t.failed l.loop-t.work l.loop-t.t l.loop-t.invariant
+      b.args.atoms.now b.args.links.now (onward d.before.before.before.before.before.before).keeps f.result (omega (arith, f.ensures.after)) (skip-failed b.args.atoms.now l.loop-t.failed d.advance-k.result l.loop-t.t f.result w.if-failed-t-ne1.false f.ensures.passed)))
+      c.if-failed-t-ne1.branch-raw
 
   nothing-requires-2 : search-lts.Need-nothing-requires-2 (claims n) (search-at n) search'.Post invariant-loop decreases-loop
   nothing-requires-2 c κs = search rules
 
-  returns-4 : search-lts.Need-returns-4 (claims n) (search-at n) search'.Post invariant-loop decreases-loop
+  returns-4 : search-lts.Need-returns (claims n) (search-at n) search'.Post invariant-loop decreases-loop
   returns-4 c =
-      let l = c.before.before in
-      let d = l.before.before.before in
-      let b = d.before.before.before.before in
-      tries-end (sheet-of b) (figure-of b) b.requires.1.lends.ready d.advance.new.1.0 d.advance.result d.advance.ensures.within (onward d).atoms-in (unfinished l.before.before) l.loop.failed l.loop.work l.loop.t l.loop.invariant (omega arith) c.nothing2.result c.nothing2.ensures ∙ (onward d).same
+      let l = c in
+      let d = l in
+      let b = d in
+      tries-end (sheet-of b.before.before.before.before.before.before.before.before.before) (figure-of b.before.before.before.before.before.before.before.before.before) b.requires.1.lends.ready d.advance-k.new.chosen d.advance-k.result d.advance-k.ensures.within (onward d.before.before.before.before.before).atoms-in (unfinished l.before.before.before.before) l.loop-t.failed l.loop-t.work l.loop-t.t l.loop-t.invariant (omega arith) c.nothing-2.result c.nothing-2.ensures ∙ (onward d.before.before.before.before.before).same
 
-pub +search-spec : {M : Type 1} → statement M
-+search-spec = close μ-search λ n. search-lts.spec (claims n)
+pub +search_spec : {M : Type 1} → statement M
++search_spec = close μ-search λ n. search-lts.spec (claims n)
     (search-at n)
     search'.Post
     invariant-loop

@@ -14,23 +14,23 @@ sheet-of s = whole s.args.sheet s.args.laid.now
 abbrev figure-of : tie.Start → NormalForm
 figure-of s = whole s.args.figure s.args.parts.now
 
-complete-requires : tie.Need-complete-requires
+complete-requires : tie.Need-complete-done-requires
 complete-requires c κs = search rules
 
 nothing-requires : tie.Need-nothing-requires
 nothing-requires c κs = search rules
 
-returns : tie.Need-returns
+returns : tie.Need-returns-then-not-done
 returns c =
-    let b = c.before.before.before.before in
-    let d = c.before.before.before.complete in
-    leaf-none (sheet-of b) (figure-of b) b.args.chosen d.result d.ensures c.nothing.result (not-true _ c.before.if1.true) c.nothing.ensures
+    let b = c in
+    let d = c.complete-done in
+    leaf-none (sheet-of b.before.before.before.before) (figure-of b.before.before.before.before) b.args.chosen d.result d.ensures c.nothing.result (not-true _ c.if-not-done.true) c.nothing.ensures
 
-returns-2 : tie.Need-returns-2
+returns-2 : tie.Need-returns
 returns-2 c =
-    let b = c.before.before.before.before.before in
-    let d = c.before.before.before.before.complete in
-    leaf-found (sheet-of b) (figure-of b) b.args.chosen d.result d.ensures (not-false _ c.before.before.if1.false)
+    let b = c in
+    let d = c.complete-done in
+    leaf-found (sheet-of b.before.before.before.before.before) (figure-of b.before.before.before.before.before) b.args.chosen d.result d.ensures (not-false _ c.if-not-done.false)
 
-pub leaf-spec : {M : Type 1} → statement M
-leaf-spec = tie.close (tie.spec complete-requires nothing-requires returns returns-2)
+pub leaf_spec : {M : Type 1} → statement M
+leaf_spec = tie.close (tie.spec complete-requires nothing-requires returns returns-2)

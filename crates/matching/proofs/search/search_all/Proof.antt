@@ -16,47 +16,47 @@ sheet-of s = whole s.args.sheet s.args.laid.now
 abbrev figure-of : tie.Start → NormalForm
 figure-of s = whole s.args.figure s.args.parts.now
 
-users-of-requires : tie.Need-users-of-requires
-users-of-requires c κs = let s = c.before in
-    (laid-rowed (sheet-of s) _ _ s.requires.1, refl)
+users-of-requires : tie.Need-users_of-requires
+users-of-requires c κs = let s = c in
+    (laid-rowed (sheet-of s.before) _ _ s.requires.1, refl)
 
-users-of-requires-2 : tie.Need-users-of-requires-2
-users-of-requires-2 c κs = let s = c.before.before.before in
-    (laid-rowed (figure-of s) _ _ s.requires.2, refl)
+users-of-requires-2 : tie.Need-users_of-requires-2
+users-of-requires-2 c κs = let s = c in
+    (laid-rowed (figure-of s.before.before.before) _ _ s.requires.2, refl)
 
-kin-in-requires : tie.Need-kin-in-requires
+kin-in-requires : tie.Need-kin_in-kin-requires
 kin-in-requires c κs = search rules
 
-begin-requires : tie.Need-begin-requires
-begin-requires c κs = let o = c.before.before.before.before.before.before in
-    let u = o.before.before in
-    let s = u.before.before in
-    (s.requires.0, s.requires.1, s.requires.2, u.users-of.ensures, o.users-of2.ensures, refl, refl)
+begin-requires : tie.Need-begin-hopeless-requires
+begin-requires c κs = let o = c in
+    let u = o in
+    let s = u in
+    (s.requires.0, s.requires.1, s.requires.2, u.users_of.ensures, o.users_of-2.ensures, refl, refl)
 
 search-requires : tie.Need-search-requires
-search-requires c κs = let w = c.before.before.before.before.before.before.before in
-    let k = w.before.before.before.before.before.before in
-    let o = k.before in
-    let u = o.before.before in
-    let s = u.before.before in record {
+search-requires c κs = let w = c in
+    let k = w in
+    let o = k in
+    let u = o in
+    let s = u in record {
       lends = record {
         ready = s.requires.0;
         sheet-laid = s.requires.1;
         figure-laid = s.requires.2;
-        users-in = u.users-of.ensures;
-        owners-in = o.users-of2.ensures;
-        labels = k.kin-in.ensures;
+        users-in = u.users_of.ensures;
+        owners-in = o.users_of-2.ensures;
+        labels = k.kin_in-kin.ensures;
       };
       within = omega arith;
-      atoms-in = no-atoms (sheet-of s) _ refl;
-      kept = w.begin.ensures k.kin-in.ensures;
+      atoms-in = no-atoms (sheet-of s.before.before.before.before.before.before.before.before.before.before.before.before.before.before.before.before.before.before) _ refl;
+      kept = w.begin-hopeless.ensures k.kin_in-kin.ensures;
     }
 
 returns : tie.Need-returns
 returns c = c.search.ensures
 
-pub search-all-spec : {M : Type 1} → statement M
-search-all-spec =
+pub search_all_spec : {M : Type 1} → statement M
+search_all_spec =
     tie.close
     (tie.spec
     users-of-requires

@@ -7,31 +7,31 @@ use Rattle.matching.proofs.Pruning.{sent-pruned}
 use Rattle.matching.proofs.tries.try_atom.Statement.{statement}
 use Rattle.matching.proofs.tries.try_atom.Tie as tie
 
-asks-after-requires : tie.Need-asks-after-requires
+asks-after-requires : tie.Need-asks_after-requires
 asks-after-requires c κs = search rules
 
 send-requires : tie.Need-send-requires
 send-requires c κs = search rules
 
-returns : tie.Need-returns
-returns c = let w = c.before.send.ensures in record { stays = w.stays; none = λ z. w.none c.if1.true }
+returns : tie.Need-returns-then-send
+returns c = let w = c.send.ensures in record { stays = w.stays; none = λ z. w.none c.if-send.true }
 
-returns-2 : tie.Need-returns-2
-returns-2 c = record { stays = c.before.before.send.ensures.stays; none = λ z. both_ways z refl }
+returns-2 : tie.Need-returns-then-work-lt-SINGLY
+returns-2 c = record { stays = c.send.ensures.stays; none = λ z. both_ways z refl }
 
-returns-3 : tie.Need-returns-3
-returns-3 c = record { stays = c.before.before.before.before.send.ensures.stays; none = λ z. both_ways z refl }
+returns-3 : tie.Need-returns-then-state-eq0
+returns-3 c = record { stays = c.send.ensures.stays; none = λ z. both_ways z refl }
 
-try-singly-requires : tie.Need-try-singly-requires
+try-singly-requires : tie.Need-try_singly-requires
 try-singly-requires c κs = search rules
 
-returns-4 : tie.Need-returns-4
-returns-4 c = let w = c.before.before.before.before.before.before.before.before.before in
-    let a = w.before.before.before.before.before.before.args in
-    sent-pruned (sheet_of a.state a.laid.now) (figure_of a.state a.parts.now) a.k a.t a.atoms.now a.links.now w.send.new.1.1.1.1.1.1.1.1.1.0 w.send.new.1.1.1.1.1.1.1.1.1.1.0 _ _ w.send.result c.try-singly.result w.send.ensures c.try-singly.ensures
+returns-4 : tie.Need-returns
+returns-4 c = let w = c in
+    let a = w.args in
+    sent-pruned (sheet_of a.state a.laid.now) (figure_of a.state a.parts.now) a.k a.t a.atoms.now a.links.now w.send.new.atoms w.send.new.links _ _ w.send.result c.try_singly.result w.send.ensures c.try_singly.ensures
 
-pub try-atom-spec : {M : Type 1} → statement M
-try-atom-spec =
+pub try_atom_spec : {M : Type 1} → statement M
+try_atom_spec =
     tie.close
     (tie.spec
     asks-after-requires

@@ -79,7 +79,6 @@ head_at_spec =
     element-copy-out-if1
     mul-result
     element-copy-out-result
-    
     sub-result
     mul-result-2
     returns

@@ -18,107 +18,107 @@ use Rattle.swapping.proofs.GivenTurns.{GivenTo, few-numbers, other-turn, turn_lo
 use Rattle.swapping.proofs.given.with_given.Statement.{statement}
 use Rattle.swapping.proofs.given.with_given.Tie as tie
 
-abbrev invariant-loop : tie.invariant-loop
+abbrev invariant-loop : tie.invariant-loop-i
 invariant-loop p numbers₀ numbered₀ given number whole₀ sheet i₀ numbers numbered whole i = (i ≤ sheet.atom_count) × GivenTo sheet given number p whole₀ whole (numbering numbers numbered) i
 
-abbrev decreases-loop : tie.decreases-loop
+abbrev decreases-loop : tie.decreases-loop-i
 decreases-loop p numbers₀ numbered₀ given number whole₀ sheet i₀ numbers numbered whole i = sheet.atom_count - i
 
-loop-holds : tie.Need-loop-init invariant-loop decreases-loop
+loop-holds : tie.Need-loop-i-init invariant-loop decreases-loop
 unfolding given_below with_classes
-loop-holds c = let s = c.before in
-    (omega arith, record { size = search (rules, unmapped); table = s.requires.4; grown = λ later. grown-none s.args.t1 s.requires.3 })
+loop-holds c = let s = c in
+    (omega arith, record { size = search (rules, unmapped); table = s.requires.4; grown = λ later. grown-none s.args.whole s.requires.3 })
 
-mul-if1 : tie.Need-overflow-mul-if1 invariant-loop decreases-loop
+mul-if1 : tie.Need-offset_bounds-given-i invariant-loop decreases-loop
 mul-if1 c = search rules
 
-shared-slice-read-if1 : tie.Need-shared-slice-read-if1 invariant-loop decreases-loop
-shared-slice-read-if1 c = let s = c.before.before.before.before in
-    omega (arith, s.requires.1, s.requires.0.atom-count, c.before.loop-test.true)
+shared-slice-read-if1 : tie.Need-bounds-given-i invariant-loop decreases-loop
+shared-slice-read-if1 c = let s = c in
+    omega (arith, s.requires.1, s.requires.0.atom-count, c.loop-i-test.true)
 
-mul-atom : tie.Need-overflow-mul-atom invariant-loop decreases-loop
+mul-atom : tie.Need-offset_bounds-sheet-i invariant-loop decreases-loop
 mul-atom c = search rules
 
-element-copy-out-atom : tie.Need-element-copy-out-atom invariant-loop decreases-loop
-element-copy-out-atom c = let s = c.before.before.before.before.before in
-    omega (arith, s.requires.0.atom-count, c.before.before.loop-test.true)
+element-copy-out-atom : tie.Need-bounds-sheet-i invariant-loop decreases-loop
+element-copy-out-atom c = let s = c in
+    omega (arith, s.requires.0.atom-count, c.loop-i-test.true)
 
-cast-numbers-of : tie.Need-overflow-cast-numbers-of invariant-loop decreases-loop
+cast-numbers-of : tie.Need-overflow_cast-atom invariant-loop decreases-loop
 cast-numbers-of c = search rules
 
-numbers-of-requires : tie.Need-numbers-of-requires invariant-loop decreases-loop
-numbers-of-requires c κs = let t = c.before.before.before.before.before.before.before in
-    let l = t.before in
-    let s = l.before.before in
+numbers-of-requires : tie.Need-numbers_of-more-requires invariant-loop decreases-loop
+numbers-of-requires c κs = let t = c in
+    let l = t in
+    let s = l in
     let a = s.args in
-    let v = l.loop in
+    let v = l.loop-i in
     let fit = s.requires.0 in
-    let u = fit.atoms v.i t.loop-test.true in
-    (u.few, omega (arith, u.few, ap (λ n. n.count) v.invariant.1.table, few-numbers a.t5 a.given.now a.number a.p fit v.i v.invariant.0), atom-low a.t5 fit a.given.now a.number v.i t.loop-test.true)
+    let u = fit.atoms v.i t.loop-i-test.true in
+    (u.few, omega (arith, u.few, ap (λ n. n.count) v.invariant.1.table, few-numbers a.sheet a.given.now a.number a.p fit v.i v.invariant.0), atom-low a.sheet fit a.given.now a.number v.i t.loop-i-test.true)
 
-placed-requires : tie.Need-placed-requires invariant-loop decreases-loop
-placed-requires c κs = let o = c.before.before.before.before.before.before in
-    let t = o.before.before in
-    let l = t.before in
-    let s = l.before.before in
+placed-requires : tie.Need-placed-links-requires invariant-loop decreases-loop
+placed-requires c κs = let o = c in
+    let t = o in
+    let l = t in
+    let s = l in
     let a = s.args in
-    let v = l.loop in
-    let g = c.numbers_of in
+    let v = l.loop-i in
+    let g = c.numbers_of-more in
     let n = numbering v.numbers v.numbered in
-    let m = numbering g.new.0 g.new.1.0 in
-    (s.requires.2, turn_low a.t5 a.given.now a.number a.p a.t1 v.whole n v.i v.invariant.1 s.requires.0 t.loop-test.true o.if1.true m g.result g.ensures.0 g.ensures.1)
+    let m = numbering g.new.numbers g.new.numbered in
+    (s.requires.2, turn_low a.sheet a.given.now a.number a.p a.whole v.whole n v.i v.invariant.1 s.requires.0 t.loop-i-test.true o.if-given-i.true m g.result g.ensures.0 g.ensures.1)
 
-mul-t28 : tie.Need-overflow-mul-t28 invariant-loop decreases-loop
+mul-t28 : tie.Need-offset_bounds-whole-n invariant-loop decreases-loop
 mul-t28 c = search rules
 
-element-set-from-whole : tie.Need-element-set-from-whole invariant-loop decreases-loop
+element-set-from-whole : tie.Need-bounds-whole-n invariant-loop decreases-loop
 element-set-from-whole c = search rules
 
-add-whole : tie.Need-overflow-add-whole invariant-loop decreases-loop
+add-whole : tie.Need-overflow_add-whole invariant-loop decreases-loop
 add-whole c = search rules
 
-add-i : tie.Need-overflow-add-i invariant-loop decreases-loop
+add-i : tie.Need-overflow_add-i invariant-loop decreases-loop
 add-i c = search rules
 
-loop-less : tie.Need-loop-smaller invariant-loop decreases-loop
+loop-less : tie.Need-loop-i-smaller invariant-loop decreases-loop
 loop-less c = search rules
 
-loop-again : tie.Need-loop-preserved invariant-loop decreases-loop
+loop-again : tie.Need-loop-i-preserved invariant-loop decreases-loop
 loop-again c = let t = c.before.before in
     let l = t.before in
     let s = l.before.before in
     let a = s.args in
-    let v = l.loop in
+    let v = l.loop-i in
     let w = v.whole in
-    let r = c.if1.whole in
+    let r = c.if-given-i.whole in
     let n = numbering v.numbers v.numbered in
-    let x = atom_at a.t5 v.i in
+    let x = atom_at a.sheet v.i in
     let old = v.invariant.1 in (
       search rules,
       ⊎_elim
           (λ z. let y : Atom = record { name = x.name; count = x.count; links = z.7.result } in
-          subst (λ (t : Numbering). GivenTo a.t5 a.given.now a.number a.p a.t1 r t (v.i + 1)) (sym (ap₂ numbering z.9 z.10))
-          (given-turn a.t5 a.given.now a.number a.p a.t1 w n v.i old s.requires.0 t.loop-test.true z.0.taken (numbering z.6.last.0 z.6.last.1.0) z.6.result z.6.ensures.0 z.6.ensures.1 z.7.result r z.7.ensures
+          subst (λ (t : Numbering). GivenTo a.sheet a.given.now a.number a.p a.whole r t (v.i + 1)) (sym (ap₂ numbering z.9 z.10))
+          (given-turn a.sheet a.given.now a.number a.p a.whole w n v.i old s.requires.0 t.loop-i-test.true z.0.taken (numbering z.6.last.0 z.6.last.1.0) z.6.result z.6.ensures.0 z.6.ensures.1 z.7.result r z.7.ensures
           (ap (λ (u : Whole). length u.atoms) z.11 ∙ simp length-set old.size) (grown-one w r y old.size z.8.taken z.11)))
           (λ q. ⊎_elim
           (λ z. let y : Atom = record { name = x.name; count = x.count; links = z.7.result } in
-          subst (λ (t : Numbering). GivenTo a.t5 a.given.now a.number a.p a.t1 r t (v.i + 1)) (sym (ap₂ numbering z.9 z.10))
-          (given-turn a.t5 a.given.now a.number a.p a.t1 w n v.i old s.requires.0 t.loop-test.true z.0.taken (numbering z.6.last.0 z.6.last.1.0) z.6.result z.6.ensures.0 z.6.ensures.1 z.7.result r z.7.ensures
+          subst (λ (t : Numbering). GivenTo a.sheet a.given.now a.number a.p a.whole r t (v.i + 1)) (sym (ap₂ numbering z.9 z.10))
+          (given-turn a.sheet a.given.now a.number a.p a.whole w n v.i old s.requires.0 t.loop-i-test.true z.0.taken (numbering z.6.last.0 z.6.last.1.0) z.6.result z.6.ensures.0 z.6.ensures.1 z.7.result r z.7.ensures
           (ap (λ (u : Whole). length u.atoms) z.11 ∙ old.size) (grown-full w r y old.size (old.grown []).few z.8.left z.11)))
-          (λ z. subst (λ (u : Whole × Numbering). GivenTo a.t5 a.given.now a.number a.p a.t1 u.0 u.1 (v.i + 1)) (λ j. (sym z.3 j, sym (ap₂ numbering z.1 z.2) j))
-          (other-turn a.t5 a.given.now a.number a.p a.t1 w n v.i old z.0.left))
+          (λ z. subst (λ (u : Whole × Numbering). GivenTo a.sheet a.given.now a.number a.p a.whole u.0 u.1 (v.i + 1)) (λ j. (sym z.3 j, sym (ap₂ numbering z.1 z.2) j))
+          (other-turn a.sheet a.given.now a.number a.p a.whole w n v.i old z.0.left))
           q)
-          c.if1.branch,
+          c.if-given-i.branch-raw,
     )
 
 returns : tie.Need-returns invariant-loop decreases-loop
-returns c = let v = c.before.loop in
-    let a = c.before.before.before.args in
-    let e : v.i ≡ a.t5.atom_count = omega arith in
+returns c = let v = c.loop-i in
+    let a = c.args in
+    let e : v.i ≡ a.sheet.atom_count = omega arith in
     (rw e at v.invariant.1.table, rw e at v.invariant.1.grown)
 
-pub with-given-spec : {M : Type 1} → statement M
-with-given-spec =
+pub with_given_spec : {M : Type 1} → statement M
+with_given_spec =
     tie.close
     (tie.spec
     invariant-loop
