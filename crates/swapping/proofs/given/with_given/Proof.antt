@@ -96,17 +96,17 @@ loop-again c = let t = c.before.before in
     let old = v.invariant.1 in (
       search rules,
       ⊎_elim
-          (λ z. let y : Atom = record { name = x.name; count = x.count; links = z.7.result } in
-          subst (λ (t : Numbering). GivenTo a.sheet a.given.now a.number a.p a.whole r t (v.i + 1)) (sym (ap₂ numbering z.9 z.10))
-          (given-turn a.sheet a.given.now a.number a.p a.whole w n v.i old s.requires.0 t.loop-i-test.true z.0.taken (numbering z.6.last.0 z.6.last.1.0) z.6.result z.6.ensures.0 z.6.ensures.1 z.7.result r z.7.ensures
-          (ap (λ (u : Whole). length u.atoms) z.11 ∙ simp length-set old.size) (grown-one w r y old.size z.8.taken z.11)))
+          (λ z. let y : Atom = record { name = x.name; count = x.count; links = z.placed-links.result } in
+          subst (λ (t : Numbering). GivenTo a.sheet a.given.now a.number a.p a.whole r t (v.i + 1)) (sym (ap₂ numbering z.numbers-is z.numbered-is))
+          (given-turn a.sheet a.given.now a.number a.p a.whole w n v.i old s.requires.0 t.loop-i-test.true z.if-given-i.true (numbering z.numbers_of-more.new.numbers z.numbers_of-more.new.numbered) z.numbers_of-more.result z.numbers_of-more.ensures.0 z.numbers_of-more.ensures.1 z.placed-links.result r z.placed-links.ensures
+          (ap (λ (u : Whole). length u.atoms) z.whole-is ∙ simp length-set old.size) (grown-one w r y old.size z.if-n-lt-ATOM_ROOM.true z.whole-is)))
           (λ q. ⊎_elim
-          (λ z. let y : Atom = record { name = x.name; count = x.count; links = z.7.result } in
-          subst (λ (t : Numbering). GivenTo a.sheet a.given.now a.number a.p a.whole r t (v.i + 1)) (sym (ap₂ numbering z.9 z.10))
-          (given-turn a.sheet a.given.now a.number a.p a.whole w n v.i old s.requires.0 t.loop-i-test.true z.0.taken (numbering z.6.last.0 z.6.last.1.0) z.6.result z.6.ensures.0 z.6.ensures.1 z.7.result r z.7.ensures
-          (ap (λ (u : Whole). length u.atoms) z.11 ∙ old.size) (grown-full w r y old.size (old.grown []).few z.8.left z.11)))
-          (λ z. subst (λ (u : Whole × Numbering). GivenTo a.sheet a.given.now a.number a.p a.whole u.0 u.1 (v.i + 1)) (λ j. (sym z.3 j, sym (ap₂ numbering z.1 z.2) j))
-          (other-turn a.sheet a.given.now a.number a.p a.whole w n v.i old z.0.left))
+          (λ z. let y : Atom = record { name = x.name; count = x.count; links = z.placed-links.result } in
+          subst (λ (t : Numbering). GivenTo a.sheet a.given.now a.number a.p a.whole r t (v.i + 1)) (sym (ap₂ numbering z.numbers-is z.numbered-is))
+          (given-turn a.sheet a.given.now a.number a.p a.whole w n v.i old s.requires.0 t.loop-i-test.true z.if-given-i.true (numbering z.numbers_of-more.new.numbers z.numbers_of-more.new.numbered) z.numbers_of-more.result z.numbers_of-more.ensures.0 z.numbers_of-more.ensures.1 z.placed-links.result r z.placed-links.ensures
+          (ap (λ (u : Whole). length u.atoms) z.whole-is ∙ old.size) (grown-full w r y old.size (old.grown []).few z.if-n-lt-ATOM_ROOM.false z.whole-is)))
+          (λ z. subst (λ (u : Whole × Numbering). GivenTo a.sheet a.given.now a.number a.p a.whole u.0 u.1 (v.i + 1)) (λ j. (sym z.whole-is j, sym (ap₂ numbering z.numbers-is z.numbered-is) j))
+          (other-turn a.sheet a.given.now a.number a.p a.whole w n v.i old z.if-given-i.false))
           q)
           c.if-given-i.branch-raw,
     )

@@ -6,8 +6,8 @@ use Rattle.swapping.proofs.SwapCode.{TextsRead, texts-read, swap-short, swap-fir
 use Rattle.swapping.proofs.swap.swap.Statement.{statement}
 use Rattle.swapping.proofs.swap.swap.Tie as tie
 
-texts : (l : tie.After-read_replacement-third) → let g = l.before.before.before.before in let r = g.before.before.before in let a = r.args in
-    TextsRead r.read_sheet-first.result g.read_pattern-second.result l.read_replacement-third.result a.sheet.now a.pattern.now a.replacement.now
+texts : (l : tie.After-read_replacement-third) → let a = l.args in
+    TextsRead l.read_sheet-first.result l.read_pattern-second.result l.read_replacement-third.result a.sheet.now a.pattern.now a.replacement.now
 texts l =
     let g = l in
     let r = g in
