@@ -15,6 +15,8 @@ const LARGE: f64 = 1_000.0;
 const BESIDE: f64 = 1.5;
 /// How often the two are called by turns for that.
 const TURNS: usize = 45;
+/// At how many places of the stack.
+const PLACES: usize = 32;
 
 /// One call, microseconds.
 fn once(calls: &Calls, stored: &Stored) -> f64 {
@@ -28,10 +30,25 @@ fn time(calls: &Calls, stored: &Stored) -> f64 {
     (0..9).map(|_| once(calls, stored)).fold(f64::INFINITY, f64::min)
 }
 
+/// What the call gives further down the stack, by so many frames.
+#[inline(never)]
+fn deeper<T>(frames: usize, call: &dyn Fn() -> T) -> T {
+    let frame = std::hint::black_box([frames; 3]);
+    if frames == 0 {
+        call()
+    } else {
+        std::hint::black_box((deeper(frame[0] - 1, call), frame)).0
+    }
+}
+
 /// The least times of the proved library and of the plain one, called by turns, so that a slow moment is one of both.
+/// Where the stack lies makes either of them up to a third slower, so it is the mean over places.
 fn times(stored: &Stored) -> (f64, f64) {
     let turn = |_| (once(&PROVED, stored), once(&PLAIN, stored));
-    (0..TURNS).map(turn).fold((f64::INFINITY, f64::INFINITY), |least, now| (least.0.min(now.0), least.1.min(now.1)))
+    let least = || {
+        (0..TURNS).map(turn).fold((f64::INFINITY, f64::INFINITY), |least, now| (least.0.min(now.0), least.1.min(now.1)))
+    };
+    (0..PLACES).map(|place| deeper(place, &least)).fold((0.0, 0.0), |sum, least| (sum.0 + least.0, sum.1 + least.1))
 }
 
 #[test]
