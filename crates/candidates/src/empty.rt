@@ -11,14 +11,12 @@ pub fn mark_lost(marked: &[u16; Sheet::MARK_ROOM], m: usize, links: &[u64; LINK_
     requires { MarkLinks marked.now m }
     ensures { (result ≡ true) ↔ MarkLost marked.now m links.now }
 {
-    let mut p = 0;
-    while p < m {
+    for p in 0..m {
         let x = marked[p] as usize;
         let set = pair_at(links, x - 1);
         if is_empty(set) {
             return true;
         }
-        p += 1;
     }
     false
 }

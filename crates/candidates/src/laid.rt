@@ -18,10 +18,8 @@ pub fn laid_atom(laid: &[u16; LAID], i: usize) -> Atom
     let name = laid[at];
     let count = laid[at + 1];
     let mut links = [0u16; Sheet::MOST_LINKS];
-    let mut k = 0;
-    while k < Sheet::MOST_LINKS {
+    for k in 0..Sheet::MOST_LINKS {
         links[k] = laid[at + (2 + k)];
-        k += 1;
     }
     Atom { name, count, links }
 }
@@ -31,10 +29,8 @@ fn lay_links(links: [u16; Sheet::MOST_LINKS], i: usize, laid: &mut [u16; LAID])
     requires { (i < sheet_atom_limit) × (length links ≡ most_links) × (length laid.old ≡ sheet_atom_limit * field_count) }
     ensures { (length laid.new ≡ sheet_atom_limit * field_count) × ((k : ℕ) → k < most_links → laid_at laid.new i (2 + k) ≡ get_or links k 0) × ((q : ℕ) → ((k : ℕ) → k < most_links → q ≢ i * field_count + (2 + k)) → get_or laid.new q 0 ≡ get_or laid.old q 0) }
 {
-    let mut k = 0;
-    while k < Sheet::MOST_LINKS {
+    for k in 0..Sheet::MOST_LINKS {
         laid[i * Sheet::FIELDS + (2 + k)] = links[k];
-        k += 1;
     }
 }
 
@@ -55,10 +51,8 @@ pub fn lay(net: Sheet, laid: &mut [u16; LAID])
     requires { Fit net × (length laid.old ≡ sheet_atom_limit * field_count) }
     ensures { (length laid.new ≡ sheet_atom_limit * field_count) × ((i : ℕ) → i < net.atom_count → laid_atom laid.new i ≡ atom_at net i) × ((q : ℕ) → net.atom_count * field_count ≤ q → get_or laid.new q 0 ≡ get_or laid.old q 0) }
 {
-    let mut i = 0;
-    while i < net.atom_count {
+    for i in 0..net.atom_count {
         let atom = net.atoms[i];
         lay_atom(atom, i, laid);
-        i += 1;
     }
 }

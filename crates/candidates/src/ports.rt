@@ -20,11 +20,9 @@ fn set_of(links: [u16; Sheet::MOST_LINKS], count: usize) -> [u64; 2]
     ensures { LinksOf links count result }
 {
     let mut set = [0u64; 2];
-    let mut k = 0;
-    while k < count {
+    for k in 0..count {
         let more = with(set, (links[k] - 1) as usize);
         set = more;
-        k += 1;
     }
     set
 }
@@ -42,8 +40,7 @@ pub fn port_sets(
         links: [0; 2],
     };
     let mut sets = [none; Sheet::CONTEXT_ROOM];
-    let mut c = 0;
-    while c < count {
+    for c in 0..count {
         let row = contexts[c];
         let ports = row.links;
         let links = set_of(ports, row.count as usize);
@@ -51,7 +48,6 @@ pub fn port_sets(
             number: row.number,
             links,
         };
-        c += 1;
     }
     sets
 }
