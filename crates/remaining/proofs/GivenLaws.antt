@@ -1,33 +1,32 @@
 -- The contexts that a completion gives to the atoms, as digits.
-use Prim.Native.Nat.{ℕ, suc, ◌+◌, ◌-◌, ◌≤◌, ◌<◌}
+use Prim.Native.Nat.{ℕ, suc, ◌+◌, ◌-◌, ◌<◌}
 use mathlib.Core.Path.{◌≡◌, sym, ◌∙◌, ap, subst}
-use mathlib.Core.Logic.{◌⊎◌, inl, inr, ◌≢◌, ◌↔◌}
+use mathlib.Core.Logic.{inl, inr, ◌≢◌, ◌↔◌}
 use mathlib.Core.List.{List}
 use native.Mathlib.Nat.{mod-lt}
 use native.Mathlib.Omega.{arith}
-use lib.Bits.{bit_and}
 use lib.ListN.{length, get_or, take}
 use lib.Seq.{get_or-take}
 use Rattle.hyperlmntal.specs.Link.{◌∈◌}
 use Rattle.rows.specs.declared.Sheet as form
 use Rattle.placing.specs.Net.{Net, Range}
-use Rattle.placing.specs.Placing.{Placing, link_target, given_to, Taken, At}
+use Rattle.placing.specs.Placing.{Placing, link_target, given_to, At}
 use Rattle.placing.proofs.Standing.{context-link, place-link}
 use Rattle.network.specs.NetIn.{net_in}
-use Rattle.network.specs.Ready.{state_in, Flag, TakenIn}
+use Rattle.network.specs.Ready.{state_in, TakenIn}
 use Rattle.network.proofs.NetIn.{atoms-length}
 use Rattle.candidates.specs.Words.{In}
 use Rattle.candidates.proofs.Digits.{none_in, in_and}
 use Rattle.completing.specs.Completion.{Partial, Completion}
 use Rattle.completing.specs.Fault.{Other}
-use Rattle.completing.specs.Known.{Stands, Touches, Known, MayGo}
+use Rattle.completing.specs.Known.{Stands, Known, MayGo}
 use Rattle.completing.specs.Remaining.{Closed}
 use Rattle.completing.proofs.Known.{completions-known, no-bars}
 use Rattle.completing.proofs.Remaining.{sure-within, beside-within, sure-apart}
 use Rattle.stepping.specs.Flags.{SentTo}
 use Rattle.stepping.specs.Standing.{context_digits, digit_of, Described}
 use Rattle.remaining.specs.Joining.{MayAt, Closure, closure_in}
-use Rattle.remaining.specs.Allowing.{StandsAt, Allows, AllIn, SettledIn, Together, TornAt}
+use Rattle.remaining.specs.Allowing.{StandsAt, Allows, SettledIn, Together, TornAt}
 
 back : (j : ℕ) → suc j - 1 ≡ j
 back j = omega arith

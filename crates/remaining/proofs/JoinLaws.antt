@@ -1,6 +1,6 @@
 -- Unions of classes, grown by a loop.
-use Prim.Native.Nat.{ℕ, zero, suc, ◌+◌, ◌*◌, ◌/◌, ◌%◌, ◌^◌, ◌≤◌, ◌<◌}
-use mathlib.Core.Path.{◌≡◌, refl, sym, ◌∙◌, ap, subst}
+use Prim.Native.Nat.{ℕ, zero, suc, ◌+◌, ◌*◌, ◌/◌, ◌%◌, ◌≤◌, ◌<◌}
+use mathlib.Core.Path.{◌≡◌, sym, ◌∙◌, ap, subst}
 use mathlib.Core.Logic.{◌⊎◌, inl, inr, ⊎_elim, ◌≢◌}
 use mathlib.Core.List.{List}
 use mathlib.Core.Bool.{Bool, true, false}
@@ -13,7 +13,7 @@ use lib.ListN.{length, get_or, set, replicate, length-set, length-replicate}
 use lib.Seq.{get_or-set_same, get_or-set_other}
 use Rattle.rows.specs.Pick.{pick}
 use borrow.Author.Tests.{lt-ltb, le-ltb}
-use Rattle.candidates.specs.Words.{word_digits, digit, In, alone, fewer}
+use Rattle.candidates.specs.Words.{word_digits, digit, In, fewer}
 use Rattle.candidates.proofs.Digits.{in-dec, none_in, in_and, in-or-left, in-or-right, or-in, fewer-in, in-fewer, fewer-smaller, first-in, digit-shifted}
 use Rattle.stepping.specs.Standing.{context_digits}
 use Rattle.remaining.specs.Joining.{all_contexts, word_count, MayAt, Joined, Spread, Closure, closure_in}

@@ -63,14 +63,12 @@ pub(crate) fn some_empty(
     requires { atoms ≤ sheet_atom_limit }
     ensures { SomeEmpty words.now taken.now atoms result }
 {
-    let mut j = 0;
-    while j < atoms {
+    for j in 0..atoms {
         if taken[j] != 1 {
             if words[j] == 0 {
                 return true;
             }
         }
-        j += 1;
     }
     false
 }

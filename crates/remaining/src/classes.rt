@@ -51,10 +51,8 @@ pub(crate) fn closures(
     requires { (count ≤ sheet_link_limit) × (table.old ≡ replicate word_count 0) }
     ensures { (word : ℕ) → Closure standing.now flags.now to.now count 0 word (closure_in table.new word) }
 {
-    let mut w = 1;
-    while w < WORDS {
+    for w in 1..WORDS {
         let closed = closure_at(table, standing, flags, to, count, w);
         table[w] = closed;
-        w += 1;
     }
 }

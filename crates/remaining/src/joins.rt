@@ -38,10 +38,8 @@ fn spread(
     ensures { Spread standing.now flags.now to.now count y word result }
 {
     let mut next = word;
-    let mut x = 0;
-    while x < count {
+    for x in 0..count {
         next = joined(flags[x], to[x], y, next, standing[x]);
-        x += 1;
     }
     next
 }
@@ -59,14 +57,12 @@ pub(crate) fn closure(
     ensures { Closure standing.now flags.now to.now count y word result }
 {
     let mut closed = word;
-    let mut n = 0;
-    while n < CONTEXT_DIGITS {
+    for n in 0..CONTEXT_DIGITS {
         let next = spread(standing, flags, to, count, y, closed);
         if next == closed {
             return closed;
         }
         closed = next;
-        n += 1;
     }
     ALL
 }

@@ -28,8 +28,7 @@ fn apart_from(
     requires { count ≤ sheet_link_limit }
     ensures { ApartFrom standing.now to.now count y word x result }
 {
-    let mut z = 0;
-    while z < count {
+    for z in 0..count {
         if z != x {
             if to[z] == y {
                 if standing[z] & word == 0 {
@@ -37,7 +36,6 @@ fn apart_from(
                 }
             }
         }
-        z += 1;
     }
     false
 }
@@ -82,12 +80,10 @@ fn settled_cuts(
     requires { (count ≤ sheet_link_limit) × (none ≤ sheet_link_limit + 1) × Within none count to.now × (length words.old ≡ sheet_atom_limit) × Falls node_count chains.now }
     ensures { (length words.new ≡ sheet_atom_limit) × (result ≡ true → TornAt standing.now flags.now to.now count none) × ((S : Net) (n : ℕ) → Chained S n chains.now → (taken : List ℕ) (digits : ℕ → ℕ) → SettledIn S taken digits standing.now flags.now to.now count none → Allows S taken digits words.old → Allows S taken digits words.new) }
 {
-    let mut x = 0;
-    while x < count {
+    for x in 0..count {
         if settled_cut(words, chains, standing, to, flags, count, none, x) {
             return true;
         }
-        x += 1;
     }
     false
 }
@@ -123,10 +119,8 @@ fn round(
     requires { (links ≤ sheet_link_limit) × (length words.old ≡ sheet_atom_limit) × Falls node_count chains.now }
     ensures { (length words.new ≡ sheet_atom_limit) × ((S : Net) (n : ℕ) → Chained S n chains.now → (digits : ℕ → ℕ) → Together S taken.now digits table.now used.now → Allows S taken.now digits words.old → Allows S taken.now digits words.new) }
 {
-    let mut y = 0;
-    while y < links {
+    for y in 0..links {
         unused_cut(words, chains, taken, table, used, y);
-        y += 1;
     }
 }
 
