@@ -1,6 +1,6 @@
 use native.Mathlib.Omega.{arith}
-use mathlib.Core.Path.{◌≡◌, sym, ◌∙◌}
-use Rattle.sheet.proofs.part.HeadRows.{Inside, head_at, heads-few, search-start, search-end, search-inside, search-hit, search-miss}
+use mathlib.Core.Path.{sym, ◌∙◌}
+use Rattle.sheet.proofs.part.HeadRows.{heads-few, search-start, search-end, search-inside, search-hit, search-miss}
 use Rattle.sheet.proofs.part.head_at.Goals as goal
 
 pub loop-i-init : goal.loop-i-init

@@ -1,12 +1,9 @@
 -- Invariant: the search through the heads from i on finds what the walk over the list finds.
-use borrow.Author.Rules.{rules}
-use native.Mathlib.Omega.{arith}
-use Prim.Native.Nat.{◌≤◌, ◌-◌}
-use mathlib.Core.Path.{◌≡◌, sym, ◌∙◌}
+use Prim.Native.Nat.{◌≤◌}
+use mathlib.Core.Path.{◌≡◌}
 use lib.ListN.{length, drop}
-use Rattle.rows.specs.Limits.{figure_contexts}
 use Rattle.sheet.specs.Filling.{from_head}
-use Rattle.sheet.proofs.part.HeadRows.{Inside, from_first, heads_from, head_at, heads-few, search-start, search-end, search-inside, search-hit, search-miss}
+use Rattle.sheet.proofs.part.HeadRows.{from_first, heads_from}
 use Rattle.sheet.proofs.part.head_at.Given as goal
 
 abbrev pub invariant-loop-i : goal.invariant-loop-i

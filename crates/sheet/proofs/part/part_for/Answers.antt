@@ -1,5 +1,4 @@
 -- The part from the head to the next one.
-use borrow.Author.Rules.{rules}
 use mathlib.Core.Path.{sym, ◌∙◌}
 use mathlib.Core.Bool.{true}
 use Rattle.sheet.proofs.part.FillingLaws.{filling-part, filling-none, filling-by}
