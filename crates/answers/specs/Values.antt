@@ -1,7 +1,6 @@
 -- Document 01, 'Numbers': 'Every answer has the number, the input, the row and the bytes written; compare and claim add their yes or no'.
 use Rattle.std.specs.Prelude.{ℕ}
-use Rattle.sheet.specs.Answer.{number_of, input_of, row_number_of}
-use Rattle.sheet.specs.declared.answer.Answer.{Answer}
+use Rattle.sheet.specs.Answer.{number_of, input_of, row_number_of, Answer}
 use Rattle.normalising.specs.NormalText.{normalised_number, normalised_input, normalised_row, normalised_bytes}
 use Rattle.normalising.specs.declared.normalise.Normalised.{Normalised}
 use Rattle.answers.specs.Done.{done_number, done_input, done_row, done_bytes}

@@ -6,8 +6,8 @@ use Rattle.rows.specs.Pick.{pick}
 use Rattle.reading.specs.Graph.{graph_of}
 use Rattle.sheet.specs.Reading.{outcome_of, no_ports}
 use Rattle.sheet.specs.declared.kind.Kind.TheVariants.{Plain, Figure, Fillings}
-use Rattle.sheet.specs.declared.answer.Answer.{Answer}
-use Rattle.sheet.specs.declared.answer.Answer.TheVariants as read
+use Rattle.sheet.specs.Answer.{Answer}
+use Rattle.sheet.specs.Answer as read
 use Rattle.placing.specs.Net.{Net, net_of}
 use Rattle.placing.specs.Placing.{Placing}
 use Rattle.placing.specs.Filled.{filled_normal}

@@ -5,8 +5,8 @@ use Rattle.rows.specs.Pick.{pick}
 use Rattle.rows.specs.Held.{Held}
 use Rattle.sheet.specs.Reading.{outcome_of, no_ports}
 use Rattle.sheet.specs.declared.kind.Kind.TheVariants.{Plain}
-use Rattle.sheet.specs.declared.answer.Answer.{Answer}
-use Rattle.sheet.specs.declared.answer.Answer.TheVariants as read
+use Rattle.sheet.specs.Answer.{Answer}
+use Rattle.sheet.specs.Answer as read
 use Rattle.placing.specs.Net.{normal_net}
 use Rattle.placing.specs.Placing.{Placing}
 use Rattle.placing.specs.Smallest.{smallest}

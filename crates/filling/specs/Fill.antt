@@ -11,8 +11,7 @@ use Rattle.reading.specs.Normal.{class_of, classes_by, marks_of}
 use Rattle.normalising.specs.NormalText.{text_of, slip_length}
 use Rattle.sheet.specs.Reading.{outcome_of, no_ports}
 use Rattle.sheet.specs.declared.kind.Kind.TheVariants.{Figure, Fillings}
-use Rattle.sheet.specs.declared.answer.Answer.{Answer}
-use Rattle.sheet.specs.declared.answer.Answer.TheVariants.{Passed, Refused}
+use Rattle.sheet.specs.Answer.{Answer, Passed, Refused}
 use Rattle.placing.specs.Fillings.{Filling, rows_graph}
 use Rattle.placing.specs.Filled.{filled_graph, filled_normal}
 use Rattle.placing.specs.Smallest.{same_list, numbers_to}

@@ -15,7 +15,7 @@ use Rattle.sheet.specs.Reading.{outcome_of, no_ports}
 use Rattle.rows.specs.declared.Sheet as form
 use Rattle.sheet.specs.declared.kind.Kind.TheVariants.{Plain, Pattern}
 use Rattle.sheet.specs.declared.answer.Refusal.{Refusal}
-use Rattle.sheet.specs.declared.answer.Answer.TheVariants.{Passed, Refused}
+use Rattle.sheet.specs.Answer.{Passed, Refused}
 use Rattle.sheet.proofs.read.HeldLimits.{held-within}
 use Rattle.normalising.proofs.normal_text.NormalWritten.{atom-at, context-at, atom-range, context-range}
 use Rattle.placing.specs.Net.{Net, Range, Apart}

@@ -4,13 +4,11 @@ use Rattle.hyperlmntal.specs.Link.{local, free}
 use Rattle.hyperlmntal.specs.Hypergraph.{Node, inner, name, Label, symbol, hole, Cell, Fusion, Flat}
 use Rattle.rows.specs.Pick.{pick}
 use Rattle.writing.specs.RowText.{row_bytes}
-use Rattle.sheet.specs.Answer.{refusal_number}
+use Rattle.sheet.specs.Answer.{refusal_number, Answer, Passed, Refused}
 use Rattle.reading.specs.Graph.{graph_of}
 use Rattle.reading.specs.Normal.{normal_form}
 use Rattle.sheet.specs.Reading.{outcome_of, no_ports}
 use Rattle.sheet.specs.declared.kind.Kind.{Kind}
-use Rattle.sheet.specs.declared.answer.Answer.{Answer}
-use Rattle.sheet.specs.declared.answer.Answer.TheVariants.{Passed, Refused}
 use Rattle.normalising.specs.declared.normalise.Normalised.{Normalised}
 use Rattle.normalising.specs.declared.normalise.Normalised.TheVariants as done
 

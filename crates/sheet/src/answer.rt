@@ -1,5 +1,7 @@
-// What a reader answers: the refusals of a row, in the table's order, and the row that is refused.
-#[derive(Clone, Copy)]
+// Why a reader turns a text down: the refusals of a row, in the table's order.
+ghost use Rattle.std.specs.Prelude.{◌≡◌};
+
+#[derive(Clone, Copy, PartialEq, Eq)]
 pub enum Refusal {
     Ragged,
     StrangeRow,
@@ -11,9 +13,17 @@ pub enum Refusal {
     BlankClash,
 }
 
-// A text passed, or it is refused at a row, counted from 1.
+// A text that is turned down: why, and at which row, counted from 1.
 #[derive(Clone, Copy)]
-pub enum Answer {
-    Passed,
-    Refused(Refusal, usize),
+pub struct RefusedRow {
+    pub why: Refusal,
+    pub row: usize,
+}
+
+impl Refusal {
+    pub(crate) fn at_row(self, row: usize) -> RefusedRow
+        ensures { result ≡ record { why = self; row = row } }
+    {
+        RefusedRow { why: self, row }
+    }
 }

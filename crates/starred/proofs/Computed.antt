@@ -6,8 +6,7 @@ use lib.ListN.{length}
 use Rattle.normalising.specs.NormalText.{normal_text_of}
 use Rattle.sheet.specs.Reading.{outcome_of, no_ports}
 use Rattle.sheet.specs.declared.kind.Kind.TheVariants.{Plain, Pattern, Figure, Fillings}
-use Rattle.sheet.specs.declared.answer.Answer.{Answer}
-use Rattle.sheet.specs.declared.answer.Answer.TheVariants.{Passed}
+use Rattle.sheet.specs.Answer.{Answer, Passed}
 use Rattle.comparing.specs.Compare.{compare_answer}
 use Rattle.filling.specs.Fill.{filled_answer, filled_text}
 use Rattle.answers.specs.declared.outcome.Done.{Done}

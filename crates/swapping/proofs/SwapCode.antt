@@ -24,8 +24,7 @@ use Rattle.rows.specs.declared.Sheet as form
 use Rattle.sheet.specs.declared.kind.Kind.TheVariants.{Plain, Pattern, Figure, Replacement}
 use Rattle.sheet.specs.declared.answer.Refusal.{Refusal}
 use Rattle.reading.specs.declared.read.Reading.{Reading}
-use Rattle.sheet.specs.declared.answer.Answer.{Answer}
-use Rattle.sheet.specs.declared.answer.Answer.TheVariants.{Passed, Refused}
+use Rattle.sheet.specs.Answer.{Answer, Passed, Refused}
 use Rattle.placing.specs.Net.{NetCell, Net}
 use Rattle.placing.specs.Placing.{Good}
 use Rattle.placing.specs.Fillings.{Filling, Fits, normal_fillings_of}

@@ -9,8 +9,7 @@ use borrow.Author.Tests.{le-ltb, ltb-false}
 use lib.Dec.{ltb}
 use Rattle.rows.specs.Pick.{pick}
 use Rattle.normalising.specs.NormalText.{slip_length}
-use Rattle.sheet.specs.declared.answer.Answer.{Answer}
-use Rattle.sheet.specs.declared.answer.Answer.TheVariants.{Passed, Refused}
+use Rattle.sheet.specs.Answer.{Answer, Passed, Refused}
 use Rattle.filling.specs.Read.{list_held}
 use Rattle.filling.specs.Fill.{unless, figure_held, first_lacking, first_differing}
 use Rattle.answers.specs.Done.{done_input}

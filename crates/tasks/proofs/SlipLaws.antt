@@ -12,8 +12,7 @@ use Rattle.reading.specs.Graph.{graph_of}
 use Rattle.normalising.specs.NormalText.{text_of, slip_length, normal_text_of, answered, written_over, normalised_answer, normalised_slip, normalised_number}
 use Rattle.sheet.specs.Reading.{outcome_of, no_ports}
 use Rattle.sheet.specs.declared.kind.Kind.{Kind}
-use Rattle.sheet.specs.declared.answer.Answer.{Answer}
-use Rattle.sheet.specs.declared.answer.Answer.TheVariants.{Passed, Refused}
+use Rattle.sheet.specs.Answer.{Answer, Passed, Refused}
 use Rattle.normalising.specs.declared.normalise.Normalised.TheVariants as normal
 use Rattle.placing.specs.ListText.{list_text}
 use Rattle.answers.specs.Done.{done_number, done_input, slip_after}

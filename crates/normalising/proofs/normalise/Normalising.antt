@@ -14,7 +14,7 @@ use Rattle.normalising.specs.NormalRows.{normal_rows, Writable}
 use Rattle.sheet.specs.declared.kind.Kind.{Kind}
 use Rattle.rows.specs.declared.Sheet.{Sheet as Normal}
 use Rattle.sheet.specs.declared.answer.Refusal.{Refusal}
-use Rattle.sheet.specs.declared.answer.Answer.TheVariants.{Passed, Refused}
+use Rattle.sheet.specs.Answer.{Passed, Refused}
 use Rattle.normalising.specs.declared.normalise.Normalised.TheVariants as done
 use Rattle.sheet.proofs.read.HeldLimits.{held-within}
 use Rattle.reading.proofs.normal.Connected.{agrees-read}
