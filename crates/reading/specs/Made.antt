@@ -1,5 +1,5 @@
 -- What a reader hands back of what a text holds, by the steps of making a normal form.
-use Rattle.std.specs.Prelude.{ℕ, ◌+◌, ◌≡◌, Bool, Result, List, [], ◌++◌, map, ltb, length, take, drop}
+use Rattle.std.specs.Prelude.{ℕ, ◌≡◌, Bool, Result, List, [], ◌++◌, map, ltb, length, take, drop}
 use Rattle.rows.specs.Pick.{pick, and}
 use Rattle.rows.specs.Limits.{link_room, mark_room}
 use Rattle.rows.specs.Packed.{padded, port_table}

@@ -2,7 +2,7 @@
 ghost use Rattle.std.specs.Prelude.{◌≡◌};
 ghost use Rattle.sheet.specs.Filling.{filling_of};
 
-use crate::read::read_list;
+use crate::read::{Reading, read_list};
 use sheet::part::part_for;
 
 // The filling of one context, its head first; empty where the context has no filling there or a row of the list is refused.
@@ -10,7 +10,9 @@ pub fn filling_of(list: &[u8], number: u16) -> &[u8]
     ensures { result.now ≡ filling_of list.now number }
 {
     match read_list(list) {
-        Ok(heads) => part_for(list, heads.normal.contexts, heads.normal.context_count, number),
+        Ok(Reading { normal, .. }) => {
+            part_for(list, normal.contexts, normal.context_count, number)
+        }
         Err(_) => &list[0..0],
     }
 }

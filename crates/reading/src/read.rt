@@ -49,7 +49,11 @@ fn shown_contexts(kind: Kind, c: usize) -> usize
 
 // The one walk over rows. `pattern` has the port counts of the pattern's contexts, for a replacement;
 // `labels` has the class of each link, `on` the place of each mark's link, and `hints` where to look for a link first.
-pub fn read_text(kind: Kind, pattern: [u16; Sheet::NUMBERS], text: &[u8]) -> Result<Reading, RefusedRow>
+pub fn read_text(
+    kind: Kind,
+    pattern: [u16; Sheet::NUMBERS],
+    text: &[u8],
+) -> Result<Reading, RefusedRow>
     ensures { result ≡ reading_of kind (outcome_of kind pattern text.now) }
 {
     let mut atoms = [Atom::none(); Sheet::ATOM_ROOM];

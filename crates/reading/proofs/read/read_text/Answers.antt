@@ -1,9 +1,9 @@
 -- Each row is turned down, or taken in by the arrays; at the end these are what the text holds.
-use mathlib.Core.Path.{◌≡◌, refl, ◌∙◌, sym, ap}
+use mathlib.Core.Path.{◌≡◌, refl, ◌∙◌, ap}
 use mathlib.Core.List.{[]}
 use mathlib.Core.Bool.{Bool, true, false}
 use native.Mathlib.Omega.{arith}
-use Prim.Native.Nat.{ℕ, ◌+◌, ◌-◌, ◌≤◌}
+use Prim.Native.Nat.{ℕ}
 use lib.ListN.{get_or}
 use Rattle.std.specs.Int.{from_bool}
 use Rattle.std.proofs.lemmas.Result.{err_from_is_err_and}
@@ -74,12 +74,12 @@ returns-in_err-late_answer c =
     let y = c.add_row_mark-m in
     let p = err_from_is_err_and c.from_residual-in_err-late_answer.result c.from_residual-in_err-late_answer.ensures.1 in
     rw (p.1, p.2) (turned-late _ _ _ _ _ i c.loop-k-test.true c.in_ok-row.row c.in_ok-row.ensures _
-        (row_made _ _ _ _ _ i c.loop-k-test.true c.in_ok-row.row c.in_ok-row.ensures
-        c.atom_of.result c.from-a.result c.context_of.result c.is_context.result c.from-c.result c.row_ports-table.result x.new.links x.new.classes x.result y.new.classes y.new.marks y.new.marked y.result
-        c.atom_of.ensures (c.from-a.ensures ∙ counted _) c.context_of.ensures c.is_context.ensures (c.from-c.ensures ∙ counted _) c.row_ports-table.ensures x.ensures.1 y.ensures)
-        c.row_clash-clash.result
-        (λ r q p. c.row_clash-clash.ensures r (ap (λ (j : ℕ). (get_or c.loop-k.contexts j (record { number = 0; count = 0; links = []; row = 0 })).number) c.saturating_sub.ensures ∙ q) p)
-        _ c.in_err-late_answer.ensures)
+    (row_made _ _ _ _ _ i c.loop-k-test.true c.in_ok-row.row c.in_ok-row.ensures
+    c.atom_of.result c.from-a.result c.context_of.result c.is_context.result c.from-c.result c.row_ports-table.result x.new.links x.new.classes x.result y.new.classes y.new.marks y.new.marked y.result
+    c.atom_of.ensures (c.from-a.ensures ∙ counted _) c.context_of.ensures c.is_context.ensures (c.from-c.ensures ∙ counted _) c.row_ports-table.ensures x.ensures.1 y.ensures)
+    c.row_clash-clash.result
+    (λ r q p. c.row_clash-clash.ensures r (ap (λ (j : ℕ). (get_or c.loop-k.contexts j (record { number = 0; count = 0; links = []; row = 0 })).number) c.saturating_sub.ensures ∙ q) p)
+    _ c.in_err-late_answer.ensures)
 
 pub normal_from-normal-requires : goal.normal_from-normal-requires
 normal_from-normal-requires c =
