@@ -73,7 +73,7 @@ fn augment(flow: &mut [u8; FLOW], look: &[u16; LOOK], laid: &[u16; LAID], end: u
 {
     more(flow, ENDED + end);
     let mut state = end;
-    for n in 0..STATES {
+    for _ in 0..STATES {
         let from = look[state];
         if from == START {
             more(flow, USES + state % VERTICES);
@@ -133,9 +133,8 @@ fn lay_way(
     ensures { (at < result) × (result ≤ trail_room) × (length trails.new ≡ trail_room) }
 {
     trails[at] = (end + 1) as u16;
-    let mut next = at + 1;
     let mut z = end;
-    while next < TRAILS {
+    for next in at + 1..TRAILS {
         if sorted[Sheet::LINKS + z] == 1 {
             return next;
         }
@@ -145,9 +144,8 @@ fn lay_way(
         less(flow, from);
         trails[next] = (from * Sheet::MOST_LINKS + into % Sheet::MOST_LINKS) as u16;
         z = link_at(laid, from);
-        next += 1;
     }
-    next
+    TRAILS
 }
 
 // All ways of the flow are laid out, as far as there is room.
@@ -165,13 +163,11 @@ pub(crate) fn lay(
 {
     let mut at = 0;
     for z in 0..links {
-        let mut left = flow[ENDED + z];
-        while left != 0 {
+        for _ in 0..flow[ENDED + z] {
             if at == TRAILS {
                 return;
             }
             at = lay_way(trails, at, flow, laid, chains, atoms, sorted, z);
-            left -= 1;
         }
     }
 }
@@ -190,7 +186,7 @@ pub(crate) fn find_ways(
 ) -> bool
     requires { (atoms ≤ sheet_atom_limit) × Falls (node_of atoms 0) chains.now × (links ≤ sheet_link_limit) }
 {
-    for n in 0..most {
+    for _ in 0..most {
         let mut look = [0u16; LOOK];
         let end = search(
             &mut look, flow, laid, chains, atoms, links, taken, guarded, sorted,

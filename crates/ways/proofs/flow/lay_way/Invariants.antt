@@ -1,11 +1,8 @@
 -- No index leaves its array.
-use Rattle.std.proofs.Common.{◌≡◌, ◌-◌, ◌<◌, ◌≤◌, length}
+use Rattle.std.proofs.Common.{◌≡◌, ◌<◌, length}
 use Rattle.rows.specs.Limits.{sheet_link_limit}
 use Rattle.ways.specs.Trails.{trail_room}
 use Rattle.ways.proofs.flow.lay_way.Given as goal
 
 abbrev pub invariant-loop-next : goal.invariant-loop-next
-invariant-loop-next l = (l.z < sheet_link_limit) × (l.at < l.next) × (l.next ≤ trail_room) × (length l.trails ≡ trail_room)
-
-abbrev pub decreases-loop-next : goal.decreases-loop-next
-decreases-loop-next l = trail_room - l.next
+invariant-loop-next l = (l.z < sheet_link_limit) × (length l.trails ≡ trail_room)

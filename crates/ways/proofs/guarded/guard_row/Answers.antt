@@ -1,11 +1,7 @@
 -- A row with one place, a row on one half, a breaking row.
-use Rattle.std.proofs.Common.{◌-◌, ◌<◌, arith}
-use Rattle.candidates.specs.Forced.{Only}
+use Rattle.std.proofs.Common.{◌-◌, arith}
 use Rattle.ways.proofs.Guarding.{guards-taken, guards-half, guards-breaking}
 use Rattle.ways.proofs.guarded.guard_row.Goals as goal
-
-pub forced-t-requires : goal.forced-t-requires
-forced-t-requires c = omega (arith, c.requires.0.few, c.requires.1)
 
 pub bounds-taken-t : goal.bounds-taken-t
 bounds-taken-t c = let only = (c.forced-t.ensures (c.forced-t.result - 1)).0 (let n = c.if-t-ne0.true in omega arith) in omega (arith, only.0, c.requires.2)
@@ -18,12 +14,6 @@ returns-then-t-ne0 c = let a = c.args in
 pub returns-then-on_one_half : goal.returns-then-on_one_half
 returns-then-on_one_half c = let a = c.args in
     (let h = c.requires.3 in omega arith, guards-half a.parts.now a.standing.now a.atoms.now a.n a.side a.row a.taken.now a.breaking c.requires.4 (c.on_one_half.ensures c.if-on_one_half.true))
-
-pub guard-requires : goal.guard-requires
-guard-requires c = (omega (arith, c.requires.0.few, c.requires.1), c.requires.2, c.requires.4.room)
-
-pub overflow_add-result : goal.overflow_add-result
-overflow_add-result c = omega (arith, c.requires.0.few, c.requires.1, c.requires.3)
 
 pub returns : goal.returns
 returns c = let a = c.args in

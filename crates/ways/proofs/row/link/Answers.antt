@@ -1,21 +1,9 @@
 -- The number that the row has, from 1.
-use Rattle.std.proofs.Common.{◌<◌, sym, subst, arith}
+use Rattle.std.proofs.Common.{sym, subst, arith}
 use Rattle.rows.specs.Limits.{sheet_link_limit}
 use Rattle.placing.specs.Net.{Range}
 use Rattle.ways.proofs.Steps.{row-few, place-range}
 use Rattle.ways.proofs.row.link.Goals as goal
-
-pub overflow_mul-row : goal.overflow_mul-row
-overflow_mul-row c = omega (arith, c.requires.0.few, c.requires.1)
-
-pub overflow_add-k : goal.overflow_add-k
-overflow_add-k c = omega (arith, row-few c.args.parts.now c.args.n c.args.row c.requires.0 c.requires.1, c.requires.2)
-
-pub overflow_add-row : goal.overflow_add-row
-overflow_add-row c = omega (arith, row-few c.args.parts.now c.args.n c.args.row c.requires.0 c.requires.1, c.requires.0.few, c.requires.1, c.requires.2)
-
-pub offset_bounds-parts-row : goal.offset_bounds-parts-row
-offset_bounds-parts-row c = omega (arith, row-few c.args.parts.now c.args.n c.args.row c.requires.0 c.requires.1, c.requires.0.few, c.requires.1, c.requires.2)
 
 pub bounds-parts-row : goal.bounds-parts-row
 bounds-parts-row c = omega (arith, row-few c.args.parts.now c.args.n c.args.row c.requires.0 c.requires.1, c.requires.0.few, c.requires.1, c.requires.2)

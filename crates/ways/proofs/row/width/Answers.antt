@@ -4,7 +4,4 @@ use Rattle.ways.proofs.Steps.{row-few}
 use Rattle.ways.proofs.row.width.Goals as goal
 
 pub returns : goal.returns
-returns c = let s = c in
-    let r = row-few s.args.parts.now s.args.n s.args.row s.requires.0 s.requires.1 in
-    let e = c.wide.ensures.0 in
-    (e, omega arith)
+returns c = let r = row-few c.args.parts.now c.args.n c.args.row c.requires.0 c.requires.1 in let e = c.wide.ensures.0 in (e, omega arith)

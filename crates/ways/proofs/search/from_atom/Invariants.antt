@@ -1,8 +1,7 @@
 -- No index leaves its array.
 use Rattle.std.proofs.Common.{◌≤◌}
-use Rattle.rows.specs.Format.{most_links}
 use Rattle.ways.specs.Flow.{state_count}
 use Rattle.ways.proofs.search.from_atom.Given as goal
 
 abbrev pub invariant-loop-k : goal.invariant-loop-k
-invariant-loop-k l = (l.k ≤ most_links) × (l.next ≤ state_count)
+invariant-loop-k l = l.next ≤ state_count

@@ -1,6 +1,6 @@
-use Rattle.std.proofs.Common.{◌≡◌, ◌-◌, ◌≤◌, length, replicate, refl, add-one, arith, rules}
+-- Nothing is seen, and nothing found.
+use Rattle.std.proofs.Common.{replicate, refl, arith}
 use Rattle.rows.specs.Limits.{sheet_atom_limit, sheet_link_limit}
-use Rattle.ways.specs.Trails.{trail_room, FoundIn}
 use Rattle.ways.proofs.Trails.{laid_none}
 use Rattle.ways.proofs.trail.ways.Goals as goal
 

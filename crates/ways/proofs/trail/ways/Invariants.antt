@@ -1,8 +1,7 @@
 -- Invariant: the ways so far.
-use Rattle.std.proofs.Common.{◌≡◌, ◌-◌, ◌≤◌, length, replicate, refl, add-one, arith, rules}
+use Rattle.std.proofs.Common.{◌≡◌, ◌-◌, ◌≤◌, length}
 use Rattle.rows.specs.Limits.{sheet_atom_limit, sheet_link_limit}
 use Rattle.ways.specs.Trails.{trail_room, FoundIn}
-use Rattle.ways.proofs.Trails.{laid_none}
 use Rattle.ways.proofs.trail.ways.Given as goal
 
 abbrev pub invariant-loop-at : goal.invariant-loop-at
