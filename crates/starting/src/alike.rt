@@ -46,25 +46,15 @@ fn echoes_all(here: Atom, there: Atom) -> bool
 fn is_again(atom: Atom, k: usize) -> bool
     requires { k < most_links }
 {
-    for h in 0..k {
-        if atom.links[h] == atom.links[k] {
-            return true;
-        }
-    }
-    false
+    let link = atom.links[k];
+    atom.links[..k].contains(&link)
 }
 
 // Whether an atom has a link at two places.
 fn repeats(atom: Atom) -> bool
     requires { Used sheet_link_limit atom.count atom.links }
 {
-    let count = atom.count as usize;
-    for k in 0..count {
-        if is_again(atom, k) {
-            return true;
-        }
-    }
-    false
+    (0..atom.count as usize).any(|k| is_again(atom, k))
 }
 
 // Whether sheet atom t may be like the figure atom `here`: the same name, as many links, and equal links where the

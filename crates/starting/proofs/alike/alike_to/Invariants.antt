@@ -6,4 +6,4 @@ use Rattle.starting.specs.Steps.{Alike}
 use Rattle.starting.proofs.alike.alike_to.Given as goal
 
 abbrev pub invariant-loop-t : goal.invariant-loop-t
-invariant-loop-t l = (l.t ≤ l.n) × ((u : ℕ) → u < l.t → Alike l.here (laid_atom l.sheet u) → In l.row u)
+invariant-loop-t l = (u : ℕ) → u < l.t → Alike l.here (laid_atom l.sheet u) → In l.row u

@@ -9,4 +9,4 @@ use Rattle.starting.specs.Steps.{Alike}
 use Rattle.starting.proofs.alike.start_atoms.Given as goal
 
 abbrev pub invariant-loop-i : goal.invariant-loop-i
-invariant-loop-i l = (l.i ≤ l.m) × (length l.atoms ≡ sheet_atom_limit) × ((j u : ℕ) → j < l.i → u < l.n → Alike (laid_atom l.figure j) (laid_atom l.sheet u) → AtomIn l.atoms j u)
+invariant-loop-i l = (length l.atoms ≡ sheet_atom_limit) × ((j u : ℕ) → j < l.i → u < l.n → Alike (laid_atom l.figure j) (laid_atom l.sheet u) → AtomIn l.atoms j u)

@@ -4,4 +4,4 @@ use Rattle.starting.specs.Steps.{PortsCleared}
 use Rattle.starting.proofs.profile.closed_links.Given as goal
 
 abbrev pub invariant-loop-i : goal.invariant-loop-i
-invariant-loop-i l = (l.i ≤ l.n) × PortsCleared l.contexts l.i l.closed
+invariant-loop-i l = PortsCleared l.contexts l.i l.closed

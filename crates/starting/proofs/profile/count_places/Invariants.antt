@@ -12,4 +12,4 @@ use Rattle.starting.proofs.Tallies.{counted_next, tally-next}
 use Rattle.starting.proofs.profile.count_places.Given as goal
 
 abbrev pub invariant-loop-k : goal.invariant-loop-k
-invariant-loop-k l = (l.k ≤ l.count) × Tally l.counts (l.n + l.k) × ((x : ℕ) → x < sheet_link_limit → get_or l.counts x 0 ≡ get_or l.initial.counts x 0 + times (x + 1) (take l.k l.atom.links))
+invariant-loop-k l = Tally l.counts (l.n + l.k) × ((x : ℕ) → x < sheet_link_limit → get_or l.counts x 0 ≡ get_or l.initial.counts x 0 + times (x + 1) (take l.k l.atom.links))

@@ -9,4 +9,4 @@ use Rattle.starting.proofs.Marking.{mark-found, mark-nowhere}
 use Rattle.starting.proofs.profile.link_of.Given as goal
 
 abbrev pub invariant-loop-p : goal.invariant-loop-p
-invariant-loop-p l = (l.p ≤ l.n) × ((q : ℕ) → q < l.p → get_or l.marks q 0 ≡ l.m → ⊥)
+invariant-loop-p l = (q : ℕ) → q < l.p → get_or l.marks q 0 ≡ l.m → ⊥

@@ -18,4 +18,4 @@ use Rattle.starting.proofs.Tallies.{rows-counted}
 use Rattle.starting.proofs.profile.place_counts.Given as goal
 
 abbrev pub invariant-loop-i : goal.invariant-loop-i
-invariant-loop-i l = (l.i ≤ l.n) × Tally l.counts (l.i * most_links) × ((net : NormalForm) → LaidOut net l.laid l.n → (x : ℕ) → x < sheet_link_limit → get_or l.counts x 0 ≡ count (x + 1) (cell_links (map atom_in (take l.i net.atoms))))
+invariant-loop-i l = Tally l.counts (l.i * most_links) × ((net : NormalForm) → LaidOut net l.laid l.n → (x : ℕ) → x < sheet_link_limit → get_or l.counts x 0 ≡ count (x + 1) (cell_links (map atom_in (take l.i net.atoms))))

@@ -6,4 +6,4 @@ use Rattle.starting.specs.Steps.{Enough}
 use Rattle.starting.proofs.start.enough_links.Given as goal
 
 abbrev pub invariant-loop-y : goal.invariant-loop-y
-invariant-loop-y l = (l.y ≤ l.n) × ((v : ℕ) → v < l.y → Enough l.closed l.wanted (get_or l.counts v 0) → InPair l.pair v)
+invariant-loop-y l = (v : ℕ) → v < l.y → Enough l.closed l.wanted (get_or l.counts v 0) → InPair l.pair v

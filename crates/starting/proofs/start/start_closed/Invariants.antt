@@ -13,4 +13,4 @@ use Rattle.starting.proofs.Marking.{mark-back}
 use Rattle.starting.proofs.start.start_closed.Given as goal
 
 abbrev pub invariant-loop-q : goal.invariant-loop-q
-invariant-loop-q l = (l.q ≤ l.n) × ((sheet figure : NormalForm) → MarksIn sheet l.marks l.marked l.n → MarksIn figure l.figure_marks l.figure_marked l.m → LinksStay l.initial.links l.links (λ x y. get_or l.closed x 0 ≡ 1 → MarksBack sheet figure x y))
+invariant-loop-q l = (sheet figure : NormalForm) → MarksIn sheet l.marks l.marked l.n → MarksIn figure l.figure_marks l.figure_marked l.m → LinksStay l.initial.links l.links (λ x y. get_or l.closed x 0 ≡ 1 → MarksBack sheet figure x y)

@@ -13,4 +13,4 @@ use Rattle.starting.proofs.Marking.{mark_on}
 use Rattle.starting.proofs.start.start_marks.Given as goal
 
 abbrev pub invariant-loop-p : goal.invariant-loop-p
-invariant-loop-p l = (l.p ≤ l.m) × ((sheet figure : NormalForm) → MarksIn sheet l.marks l.marked l.n → MarksIn figure l.figure_marks l.figure_marked l.m → LinksStay l.initial.links l.links (MarksOn sheet figure))
+invariant-loop-p l = (sheet figure : NormalForm) → MarksIn sheet l.marks l.marked l.n → MarksIn figure l.figure_marks l.figure_marked l.m → LinksStay l.initial.links l.links (MarksOn sheet figure)

@@ -8,4 +8,4 @@ use Rattle.starting.specs.Steps.{Enough}
 use Rattle.starting.proofs.start.start_places.Given as goal
 
 abbrev pub invariant-loop-x : goal.invariant-loop-x
-invariant-loop-x l = (l.x ≤ l.m) × (length l.links ≡ sheet_link_limit * 2) × ((z y : ℕ) → z < l.x → y < l.n → Enough (get_or l.closed z 0) (get_or l.wanted z 0) (get_or l.counts y 0) → LinkIn l.links z y)
+invariant-loop-x l = (length l.links ≡ sheet_link_limit * 2) × ((z y : ℕ) → z < l.x → y < l.n → Enough (get_or l.closed z 0) (get_or l.wanted z 0) (get_or l.counts y 0) → LinkIn l.links z y)
