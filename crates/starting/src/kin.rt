@@ -43,9 +43,7 @@ pub fn kin_of(
     let mut labels = [0u16; Sheet::LINKS];
     step_labels(&mut labels, &together, contexts, rows, links);
     let mut kin = [0u16; KIN];
-    for x in 0..Sheet::LINKS {
-        kin[x] = labels[x];
-    }
+    kin[..Sheet::LINKS].copy_from_slice(&labels);
     kin[Sheet::LINKS] = last_link(parts, m);
     kin
 }
