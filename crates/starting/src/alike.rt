@@ -18,14 +18,12 @@ fn echoes(here: Atom, there: Atom, k: usize) -> bool
     requires { k < most_links }
     ensures { Echoes here there k → result ≡ true }
 {
-    let mut h = 0;
-    while h < k {
+    for h in 0..k {
         if here.links[h] == here.links[k] {
             if there.links[h] != there.links[k] {
                 return false;
             }
         }
-        h += 1;
     }
     true
 }
@@ -36,12 +34,10 @@ fn echoes_all(here: Atom, there: Atom) -> bool
     ensures { ((k : ℕ) → k < here.count → Echoes here there k) → result ≡ true }
 {
     let count = here.count as usize;
-    let mut k = 0;
-    while k < count {
+    for k in 0..count {
         if !echoes(here, there, k) {
             return false;
         }
-        k += 1;
     }
     true
 }
@@ -50,29 +46,15 @@ fn echoes_all(here: Atom, there: Atom) -> bool
 fn is_again(atom: Atom, k: usize) -> bool
     requires { k < most_links }
 {
-    let mut h = 0;
-    while h < k {
-        if atom.links[h] == atom.links[k] {
-            return true;
-        }
-        h += 1;
-    }
-    false
+    let link = atom.links[k];
+    atom.links[..k].contains(&link)
 }
 
 // Whether an atom has a link at two places.
 fn repeats(atom: Atom) -> bool
     requires { Used sheet_link_limit atom.count atom.links }
 {
-    let count = atom.count as usize;
-    let mut k = 0;
-    while k < count {
-        if is_again(atom, k) {
-            return true;
-        }
-        k += 1;
-    }
-    false
+    (0..atom.count as usize).any(|k| is_again(atom, k))
 }
 
 // Whether sheet atom t may be like the figure atom `here`: the same name, as many links, and equal links where the
@@ -102,12 +84,10 @@ fn alike_to(sheet: &[u16; LAID], n: usize, here: Atom) -> u64
 {
     let twice = repeats(here);
     let mut row = 0u64;
-    let mut t = 0;
-    while t < n {
+    for t in 0..n {
         if alike(sheet, t, here, twice) {
             row = row | one(t);
         }
-        t += 1;
     }
     row
 }
@@ -123,10 +103,8 @@ pub(crate) fn start_atoms<'a>(
     requires { Rowed sheet.now n × Rowed figure.now m × (length atoms.old ≡ sheet_atom_limit) }
     ensures { (i t : ℕ) → i < m → t < n → Alike (laid_atom figure.now i) (laid_atom sheet.now t) → AtomIn atoms.new i t }
 {
-    let mut i = 0;
-    while i < m {
+    for i in 0..m {
         let here = laid_atom(figure, i);
         atoms[i] = alike_to(sheet, n, here);
-        i += 1;
     }
 }

@@ -16,17 +16,13 @@ fn last_link(parts: &[u16; LAID], m: usize) -> u16
     requires { m ≤ sheet_atom_limit }
 {
     let mut last = 0u16;
-    let mut i = 0;
-    while i < m {
-        let mut k = 2;
-        while k < Sheet::FIELDS {
+    for i in 0..m {
+        for k in 2..Sheet::FIELDS {
             let x = parts[i * Sheet::FIELDS + k];
             if last < x {
                 last = x;
             }
-            k += 1;
         }
-        i += 1;
     }
     last
 }
@@ -47,11 +43,7 @@ pub fn kin_of(
     let mut labels = [0u16; Sheet::LINKS];
     step_labels(&mut labels, &together, contexts, rows, links);
     let mut kin = [0u16; KIN];
-    let mut x = 0;
-    while x < Sheet::LINKS {
-        kin[x] = labels[x];
-        x += 1;
-    }
+    kin[..Sheet::LINKS].copy_from_slice(&labels);
     kin[Sheet::LINKS] = last_link(parts, m);
     kin
 }

@@ -25,11 +25,9 @@ fn count_places(atom: Atom, counts: &mut [u16; Sheet::LINKS], n: usize)
     ensures { Tally counts.new (n + most_links) × ((x : ℕ) → x < sheet_link_limit → get_or counts.new x 0 ≡ get_or counts.old x 0 + count (x + 1) (take atom.count atom.links)) }
 {
     let count = atom.count as usize;
-    let mut k = 0;
-    while k < count {
+    for k in 0..count {
         let x = atom.links[k] as usize;
         counts[x - 1] += 1;
-        k += 1;
     }
 }
 
@@ -38,11 +36,9 @@ pub(crate) fn place_counts(laid: &[u16; LAID], n: usize, counts: &mut [u16; Shee
     requires { Rowed laid.now n × Tally counts.old 0 }
     ensures { (net : NormalForm) → LaidOut net laid.now n → (x : ℕ) → x < sheet_link_limit → get_or counts.new x 0 ≡ places_of net x }
 {
-    let mut i = 0;
-    while i < n {
+    for i in 0..n {
         let atom = laid_atom(laid, i);
         count_places(atom, counts, i * Sheet::MOST_LINKS);
-        i += 1;
     }
 }
 
@@ -70,12 +66,10 @@ pub(crate) fn closed_links(
     requires { (links : ℕ) × Ports contexts n links }
     ensures { PortsCleared contexts n closed.new }
 {
-    let mut i = 0;
-    while i < n {
+    for i in 0..n {
         let context = contexts[i];
         let links = context.links;
         clear_links(links, closed);
-        i += 1;
     }
 }
 
@@ -90,12 +84,10 @@ pub(crate) fn link_of<'a>(
     ensures within { result ≤ sheet_link_limit }
     ensures found { (net : NormalForm) → MarksIn net marks.now marked.now n → (x : ℕ) → (x, m) ∈ (net_in net).marks → x ≡ result }
 {
-    let mut p = 0;
-    while p < n {
+    for p in 0..n {
         if marks[p] == m {
             return marked[p] as usize;
         }
-        p += 1;
     }
     0
 }

@@ -38,13 +38,11 @@ fn enough_links(closed: u8, wanted: u16, counts: &[u16; Sheet::LINKS], n: usize)
     ensures { (y : ℕ) → y < n → Enough closed wanted (get_or counts.now y 0) → InPair result y }
 {
     let mut pair = [0u64; 2];
-    let mut y = 0;
-    while y < n {
+    for y in 0..n {
         if enough(closed, wanted, counts[y]) {
             let more = with(pair, y);
             pair = more;
         }
-        y += 1;
     }
     pair
 }
@@ -61,11 +59,9 @@ fn start_places<'a>(
     requires { (m ≤ sheet_link_limit) × (n ≤ sheet_link_limit) × (length links.old ≡ sheet_link_limit * 2) }
     ensures { (x y : ℕ) → x < m → y < n → Enough (get_or closed.now x 0) (get_or wanted.now x 0) (get_or counts.now y 0) → LinkIn links.new x y }
 {
-    let mut x = 0;
-    while x < m {
+    for x in 0..m {
         let pair = enough_links(closed[x], wanted[x], counts, n);
         set_pair(links, x, pair);
-        x += 1;
     }
 }
 
@@ -96,12 +92,10 @@ fn start_marks<'a>(
     requires { MarkLinks marked.now n × MarkLinks figure_marked.now m }
     ensures { (sheet figure : NormalForm) → MarksIn sheet marks.now marked.now n → MarksIn figure figure_marks.now figure_marked.now m → LinksStay links.old links.new (MarksOn sheet figure) }
 {
-    let mut p = 0;
-    while p < m {
+    for p in 0..m {
         let x = figure_marked[p] as usize;
         let y = link_of(marks, marked, n, figure_marks[p]);
         only_link(x, y, links);
-        p += 1;
     }
 }
 
@@ -117,15 +111,13 @@ fn only_closed(
     ensures { LinksStay links.old links.new (λ z v. v ≡ y - 1 → get_or closed.now z 0 ≡ 1 → z + 1 ≡ x) }
 {
     let only = with([0u64; 2], y - 1);
-    let mut z = 0;
-    while z < c {
+    for z in 0..c {
         if closed[z] == 1 {
             if z + 1 != x {
                 let before = pair_at(links, z);
                 set_pair(links, z, without(before, only));
             }
         }
-        z += 1;
     }
 }
 
@@ -144,12 +136,10 @@ fn start_closed<'a>(
     requires { MarkLinks marked.now n × MarkLinks figure_marked.now m × (c ≤ sheet_link_limit) }
     ensures { (sheet figure : NormalForm) → MarksIn sheet marks.now marked.now n → MarksIn figure figure_marks.now figure_marked.now m → LinksStay links.old links.new (λ x y. get_or closed.now x 0 ≡ 1 → MarksBack sheet figure x y) }
 {
-    let mut q = 0;
-    while q < n {
+    for q in 0..n {
         let y = marked[q] as usize;
         let x = link_of(figure_marks, figure_marked, m, marks[q]);
         only_closed(x, y, c, closed, links);
-        q += 1;
     }
 }
 

@@ -1,5 +1,5 @@
--- The guarded links, gathered figure link by figure link, and as flags.
-use Rattle.std.proofs.Common.{◌≡◌, ℕ, ◌+◌, ◌-◌, ◌*◌, ◌%◌, ◌^◌, ◌<◌, List, [], ◌∷◌, length, get_or, set, sym, ap, ◌∙◌, subst, arith, get_or-set_other, get_or-set_same}
+-- The guarded links, gathered figure link by figure link.
+use Rattle.std.proofs.Common.{◌≡◌, ℕ, ◌+◌, ◌-◌, ◌*◌, ◌%◌, ◌^◌, ◌<◌, List, [], ◌∷◌, get_or, sym, ◌∙◌, subst, arith}
 use native.Mathlib.Decide.{ℕ_discrete}
 use lib.Bits.{bit_or, and_mask}
 use Rattle.rows.specs.Limits.{sheet_link_limit}
@@ -7,15 +7,6 @@ use Rattle.candidates.specs.Words.{word_digits, In, InPair}
 use Rattle.candidates.proofs.Digits.{and_in, in-or-left, in-or-right, alone-in, shifted}
 use Rattle.candidates.proofs.Halves.{by-half, in_pair}
 use Rattle.ways.specs.Nodes.{GuardsLink, GuardsLinksTo}
-
--- One more flag.
-pub spread-more : (pair flags : List ℕ) (y v : ℕ) → y < length flags → ((z : ℕ) → z < y → InPair pair z → get_or flags z 0 ≡ 1) → (InPair pair y → v ≡ 1)
-    → (z : ℕ) → z < y + 1 → InPair pair z → get_or (set flags y v) z 0 ≡ 1
-spread-more pair flags y v room before here z h i = go (ℕ_discrete z y)
-  where
-    go : Dec (z ≡ y) → get_or (set flags y v) z 0 ≡ 1
-    go (yes e) = ap (λ (k : ℕ). get_or (set flags y v) k 0) e ∙ get_or-set_same flags y v 0 room ∙ here (subst (InPair pair) e i)
-    go (no d) = get_or-set_other flags y z v 0 d ∙ before z (omega arith) i
 
 -- The word of all numbers has each.
 all_in : (t : ℕ) → t < word_digits → In (2 ^ word_digits - 1) t
@@ -41,9 +32,6 @@ module _ (low high : ℕ) (pair : List ℕ) (y : ℕ) (h : y < sheet_link_limit)
       (in-or-right low (get_or pair 0 0) (y % word_digits)) (in-or-right high (get_or pair 1 0) (y % word_digits))
 
 module _ (sets opens words flags : List ℕ) (side : ℕ) where
-  pub links-none : (pair : List ℕ) → GuardsLinksTo sets opens words flags side 0 pair
-  links-none pair x h = absurd (omega arith)
-
   -- One more figure link.
   pub links-more : (x low high : ℕ) (pair : List ℕ) → GuardsLinksTo sets opens words flags side x (low ∷ high ∷ []) → GuardsLink sets opens words flags side pair x
       → GuardsLinksTo sets opens words flags side (x + 1) (bit_or low (get_or pair 0 0) ∷ bit_or high (get_or pair 1 0) ∷ [])

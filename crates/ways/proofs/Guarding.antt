@@ -1,14 +1,14 @@
 -- The sheet atoms that figure atoms take or may take, row by row.
-use Rattle.std.proofs.Common.{◌≡◌, ℕ, suc, ◌+◌, ◌<◌, ◌≤◌, List, [], ◌∷◌, length, get_or, set, sym, refl, ap, ◌∙◌, subst, inl, inr, arith, length-set, get_or-set_other, get_or-set_same}
+use Rattle.std.proofs.Common.{◌≡◌, ℕ, suc, ◌+◌, ◌<◌, ◌≤◌, List, ◌∷◌, length, get_or, set, sym, refl, ap, ◌∙◌, subst, inl, inr, arith, length-set, get_or-set_other, get_or-set_same}
 use mathlib.Core.List.Memᴰ
-use native.Mathlib.Decide.{ℕ_discrete, dec_lt}
+use native.Mathlib.Decide.{ℕ_discrete}
 use Rattle.hyperlmntal.specs.Link.{◌∈◌}
 use Rattle.rows.specs.Limits.{sheet_atom_limit}
-use Rattle.candidates.specs.Forced.{FirstFrom, Only}
+use Rattle.candidates.specs.Forced.{Only}
 use Rattle.ways.specs.Nodes.{RowOnOneHalf, Guarded, StaysGuarded, GuardedTo, Guards, GuardsTo, Shut}
 
 -- A flag is stored, and what was taken stays so.
-pub stays-stored : (was now : List ℕ) (t v : ℕ) → t < length now → (get_or now t 0 ≡ 1 → v ≡ 1) → Guarded v → StaysGuarded was now → StaysGuarded was (set now t v)
+stays-stored : (was now : List ℕ) (t v : ℕ) → t < length now → (get_or now t 0 ≡ 1 → v ≡ 1) → Guarded v → StaysGuarded was now → StaysGuarded was (set now t v)
 stays-stored was now t v h one g s u = go (ℕ_discrete u t)
   where
     go : Dec (u ≡ t) → (get_or was u 0 ≡ 1 → get_or (set now t v) u 0 ≡ 1) × (Guarded (get_or was u 0) → Guarded (get_or (set now t v) u 0))
@@ -16,31 +16,14 @@ stays-stored was now t v h one g s u = go (ℕ_discrete u t)
         (λ w. q ∙ one (ap (λ (i : ℕ). get_or now i 0) (sym e) ∙ (s u).0 w), λ w. subst Guarded (sym q) g)
     go (no d) = (λ w. get_or-set_other now t u v 0 d ∙ (s u).0 w, λ w. subst Guarded (sym (get_or-set_other now t u v 0 d)) ((s u).1 w))
 
-pub stays_same : (was : List ℕ) → StaysGuarded was was
+stays_same : (was : List ℕ) → StaysGuarded was was
 stays_same was t = (λ e. e, λ g. g)
-
-module _ (atoms : List ℕ) (i : ℕ) where
-  -- Nothing is below the first place.
-  pub guarded-first : (taken : List ℕ) (t : ℕ) → FirstFrom (get_or atoms i 0) 0 t → GuardedTo atoms i taken t
-  guarded-first taken t f u h m = absurd (f.passed u (omega arith) h m)
-
-  -- Place t is guarded, and t' is the first after it.
-  pub guarded-next : (taken : List ℕ) (t v t' : ℕ) → t < length taken → (get_or taken t 0 ≡ 1 → v ≡ 1) → Guarded v → FirstFrom (get_or atoms i 0) (t + 1) t' → GuardedTo atoms i taken t → GuardedTo atoms i (set taken t v) t'
-  guarded-next taken t v t' h one g f to u l m = go (ℕ_discrete u t) (dec_lt u t)
-    where
-      go : Dec (u ≡ t) → Dec (u < t) → Guarded (get_or (set taken t v) u 0)
-      go (yes e) d = subst Guarded (sym (ap (λ (k : ℕ). get_or (set taken t v) k 0) e ∙ get_or-set_same taken t v 0 h)) g
-      go (no n) (yes k) = subst Guarded (sym (get_or-set_other taken t u v 0 n)) (to u k m)
-      go (no n) (no k) = absurd (f.passed u (omega arith) l m)
 
 module _ (parts words atoms : List ℕ) (n side : ℕ) where
   guards-kept : (taken now breaking more : List ℕ) (i : ℕ) → StaysGuarded taken now → (suc i ∈ breaking → suc i ∈ more) → Guards parts words atoms n side taken breaking i → Guards parts words atoms n side now more i
   guards-kept taken now breaking more i s k (inl t) = inl (t.0, t.1, (s t.0).0 t.2)
   guards-kept taken now breaking more i s k (inr (inl t)) = inr (inl t)
   guards-kept taken now breaking more i s k (inr (inr t)) = inr (inr (k t.0, λ u h m. (s u).1 (t.1 u h m)))
-
-  pub guards_none : (taken : List ℕ) → length taken ≡ sheet_atom_limit → GuardsTo parts words atoms n side 0 taken 0
-  guards_none taken room = record { room = room; breaking = []; number = refl; each = λ i h. absurd (omega arith) }
 
   module _ (c : ℕ) (taken : List ℕ) (r : ℕ) (g : GuardsTo parts words atoms n side c taken r) where
     guards_more : (now more : List ℕ) (m : ℕ) → length now ≡ sheet_atom_limit → length more ≡ m → StaysGuarded taken now → ((i : ℕ) → suc i ∈ g.breaking → suc i ∈ more) → Guards parts words atoms n side now more c
@@ -74,16 +57,3 @@ module _ (parts words atoms : List ℕ) (n side : ℕ) where
 pub record ShutTo (was now : List ℕ) (t : ℕ) : Type 0 where
   pub shut : Shut t was now
   pub same : (u : ℕ) → t ≤ u → get_or now u 0 ≡ get_or was u 0
-
-pub shut_none : (was : List ℕ) → ShutTo was was 0
-shut_none was = record { shut = λ u h. absurd (omega arith); same = λ u h. refl }
-
-pub shut-next : (was now : List ℕ) (t v : ℕ) → ShutTo was now t → t < length now → (Guarded (get_or now t 0) → v ≡ 1) → ShutTo was (set now t v) (t + 1)
-shut-next was now t v s h one = record { shut = shut; same = λ u l. get_or-set_other now t u v 0 (λ e. absurd (omega arith)) ∙ s.same u (omega arith) }
-  where
-    shut : Shut (t + 1) was (set now t v)
-    shut u l g = go (ℕ_discrete u t)
-      where
-        go : Dec (u ≡ t) → get_or (set now t v) u 0 ≡ 1
-        go (yes e) = ap (λ (k : ℕ). get_or (set now t v) k 0) e ∙ get_or-set_same now t v 0 h ∙ one (subst Guarded (sym (s.same t (omega arith))) (subst (λ (k : ℕ). Guarded (get_or was k 0)) e g))
-        go (no d) = get_or-set_other now t u v 0 d ∙ s.shut u (omega arith) g

@@ -2,7 +2,7 @@
 use Rattle.std.proofs.Common.{◌≡◌, ℕ, suc, ◌+◌, ◌<◌, ◌≤◌, ◌≢◌, List, get_or, take, sym, refl, ap, ◌∙◌, subst, arith}
 use Rattle.hyperlmntal.specs.Link.{◌∈◌}
 use Rattle.rows.specs.Format.{most_links}
-use Rattle.rows.specs.Limits.{sheet_atom_limit, sheet_link_limit}
+use Rattle.rows.specs.Limits.{sheet_link_limit}
 use Rattle.rows.specs.declared.Atom.{Atom}
 use Rattle.rows.specs.declared.Sheet.{Sheet as NormalForm}
 use Rattle.placing.specs.Net.{Range}
@@ -40,14 +40,6 @@ module _ (laid : List ℕ) (atoms row : ℕ) (rowed : Rowed laid atoms) (h : row
       into-link = let u : z + 1 ≡ suc z = omega arith in e ∙ u;
     },
   )
-
--- 0 is no step.
-pub no_step : (laid taken : List ℕ) (atoms j z : ℕ) → (0 ≤ sheet_link_limit) × (◌≢◌ {A = ℕ} 0 0 → LaidStep laid taken atoms 0 j (suc z))
-no_step laid taken atoms j z = (omega arith, λ n. absurd (n refl))
-
--- The row of a step is one of the array.
-pub step_row : {laid taken : List ℕ} {atoms y row z : ℕ} → Rowed laid atoms → LaidStep laid taken atoms y (suc row) z → row < sheet_atom_limit
-step_row rowed s = let e = s.atom in let h = s.atom-in in let f = rowed.few in omega arith
 
 module _ (net : NormalForm) (laid : List ℕ) (atoms : ℕ) (out : LaidOut net laid atoms) (row : ℕ) (h : row < atoms) where
   inside : row < net.atom_count

@@ -4,7 +4,7 @@ use mathlib.Core.List.Memᴰ
 use Rattle.hyperlmntal.specs.Link.{◌∈◌}
 use Rattle.rows.specs.Limits.{sheet_atom_limit, sheet_link_limit}
 use Rattle.completing.specs.Ways.{Route, afterward, links_of, atoms_of, last_link, Walk, Way, Ways}
-use Rattle.ways.specs.Trails.{trail_room, LaidStep, Unflagged, Has, Fresh, AllSeen, Trail, Found, FoundIn, TrailIn, Follows, PassesBack}
+use Rattle.ways.specs.Trails.{trail_room, Unflagged, Has, Fresh, AllSeen, Trail, Found, FoundIn, TrailIn, Follows, PassesBack}
 
 -- ---- what was seen
 
@@ -40,29 +40,14 @@ has-at v l z t = let e : suc z ≡ suc t.0 = t.1 in let f : z ≡ t.0 = omega ar
 
 -- v is stored for a number that did not have it, or something else where P does not hold.
 module _ (v w : ℕ) (now : List ℕ) (z : ℕ) (h : z < length now) (new : get_or now z 0 ≢ v) where
-  pub has-not : ¬ Has v now (suc z)
+  has-not : ¬ Has v now (suc z)
   has-not t = new (has-at v now z t)
 
-  pub has_kept : (y : ℕ) → Has v now y → Has v (set now z w) y
+  has_kept : (y : ℕ) → Has v now y → Has v (set now z w) y
   has_kept y t = (t.0, t.1, get_or-set_other now z t.0 w 0 (λ e. new (subst (λ (i : ℕ). get_or now i 0 ≡ v) e t.2)) ∙ t.2)
 
-  pub has-stored : w ≡ v → Has v (set now z w) (suc z)
+  has-stored : w ≡ v → Has v (set now z w) (suc z)
   has-stored e = (z, refl, get_or-set_same now z w 0 h ∙ e)
-
--- ---- atoms that are passed
-
-module _ (laid taken : List ℕ) (atoms : ℕ) (passed : List ℕ) (z : ℕ) (room : length passed ≡ sheet_atom_limit) where
-  pub not-passed : PassesBack laid taken atoms passed passed z 0
-  not-passed = record { room = room; few = omega arith; kept = λ y h. h; step = λ n. absurd (n refl) }
-
-  pub row-passed : (row r : ℕ) → row < sheet_atom_limit → r ≤ sheet_link_limit → LaidStep laid taken atoms r (suc row) (suc z) → get_or passed row 0 ≢ 2
-      → PassesBack laid taken atoms passed (set passed row (get_or taken row 0)) z r
-  row-passed row r h few s new = record {
-    room = simp length-set room;
-    few = few;
-    kept = has_kept 2 (get_or taken row 0) passed row (omega arith) new;
-    step = λ n. (suc row, s, (λ g. has-not 2 0 passed row (omega arith) new), λ g. has-stored 2 (get_or taken row 0) passed row (omega arith) new (has-at 2 taken row g));
-  }
 
 -- ---- trails and ways
 

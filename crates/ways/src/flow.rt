@@ -73,8 +73,7 @@ fn augment(flow: &mut [u8; FLOW], look: &[u16; LOOK], laid: &[u16; LAID], end: u
 {
     more(flow, ENDED + end);
     let mut state = end;
-    let mut n = 0;
-    while n < STATES {
+    for _ in 0..STATES {
         let from = look[state];
         if from == START {
             more(flow, USES + state % VERTICES);
@@ -84,7 +83,6 @@ fn augment(flow: &mut [u8; FLOW], look: &[u16; LOOK], laid: &[u16; LAID], end: u
             return;
         }
         state = before(flow, laid, wide(from) - 1, state);
-        n += 1;
     }
 }
 
@@ -109,15 +107,13 @@ fn departure(flow: &[u8; FLOW], place: usize) -> usize
     ensures { result < place_count }
 {
     let first = place / Sheet::MOST_LINKS * Sheet::MOST_LINKS;
-    let mut k = 0;
-    while k < Sheet::MOST_LINKS {
+    for k in 0..Sheet::MOST_LINKS {
         let over = flow[first + k];
         if over != 0 {
             if over < OUTWARD {
                 return first + k;
             }
         }
-        k += 1;
     }
     place
 }
@@ -137,9 +133,8 @@ fn lay_way(
     ensures { (at < result) × (result ≤ trail_room) × (length trails.new ≡ trail_room) }
 {
     trails[at] = (end + 1) as u16;
-    let mut next = at + 1;
     let mut z = end;
-    while next < TRAILS {
+    for next in at + 1..TRAILS {
         if sorted[Sheet::LINKS + z] == 1 {
             return next;
         }
@@ -149,9 +144,8 @@ fn lay_way(
         less(flow, from);
         trails[next] = (from * Sheet::MOST_LINKS + into % Sheet::MOST_LINKS) as u16;
         z = link_at(laid, from);
-        next += 1;
     }
-    next
+    TRAILS
 }
 
 // All ways of the flow are laid out, as far as there is room.
@@ -168,17 +162,13 @@ pub(crate) fn lay(
     ensures { length trails.new ≡ trail_room }
 {
     let mut at = 0;
-    let mut z = 0;
-    while z < links {
-        let mut left = flow[ENDED + z];
-        while left != 0 {
+    for z in 0..links {
+        for _ in 0..flow[ENDED + z] {
             if at == TRAILS {
                 return;
             }
             at = lay_way(trails, at, flow, laid, chains, atoms, sorted, z);
-            left -= 1;
         }
-        z += 1;
     }
 }
 
@@ -196,8 +186,7 @@ pub(crate) fn find_ways(
 ) -> bool
     requires { (atoms ≤ sheet_atom_limit) × Falls (node_of atoms 0) chains.now × (links ≤ sheet_link_limit) }
 {
-    let mut n = 0;
-    while n < most {
+    for _ in 0..most {
         let mut look = [0u16; LOOK];
         let end = search(
             &mut look, flow, laid, chains, atoms, links, taken, guarded, sorted,
@@ -206,7 +195,6 @@ pub(crate) fn find_ways(
             return false;
         }
         augment(flow, &look, laid, end - 1);
-        n += 1;
     }
     true
 }

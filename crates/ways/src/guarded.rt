@@ -24,11 +24,9 @@ fn on_one_half(
 {
     let most = width(parts, n, row);
     let mut halves = 3;
-    let mut k = 0;
-    while k < most {
+    for k in 0..most {
         let x = link(parts, n, row, k);
         halves = halves & half_of(standing[x], side);
-        k += 1;
     }
     halves != 0
 }
@@ -96,10 +94,8 @@ pub(crate) fn guard_rows(
     ensures { (result ≤ rows) × GuardsTo parts.now standing.now atoms.now n side rows taken.new result }
 {
     let mut breaking = 0;
-    let mut row = 0;
-    while row < rows {
+    for row in 0..rows {
         breaking = guard_row(taken, breaking, parts, rows, standing, side, atoms, n, row);
-        row += 1;
     }
     breaking
 }
@@ -119,9 +115,7 @@ pub(crate) fn shut(taken: &mut [u8; Sheet::ATOMS], n: usize)
     requires { (n ≤ sheet_atom_limit) × (length taken.old ≡ sheet_atom_limit) }
     ensures { Shut n taken.old taken.new }
 {
-    let mut t = 0;
-    while t < n {
+    for t in 0..n {
         taken[t] = shut_flag(taken[t]);
-        t += 1;
     }
 }

@@ -25,10 +25,8 @@ pub(crate) fn spread(pair: [u64; 2], n: usize) -> [u8; Sheet::LINKS]
     ensures { (y : ℕ) → y < n → InPair pair y → slice_index result y ≡ 1 }
 {
     let mut flags = [0u8; Sheet::LINKS];
-    let mut y = 0;
-    while y < n {
+    for y in 0..n {
         flags[y] = flag_of(pair, y);
-        y += 1;
     }
     flags
 }
@@ -71,12 +69,10 @@ pub(crate) fn guard_links(
 {
     let mut low = 0u64;
     let mut high = 0u64;
-    let mut x = 0;
-    while x < count {
+    for x in 0..count {
         let set = guarded_by(sets, opens, standing, flags, side, x);
         low = low | set[0];
         high = high | set[1];
-        x += 1;
     }
     [low, high]
 }

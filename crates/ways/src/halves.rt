@@ -38,14 +38,12 @@ pub(crate) fn sorted(
     ensures { Sorts standing.now to.now none side count result }
 {
     let mut flags = [0u8; SORTED];
-    let mut x = 0;
-    while x < count {
+    for x in 0..count {
         let y = to[x];
         if y != none {
             let h = half_of(standing[x], side);
             flags[h * Sheet::LINKS + ((y - 1) as usize)] = 1;
         }
-        x += 1;
     }
     flags
 }
@@ -61,14 +59,12 @@ pub(crate) fn crossing(
     ensures { (result ≤ count) × Crossing standing.now flags.now side count result }
 {
     let mut n = 0;
-    let mut x = 0;
-    while x < count {
+    for x in 0..count {
         if flags[x] == 1 {
             if half_of(standing[x], side) == 3 {
                 n += 1;
             }
         }
-        x += 1;
     }
     n
 }

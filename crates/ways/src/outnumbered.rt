@@ -27,8 +27,7 @@ fn ends(sorted: &[u8; SORTED], guarded: [u64; 2], links: usize, h: usize) -> usi
     requires { (links ≤ sheet_link_limit) × (h < 4) }
 {
     let mut n = 0;
-    let mut y = 0;
-    while y < links {
+    for y in 0..links {
         if sorted[h * Sheet::LINKS + y] == 1 {
             if sorted[3 * Sheet::LINKS + y] != 1 {
                 if flag_of(guarded, y) != 1 {
@@ -37,7 +36,6 @@ fn ends(sorted: &[u8; SORTED], guarded: [u64; 2], links: usize, h: usize) -> usi
                 n += 1;
             }
         }
-        y += 1;
     }
     n
 }
@@ -96,10 +94,8 @@ pub(crate) fn contexts(standing: &[u16; Sheet::LINKS], count: usize) -> u16
     ensures { (x : ℕ) → x < count → (t : ℕ) → In (slice_index standing.now x) t → In result t }
 {
     let mut all = 0u16;
-    let mut x = 0;
-    while x < count {
+    for x in 0..count {
         all = all | standing[x];
-        x += 1;
     }
     all
 }

@@ -198,14 +198,12 @@ fn from_atom(
 {
     let width = wide(laid[row * Sheet::FIELDS + 1]);
     let mut next = tail;
-    let mut k = 0;
-    while k < Sheet::MOST_LINKS {
+    for k in 0..Sheet::MOST_LINKS {
         if width <= k {
             return next;
         }
         let place = row * Sheet::MOST_LINKS + k;
         next = to_link(look, next, flow, laid, guarded, sorted, place, second);
-        k += 1;
     }
     next
 }
@@ -269,15 +267,13 @@ fn end_among(look: &[u16; LOOK], sorted: &[u8; SORTED], from: usize, to: usize) 
     requires { to ≤ state_count }
     ensures { result ≤ sheet_link_limit }
 {
-    let mut n = from;
-    while n < to {
+    for n in from..to {
         let state = wide(look[STATES + n]);
         if state < Sheet::LINKS {
             if sorted[2 * Sheet::LINKS + state] == 1 {
                 return state + 1;
             }
         }
-        n += 1;
     }
     0
 }
@@ -298,10 +294,8 @@ pub(crate) fn search(
     ensures { result ≤ sheet_link_limit }
 {
     let mut tail = 0;
-    let mut s = 0;
-    while s < links {
+    for s in 0..links {
         tail = start(look, tail, flow, guarded, sorted, s);
-        s += 1;
     }
     let mut head = 0;
     let mut seen = 0;

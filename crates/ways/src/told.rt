@@ -67,11 +67,9 @@ fn tell_row(
     ensures { (length to.new ≡ sheet_link_limit) × (length flags.new ≡ sheet_link_limit) × (length opens.new ≡ sheet_link_limit) × ((marked : List ℕ) (m : ℕ) → Tells parts.now n marked m sets.now (suc links) to.old flags.old opens.old → Tells parts.now n marked m sets.now (suc links) to.new flags.new opens.new) }
 {
     let most = width(parts, n, row);
-    let mut k = 0;
-    while k < most {
+    for k in 0..most {
         let x = link(parts, n, row, k);
         tell(to, flags, opens, sets, links, x);
-        k += 1;
     }
 }
 
@@ -88,10 +86,8 @@ pub(crate) fn tell_links(
     requires { Rowed parts.now n × (links ≤ sheet_link_limit) × (length to.old ≡ sheet_link_limit) × (length flags.old ≡ sheet_link_limit) × (length opens.old ≡ sheet_link_limit) }
     ensures { (length to.new ≡ sheet_link_limit) × (length flags.new ≡ sheet_link_limit) × (length opens.new ≡ sheet_link_limit) × ((marked : List ℕ) (m : ℕ) → Tells parts.now n marked m sets.now (suc links) to.old flags.old opens.old → Tells parts.now n marked m sets.now (suc links) to.new flags.new opens.new) }
 {
-    let mut row = 0;
-    while row < n {
+    for row in 0..n {
         tell_row(to, flags, opens, sets, links, parts, n, row);
-        row += 1;
     }
 }
 
@@ -108,10 +104,8 @@ pub(crate) fn tell_marks(
     requires { MarkLinks marked.now n × (links ≤ sheet_link_limit) × (length to.old ≡ sheet_link_limit) × (length flags.old ≡ sheet_link_limit) × (length opens.old ≡ sheet_link_limit) }
     ensures { (parts : List ℕ) (m : ℕ) → Tells parts m marked.now n sets.now (suc links) to.old flags.old opens.old → Tells parts m marked.now n sets.now (suc links) to.new flags.new opens.new }
 {
-    let mut p = 0;
-    while p < n {
+    for p in 0..n {
         let x = marked[p] as usize;
         tell(to, flags, opens, sets, links, x - 1);
-        p += 1;
     }
 }

@@ -101,8 +101,7 @@ fn follow(
     ensures { Follows laid.now taken.now atoms guards.now links sorted.now seen.old passed.old seen.new passed.new result }
 {
     let mut z = end;
-    let mut at = from;
-    while at < TRAILS {
+    for at in from..TRAILS {
         if links <= z {
             return 0;
         }
@@ -121,7 +120,6 @@ fn follow(
             return 0;
         }
         z = y - 1;
-        at += 1;
     }
     0
 }
