@@ -1,0 +1,34 @@
+use Rattle.std.proofs.Common.{◌≡◌, ℕ, ◌-◌, ◌%◌, ◌<◌, ◌≤◌, List, length, get_or, sym, ap, ◌∙◌, subst, arith, rules}
+use lib.ListN.{length-replicate}
+use Rattle.rows.specs.Limits.{sheet_link_limit}
+use Rattle.rows.specs.declared.Atom.{Atom}
+use Rattle.rows.specs.declared.Sheet.{Sheet as NormalForm}
+use Rattle.rows.proofs.Padding.{get_d-filled}
+use Rattle.network.specs.NetIn.{net_in, Used}
+use Rattle.network.specs.Sums.{sum_to}
+use Rattle.network.proofs.NetIn.{atoms-length}
+use Rattle.candidates.specs.Laid.{LaidOut}
+use Rattle.colours.specs.Mixed.{word_size}
+use Rattle.colours.proofs.RoundCode.{added, added_next}
+use Rattle.colours.proofs.round.add_all.Goals as goal
+
+pub loop-t-init : goal.loop-t-init
+unfolding sum_to
+loop-t-init c = (search rules, ap length c.requires.1 ∙ length-replicate {A = ℕ} sheet_link_limit 0, λ net o x h. ap (λ (l : List ℕ). get_or l x 0) c.requires.1 ∙ get_d-filled {A = ℕ} 0 sheet_link_limit x)
+
+pub loop-t-preserved : goal.loop-t-preserved
+loop-t-preserved c = let a = c.laid_atom-atom in
+    let d = c in
+    let l = d in
+    let s = l.args in
+    let t = l.loop-t.t in
+    let e = c.add_around.ensures in (
+      search rules,
+      e.0,
+      λ net o x h. e.1 (λ z. sum_to (added (net_in net) s.atoms.now z) t) (l.loop-t.invariant.2 net o) x h ∙ added_next net s.laid.now s.n o s.atoms.now t d.loop-t-test.true a.result a.ensures x,
+    )
+
+pub returns : goal.returns
+returns c = let l = c in
+    let s = l.args in
+    (l.loop-t.invariant.1, λ net o x h links. l.loop-t.invariant.2 net o x h ∙ ap (λ (z : ℕ). sum_to (added (net_in net) s.atoms.now x) z % word_size) (let e : l.loop-t.t ≡ length (net_in net).atoms = omega (arith, atoms-length net o.fit, o.count) in e))

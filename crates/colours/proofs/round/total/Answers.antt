@@ -1,0 +1,36 @@
+use Rattle.std.proofs.Common.{◌≡◌, ℕ, suc, ◌+◌, ◌-◌, ◌%◌, ◌≤◌, List, get_or, refl, ap, ◌∙◌, arith, rules}
+use Rattle.network.specs.Sums.{sum_to}
+use Rattle.colours.specs.Mixed.{word_size}
+use Rattle.colours.specs.Arrays.{held}
+use Rattle.colours.proofs.RoundCode.{sum-next}
+use Rattle.colours.proofs.round.total.Goals as goal
+
+-- the number at a place, counted from 0
+same_place : (l : List ℕ) (t : ℕ) → get_or l t 0 ≡ get_or l (suc t - 1) 0
+same_place l t = ap (λ (i : ℕ). get_or l i 0) (let e : t ≡ suc t - 1 = omega arith in e)
+
+pub loop-t-init : goal.loop-t-init
+unfolding sum_to
+loop-t-init c = (search rules, refl)
+
+pub loop-t-preserved : goal.loop-t-preserved
+loop-t-preserved c = let l = c in
+    let s = l.args in
+    (search rules, sum-next word_size (held s.atoms.now s.links.now).of_atom 0 l.loop-t.t l.loop-t.sum _ c.wrapping_add_u64-sum.result l.loop-t.invariant.1 (same_place s.atoms.now l.loop-t.t) c.wrapping_add_u64-sum.ensures)
+
+pub loop-x-init : goal.loop-x-init
+unfolding sum_to
+loop-x-init c = let l = c in
+    let s = l.args in
+    let f = (held s.atoms.now s.links.now).of_atom in
+    (search rules, l.loop-t.invariant.1 ∙ ap (λ (z : ℕ). (0 + sum_to f z) % word_size) (let e : l.loop-t.t ≡ s.n = omega arith in e) ∙ ap (λ (z : ℕ). z % word_size) (let e : 0 + sum_to f s.n ≡ sum_to f s.n + 0 = omega arith in e))
+
+pub loop-x-preserved : goal.loop-x-preserved
+loop-x-preserved c = let l = c in
+    let s = l.args in
+    (search rules, sum-next word_size (held s.atoms.now s.links.now).of_link (sum_to (held s.atoms.now s.links.now).of_atom s.n) l.loop-x.x l.loop-x.sum _ c.wrapping_add_u64-sum-in-loop-x.result l.loop-x.invariant.1 (same_place s.links.now l.loop-x.x) c.wrapping_add_u64-sum-in-loop-x.ensures)
+
+pub returns : goal.returns
+returns c = let l = c in
+    let s = l.args in
+    l.loop-x.invariant.1 ∙ ap (λ (z : ℕ). (sum_to (held s.atoms.now s.links.now).of_atom s.n + sum_to (held s.atoms.now s.links.now).of_link z) % word_size) (let e : l.loop-x.x ≡ s.c = omega arith in e)
