@@ -7,49 +7,39 @@ use Rattle.colours.specs.Mixed.{word_size, mixing}
 use Rattle.colours.proofs.SumLaws.{around-next}
 use Rattle.colours.proofs.atom.add_around.Goals as goal
 
--- the link at place k
-link-there : (c : goal.In-loop-k) → Range sheet_link_limit (link_of c.args.atom c.loop-k.k)
-link-there c = c.requires.0.numbered c.loop-k.k c.loop-k-test.true
-
 pub loop-k-init : goal.loop-k-init
 unfolding places_at
-loop-k-init c = (search rules, c.requires.1, λ sums h x b. h x b ∙ ap (λ (z : ℕ). z % word_size) (let e : sums x ≡ sums x + 0 = omega arith in e))
+loop-k-init c = (c.requires.1, λ sums h x b. h x b ∙ ap (λ (z : ℕ). z % word_size) (let e : sums x ≡ sums x + 0 = omega arith in e))
 
 pub overflow_cast-x : goal.overflow_cast-x
-overflow_cast-x c = omega (arith, (link-there c.before).1)
+overflow_cast-x c = let t = c.requires.0.numbered c.loop-k.k c.loop-k-test.true in omega (arith, t.0, t.1)
 
 pub overflow_sub-x : goal.overflow_sub-x
-overflow_sub-x c = (link-there c.before.before).0
+overflow_sub-x c = let t = c.requires.0.numbered c.loop-k.k c.loop-k-test.true in omega (arith, t.0, t.1)
 
 pub offset_bounds-around-x : goal.offset_bounds-around-x
-offset_bounds-around-x c = omega (arith, (link-there c.before.before).1)
+offset_bounds-around-x c = let t = c.requires.0.numbered c.loop-k.k c.loop-k-test.true in omega (arith, t.0, t.1)
 
 pub bounds-around-x : goal.bounds-around-x
-bounds-around-x c = omega (arith, (link-there c.before.before.before).0, (link-there c.before.before.before).1)
+bounds-around-x c = let t = c.requires.0.numbered c.loop-k.k c.loop-k-test.true in omega (arith, t.0, t.1)
 
 pub overflow_sub-around : goal.overflow_sub-around
-overflow_sub-around c = (link-there c.before.before.before.before.before).0
+overflow_sub-around c = let t = c.requires.0.numbered c.loop-k.k c.loop-k-test.true in omega (arith, t.0, t.1)
 
 pub offset_bounds-around-x-in-loop-k : goal.offset_bounds-around-x-in-loop-k
-offset_bounds-around-x-in-loop-k c = omega (arith, (link-there c.before.before.before.before.before).1)
+offset_bounds-around-x-in-loop-k c = let t = c.requires.0.numbered c.loop-k.k c.loop-k-test.true in omega (arith, t.0, t.1)
 
 pub bounds-around-x-in-loop-k : goal.bounds-around-x-in-loop-k
-bounds-around-x-in-loop-k c = omega (arith, (link-there c.before.before.before.before.before).0, (link-there c.before.before.before.before.before).1)
+bounds-around-x-in-loop-k c = let t = c.requires.0.numbered c.loop-k.k c.loop-k-test.true in omega (arith, t.0, t.1)
 
 pub loop-k-preserved : goal.loop-k-preserved
-loop-k-preserved c = let d = c in
-    let l = d in
-    let s = l in
-    let links = s.args.atom.links in
-    let more = c.mix-more in (
-      search rules,
-      simp length-set l.loop-k.invariant.1,
-      λ sums h. around-next word_size sums (mixing.at_place s.args.colour) l.loop-k.around links sheet_link_limit l.loop-k.k c.wrapping_add_u64.result l.loop-k.invariant.1 (omega (arith, d.loop-k-test.true, s.requires.0.few, s.requires.0.width)) (link-there d.before.before.before.before.before) (l.loop-k.invariant.2 sums h)
-          (c.wrapping_add_u64.ensures ∙ ap (λ (z : ℕ). (get_or l.loop-k.around (get_or links l.loop-k.k 0 - 1) 0 + z) % word_size) more.ensures),
+loop-k-preserved c = let links = c.args.atom.links in
+    let more = c.mix-more in (simp length-set c.loop-k.invariant.0,
+      λ sums h. around-next word_size sums (mixing.at_place c.args.colour) c.loop-k.around links sheet_link_limit c.loop-k.k c.wrapping_add_u64.result c.loop-k.invariant.0 (omega (arith, c.loop-k-test.true, c.requires.0.few, c.requires.0.width)) (c.requires.0.numbered c.loop-k.k c.loop-k-test.true) (c.loop-k.invariant.1 sums h)
+          (c.wrapping_add_u64.ensures.value ∙ ap (λ (z : ℕ). (get_or c.loop-k.around (get_or links c.loop-k.k 0 - 1) 0 + z) % word_size) more.ensures),
     )
 
 pub returns : goal.returns
-returns c = let l = c in
-    let s = l.args in
-    let e : l.loop-k.k ≡ s.atom.count = omega arith in
-    (l.loop-k.invariant.1, rw e at l.loop-k.invariant.2)
+returns c = let s = c.args in
+    let e : c.loop-k.k ≡ s.atom.count = omega arith in
+    (c.loop-k.invariant.0, rw e at c.loop-k.invariant.1)

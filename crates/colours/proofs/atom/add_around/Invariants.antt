@@ -9,5 +9,5 @@ use Rattle.colours.proofs.SumLaws.{around-next}
 use Rattle.colours.proofs.atom.add_around.Given as goal
 
 abbrev pub invariant-loop-k : goal.invariant-loop-k
-invariant-loop-k l = (l.k ≤ l.count) × (length l.around ≡ sheet_link_limit)
+invariant-loop-k l = (length l.around ≡ sheet_link_limit)
     × ((sums : ℕ → ℕ) → ((x : ℕ) → x < sheet_link_limit → get_or l.initial.around x 0 ≡ sums x % word_size) → (x : ℕ) → x < sheet_link_limit → get_or l.around x 0 ≡ (sums x + places_at (mixing.at_place l.colour) (suc x) 0 (take l.k l.atom.links)) % word_size)

@@ -7,4 +7,4 @@ use Rattle.colours.proofs.MixLaws.{mixed-next}
 use Rattle.colours.proofs.atom.first_colour.Given as goal
 
 abbrev pub invariant-loop-k : goal.invariant-loop-k
-invariant-loop-k l = (l.k ≤ l.atom.count) × (l.colour ≡ mixed_all (mixed (mixed seed l.atom.name) l.size) (map (λ x. first_at x (take l.atom.count l.atom.links)) (take l.k l.atom.links)))
+invariant-loop-k l = l.colour ≡ mixed_all (mixed (mixed seed l.atom.name) l.size) (map (λ x. first_at x (take l.atom.count l.atom.links)) (take l.k l.atom.links))

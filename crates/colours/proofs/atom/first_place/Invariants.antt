@@ -8,4 +8,4 @@ use Rattle.rows.specs.Limits.{sheet_link_limit}
 use Rattle.colours.proofs.atom.first_place.Given as goal
 
 abbrev pub invariant-loop-h : goal.invariant-loop-h
-invariant-loop-h l = (l.h ≤ l.k) × ((g : ℕ) → g < l.h → link_of l.atom g ≢ link_of l.atom l.k)
+invariant-loop-h l = (g : ℕ) → g < l.h → link_of l.atom g ≢ link_of l.atom l.k

@@ -7,9 +7,7 @@ use Rattle.colours.proofs.atom.next_colour.Goals as goal
 
 pub loop-k-init : goal.loop-k-init
 unfolding mixed_all
-loop-k-init c = (search rules, refl)
+loop-k-init c = (refl)
 
 pub loop-k-preserved : goal.loop-k-preserved
-loop-k-preserved c = let l = c in
-    let s = l in
-    (search rules, c.mix-colour.ensures ∙ ap (λ (z : ℕ). mixed z (link_colour s.args.links.now (link_of s.args.atom l.loop-k.k))) l.loop-k.invariant.1 ∙ mixed-next (link_colour s.args.links.now) s.args.before s.args.atom.links l.loop-k.k (omega (arith, c.loop-k-test.true, s.requires.few, s.requires.width)))
+loop-k-preserved c = (c.mix-colour.ensures ∙ ap (λ (z : ℕ). mixed z (link_colour c.args.links.now (link_of c.args.atom c.loop-k.k))) c.loop-k.invariant ∙ mixed-next (link_colour c.args.links.now) c.args.before c.args.atom.links c.loop-k.k (omega (arith, c.loop-k-test.true, c.requires.few, c.requires.width)))

@@ -5,4 +5,4 @@ use Rattle.colours.specs.Arrays.{link_colour}
 use Rattle.colours.proofs.atom.next_colour.Given as goal
 
 abbrev pub invariant-loop-k : goal.invariant-loop-k
-invariant-loop-k l = (l.k ≤ l.count) × (l.colour ≡ mixed_all l.before (map (link_colour l.links) (take l.k l.atom.links)))
+invariant-loop-k l = l.colour ≡ mixed_all l.before (map (link_colour l.links) (take l.k l.atom.links))

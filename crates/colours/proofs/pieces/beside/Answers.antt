@@ -8,20 +8,16 @@ use Rattle.colours.proofs.PieceCode.{Some, some-none, some_more, share-users}
 use Rattle.colours.proofs.pieces.beside.Goals as goal
 
 pub loop-k-init : goal.loop-k-init
-loop-k-init c = (search rules, some-none _)
+loop-k-init c = (some-none _)
 
 pub loop-k-preserved : goal.loop-k-preserved
-loop-k-preserved c = let l = c in
-    (search rules, some_more _ l.loop-k.all c.on_link-all.result l.loop-k.k l.loop-k.invariant.1 c.on_link-all.ensures)
+loop-k-preserved c = (some_more _ c.loop-k.all c.on_link-all.result c.loop-k.k c.loop-k.invariant c.on_link-all.ensures)
 
 pub returns : goal.returns
-returns c = let l = c in
-    let d = l in
-    let s = d in
-    let P : Atom → ℕ → ℕ → Type 0 = λ z h v. Some (λ i x. In (get_or s.args.users.now (i * sheet_link_limit + (link_of z h - 1)) 0) x) most_links v in
-    let e : l.loop-k.k ≡ d.laid_atom-atom.result.count = omega arith in
+returns c = let P : Atom → ℕ → ℕ → Type 0 = λ z h v. Some (λ i x. In (get_or c.args.users.now (i * sheet_link_limit + (link_of z h - 1)) 0) x) most_links v in
+    let e : c.loop-k.k ≡ c.laid_atom-atom.result.count = omega arith in
     λ net o w u.
-    let f : In l.loop-k.all u ↔ Some (P (laid_atom s.args.laid.now s.args.t)) (laid_atom s.args.laid.now s.args.t).count u =
-    subst (λ (z : Atom). In l.loop-k.all u ↔ Some (P z) z.count u) d.laid_atom-atom.ensures (subst (λ (z : ℕ). In l.loop-k.all u ↔ Some (P d.laid_atom-atom.result) z u) e (l.loop-k.invariant.1 u)) in
-    let g = share-users net s.args.laid.now s.args.n o s.args.users.now w s.args.t s.requires.1 u in
+    let f : In c.loop-k.all u ↔ Some (P (laid_atom c.args.laid.now c.args.t)) (laid_atom c.args.laid.now c.args.t).count u =
+    subst (λ (z : Atom). In c.loop-k.all u ↔ Some (P z) z.count u) c.laid_atom-atom.ensures (subst (λ (z : ℕ). In c.loop-k.all u ↔ Some (P c.laid_atom-atom.result) z u) e (c.loop-k.invariant u)) in
+    let g = share-users net c.args.laid.now c.args.n o c.args.users.now w c.args.t c.requires.1 u in
     (λ m. g.0 (f.0 m), λ q. f.1 (g.1 q))

@@ -8,4 +8,4 @@ use Rattle.colours.proofs.PieceCode.{Some}
 use Rattle.colours.proofs.pieces.beside.Given as goal
 
 abbrev pub invariant-loop-k : goal.invariant-loop-k
-invariant-loop-k l = (l.k ≤ l.count) × ((u : ℕ) → In l.all u ↔ Some (λ h v. Some (λ i x. In (get_or l.users (i * sheet_link_limit + (link_of l.atom h - 1)) 0) x) most_links v) l.k u)
+invariant-loop-k l = (u : ℕ) → In l.all u ↔ Some (λ h v. Some (λ i x. In (get_or l.users (i * sheet_link_limit + (link_of l.atom h - 1)) 0) x) most_links v) l.k u

@@ -7,4 +7,4 @@ use Rattle.colours.proofs.PieceCode.{Some}
 use Rattle.colours.proofs.pieces.on_link.Given as goal
 
 abbrev pub invariant-loop-k : goal.invariant-loop-k
-invariant-loop-k l = (l.k ≤ most_links) × ((u : ℕ) → In l.all u ↔ Some (λ h v. In (get_or l.users (h * sheet_link_limit + l.y) 0) v) l.k u)
+invariant-loop-k l = (u : ℕ) → In l.all u ↔ Some (λ h v. In (get_or l.users (h * sheet_link_limit + l.y) 0) v) l.k u

@@ -7,4 +7,4 @@ use Rattle.colours.proofs.SizeCode.{SizedTo}
 use Rattle.colours.proofs.pieces.sizes_of.Given as goal
 
 abbrev pub invariant-loop-t : goal.invariant-loop-t
-invariant-loop-t l = (l.t ≤ l.n) × (length l.sizes ≡ sheet_atom_limit) × ((net : NormalForm) → LaidOut net l.laid l.n → SizedTo net l.n l.sizes l.t)
+invariant-loop-t l = (length l.sizes ≡ sheet_atom_limit) × ((net : NormalForm) → LaidOut net l.laid l.n → SizedTo net l.n l.sizes l.t)

@@ -14,5 +14,5 @@ use Rattle.colours.proofs.RoundCode.{added, added_next}
 use Rattle.colours.proofs.round.add_all.Given as goal
 
 abbrev pub invariant-loop-t : goal.invariant-loop-t
-invariant-loop-t l = (l.t ≤ l.n) × (length l.around ≡ sheet_link_limit)
+invariant-loop-t l = (length l.around ≡ sheet_link_limit)
     × ((net : NormalForm) → LaidOut net l.laid l.n → (x : ℕ) → x < sheet_link_limit → get_or l.around x 0 ≡ sum_to (added (net_in net) l.atoms x) l.t % word_size)

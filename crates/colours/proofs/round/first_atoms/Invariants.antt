@@ -10,5 +10,5 @@ use Rattle.colours.proofs.RoundCode.{Stored, stored-none, stored_next}
 use Rattle.colours.proofs.round.first_atoms.Given as goal
 
 abbrev pub invariant-loop-t : goal.invariant-loop-t
-invariant-loop-t l = (l.t ≤ l.n) × (length l.atoms ≡ sheet_atom_limit)
+invariant-loop-t l = (length l.atoms ≡ sheet_atom_limit)
     × Stored (λ u. mixing.atom_first (laid_atom l.laid u).name (get_or l.initial.atoms u 0) (pattern (take (laid_atom l.laid u).count (laid_atom l.laid u).links))) l.initial.atoms l.atoms l.t

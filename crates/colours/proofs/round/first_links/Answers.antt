@@ -13,49 +13,41 @@ use Rattle.colours.proofs.MarkLaws.{marks-next}
 use lib.Bits.{bit_or}
 use Rattle.colours.proofs.round.first_links.Goals as goal
 
-link-there : (c : goal.In-loop-p) → Range sheet_link_limit (get_or c.args.marked.now c.loop-p.p 0)
-link-there c = c.requires.0.numbered c.loop-p.p c.loop-p-test.true
-
 pub loop-p-init : goal.loop-p-init
 unfolding marks_at joined_marks
-loop-p-init c = (search rules, ap length c.requires.1 ∙ length-replicate {A = ℕ} sheet_link_limit 0, λ net m x h. ap (λ (l : List ℕ). get_or l x 0) c.requires.1 ∙ get_d-filled {A = ℕ} 0 sheet_link_limit x)
+loop-p-init c = (ap length c.requires.1 ∙ length-replicate {A = ℕ} sheet_link_limit 0, λ net m x h. ap (λ (l : List ℕ). get_or l x 0) c.requires.1 ∙ get_d-filled {A = ℕ} 0 sheet_link_limit x)
 
 pub overflow_cast-x : goal.overflow_cast-x
-overflow_cast-x c = omega (arith, (link-there c.before.before).1)
+overflow_cast-x c = let t = c.requires.0.numbered c.loop-p.p c.loop-p-test.true in omega (arith, t.0, t.1)
 
 pub overflow_sub-links : goal.overflow_sub-links
-overflow_sub-links c = (link-there c.before.before).0
+overflow_sub-links c = let t = c.requires.0.numbered c.loop-p.p c.loop-p-test.true in omega (arith, t.0, t.1)
 
 pub offset_bounds-links-x : goal.offset_bounds-links-x
-offset_bounds-links-x c = omega (arith, (link-there c.before.before).1)
+offset_bounds-links-x c = let t = c.requires.0.numbered c.loop-p.p c.loop-p-test.true in omega (arith, t.0, t.1)
 
 pub bounds-links-x : goal.bounds-links-x
-bounds-links-x c = omega (arith, (link-there c.before.before.before).0, (link-there c.before.before.before).1)
+bounds-links-x c = let t = c.requires.0.numbered c.loop-p.p c.loop-p-test.true in omega (arith, t.0, t.1)
 
 pub overflow_sub-links-in-loop-p : goal.overflow_sub-links-in-loop-p
-overflow_sub-links-in-loop-p c = (link-there c.before.before.before.before.before).0
+overflow_sub-links-in-loop-p c = let t = c.requires.0.numbered c.loop-p.p c.loop-p-test.true in omega (arith, t.0, t.1)
 
 pub offset_bounds-links-x-in-loop-p : goal.offset_bounds-links-x-in-loop-p
-offset_bounds-links-x-in-loop-p c = omega (arith, (link-there c.before.before.before.before.before).1)
+offset_bounds-links-x-in-loop-p c = let t = c.requires.0.numbered c.loop-p.p c.loop-p-test.true in omega (arith, t.0, t.1)
 
 pub bounds-links-x-in-loop-p : goal.bounds-links-x-in-loop-p
-bounds-links-x-in-loop-p c = omega (arith, (link-there c.before.before.before.before.before).0, (link-there c.before.before.before.before.before).1)
+bounds-links-x-in-loop-p c = let t = c.requires.0.numbered c.loop-p.p c.loop-p-test.true in omega (arith, t.0, t.1)
 
 pub loop-p-preserved : goal.loop-p-preserved
-loop-p-preserved c = let d = c in
-    let l = d in
-    let s = l.args in
-    let p = l.loop-p.p in (
-      search rules,
-      simp length-set l.loop-p.invariant.1,
-      λ net m. marks-next (net_in net).marks l.loop-p.links sheet_link_limit p (get_or s.marked.now p 0) (get_or s.marks p 0) _ l.loop-p.invariant.1
-          (omega (arith, d.loop-p-test.true, marks-length net m.fit, m.count))
-          (mark-at net m.fit p (omega (arith, d.loop-p-test.true, m.count)) ∙ ap₂ (λ (a b : List ℕ). (get_or a p 0, get_or b p 0)) m.same-marked m.same-marks)
-          (link-there d.before.before.before.before.before) (l.loop-p.invariant.2 net m) (ap (λ (z : ℕ). bit_or (get_or l.loop-p.links (get_or s.marked.now p 0 - 1) 0) z) c.mix.ensures),
+loop-p-preserved c = let s = c.args in
+    let p = c.loop-p.p in (simp length-set c.loop-p.invariant.0,
+      λ net m. marks-next (net_in net).marks c.loop-p.links sheet_link_limit p (get_or s.marked.now p 0) (get_or s.marks p 0) _ c.loop-p.invariant.0
+          (omega (arith, c.loop-p-test.true, marks-length net m.fit, m.count))
+          (mark-at net m.fit p (omega (arith, c.loop-p-test.true, m.count)) ∙ ap₂ (λ (a b : List ℕ). (get_or a p 0, get_or b p 0)) m.same-marked m.same-marks)
+          (c.requires.0.numbered c.loop-p.p c.loop-p-test.true) (c.loop-p.invariant.1 net m) (ap (λ (z : ℕ). bit_or (get_or c.loop-p.links (get_or s.marked.now p 0 - 1) 0) z) c.mix.ensures),
     )
 
 pub returns : goal.returns
-returns c = let l = c in
-    let s = l.args in
-    let e : l.loop-p.p ≡ s.n = omega arith in
-    (l.loop-p.invariant.1, λ net m x h. l.loop-p.invariant.2 net m x h ∙ ap (λ (k : List (ℕ × ℕ)). joined_marks (marks_at (suc x) k)) (ap (λ (z : ℕ). take z (net_in net).marks) e ∙ take_all s.n (net_in net).marks (omega (arith, marks-length net m.fit, m.count))))
+returns c = let s = c.args in
+    let e : c.loop-p.p ≡ s.n = omega arith in
+    (c.loop-p.invariant.0, λ net m x h. c.loop-p.invariant.1 net m x h ∙ ap (λ (k : List (ℕ × ℕ)). joined_marks (marks_at (suc x) k)) (ap (λ (z : ℕ). take z (net_in net).marks) e ∙ take_all s.n (net_in net).marks (omega (arith, marks-length net m.fit, m.count))))

@@ -15,5 +15,5 @@ use lib.Bits.{bit_or}
 use Rattle.colours.proofs.round.first_links.Given as goal
 
 abbrev pub invariant-loop-p : goal.invariant-loop-p
-invariant-loop-p l = (l.p ≤ l.n) × (length l.links ≡ sheet_link_limit)
+invariant-loop-p l = (length l.links ≡ sheet_link_limit)
     × ((net : NormalForm) → MarksIn net l.marks l.marked l.n → (x : ℕ) → x < sheet_link_limit → get_or l.links x 0 ≡ joined_marks (marks_at (suc x) (take l.p (net_in net).marks)))

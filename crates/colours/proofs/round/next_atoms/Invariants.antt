@@ -8,5 +8,5 @@ use Rattle.colours.proofs.RoundCode.{Stored}
 use Rattle.colours.proofs.round.next_atoms.Given as goal
 
 abbrev pub invariant-loop-t : goal.invariant-loop-t
-invariant-loop-t l = (l.t ≤ l.n) × (length l.atoms ≡ sheet_atom_limit)
+invariant-loop-t l = (length l.atoms ≡ sheet_atom_limit)
     × Stored (λ u. mixed_all (get_or l.initial.atoms u 0) (map (link_colour l.links) (take (laid_atom l.laid u).count (laid_atom l.laid u).links))) l.initial.atoms l.atoms l.t

@@ -6,4 +6,4 @@ use Rattle.colours.proofs.RoundCode.{Stored}
 use Rattle.colours.proofs.round.next_links.Given as goal
 
 abbrev pub invariant-loop-x : goal.invariant-loop-x
-invariant-loop-x l = (l.x ≤ l.c) × (length l.links ≡ sheet_link_limit) × Stored (λ z. mixed (get_or l.initial.links z 0) (get_or l.around z 0)) l.initial.links l.links l.x
+invariant-loop-x l = (length l.links ≡ sheet_link_limit) × Stored (λ z. mixed (get_or l.initial.links z 0) (get_or l.around z 0)) l.initial.links l.links l.x

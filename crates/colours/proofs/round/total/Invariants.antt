@@ -7,7 +7,7 @@ use Rattle.colours.proofs.RoundCode.{sum-next}
 use Rattle.colours.proofs.round.total.Given as goal
 
 abbrev pub invariant-loop-t : goal.invariant-loop-t
-invariant-loop-t l = (l.t ≤ l.n) × (l.sum ≡ (0 + sum_to (held l.atoms l.links).of_atom l.t) % word_size)
+invariant-loop-t l = l.sum ≡ (0 + sum_to (held l.atoms l.links).of_atom l.t) % word_size
 
 abbrev pub invariant-loop-x : goal.invariant-loop-x
-invariant-loop-x l = (l.x ≤ l.c) × (l.sum ≡ (sum_to (held l.atoms l.links).of_atom l.n + sum_to (held l.atoms l.links).of_link l.x) % word_size)
+invariant-loop-x l = l.sum ≡ (sum_to (held l.atoms l.links).of_atom l.n + sum_to (held l.atoms l.links).of_link l.x) % word_size

@@ -5,4 +5,4 @@ use Rattle.candidates.specs.Tables.{AtomIn}
 use Rattle.colours.proofs.sets.atom_sets.Given as goal
 
 abbrev pub invariant-loop-i : goal.invariant-loop-i
-invariant-loop-i l = (l.i ≤ l.m) × (length l.atoms ≡ sheet_atom_limit) × ((j u : ℕ) → j < l.i → u < l.n → get_or l.figure j 0 ≡ get_or l.sheet u 0 → AtomIn l.atoms j u)
+invariant-loop-i l = (length l.atoms ≡ sheet_atom_limit) × ((j u : ℕ) → j < l.i → u < l.n → get_or l.figure j 0 ≡ get_or l.sheet u 0 → AtomIn l.atoms j u)

@@ -5,15 +5,8 @@ use Rattle.candidates.proofs.Digits.{in-or-left, in-or-right, alone-in}
 use Rattle.colours.proofs.sets.atoms_of.Goals as goal
 
 pub loop-t-preserved : goal.loop-t-preserved
-loop-t-preserved c = let l = c in
-    let s = l.args in
+loop-t-preserved c = let s = c.args in
     ⊎_elim
-    (λ w. (
-      search rules,
-      rw w.row-is (below_more (λ (u : ℕ). s.colour ≡ get_or s.colours.now u 0 → In (bit_or l.loop-t.row w.one-row.result) u) l.loop-t.t (λ u h a. in-or-left l.loop-t.row w.one-row.result u (l.loop-t.invariant.1 u h a)) (λ a. in-or-right l.loop-t.row w.one-row.result l.loop-t.t (alone-in _ _ w.one-row.ensures))),
-    ))
-    (λ w. (
-      search rules,
-      rw w.row-is (below_more (λ (u : ℕ). s.colour ≡ get_or s.colours.now u 0 → In l.loop-t.row u) l.loop-t.t l.loop-t.invariant.1 (λ a. absurd (w.if-colours-t.false (sym a)))),
-    ))
+    (λ w. (rw w.row-is (below_more (λ (u : ℕ). s.colour ≡ get_or s.colours.now u 0 → In (bit_or c.loop-t.row w.one-row.result) u) c.loop-t.t (λ u h a. in-or-left c.loop-t.row w.one-row.result u (c.loop-t.invariant u h a)) (λ a. in-or-right c.loop-t.row w.one-row.result c.loop-t.t (alone-in _ _ w.one-row.ensures)))))
+    (λ w. (rw w.row-is (below_more (λ (u : ℕ). s.colour ≡ get_or s.colours.now u 0 → In c.loop-t.row u) c.loop-t.t c.loop-t.invariant (λ a. absurd (w.if-colours-t.false (sym a))))))
     c.if-colours-t.branch-raw

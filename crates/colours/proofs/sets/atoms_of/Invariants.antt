@@ -4,4 +4,4 @@ use Rattle.candidates.specs.Words.{In}
 use Rattle.colours.proofs.sets.atoms_of.Given as goal
 
 abbrev pub invariant-loop-t : goal.invariant-loop-t
-invariant-loop-t l = (l.t ≤ l.n) × ((u : ℕ) → u < l.t → l.colour ≡ get_or l.colours u 0 → In l.row u)
+invariant-loop-t l = (u : ℕ) → u < l.t → l.colour ≡ get_or l.colours u 0 → In l.row u

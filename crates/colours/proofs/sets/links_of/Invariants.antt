@@ -4,4 +4,4 @@ use Rattle.candidates.specs.Words.{InPair}
 use Rattle.colours.proofs.sets.links_of.Given as goal
 
 abbrev pub invariant-loop-y : goal.invariant-loop-y
-invariant-loop-y l = (l.y ≤ l.n) × ((v : ℕ) → v < l.y → l.colour ≡ get_or l.colours v 0 → InPair l.pair v)
+invariant-loop-y l = (v : ℕ) → v < l.y → l.colour ≡ get_or l.colours v 0 → InPair l.pair v
