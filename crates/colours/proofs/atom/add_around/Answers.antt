@@ -1,7 +1,5 @@
-use Rattle.std.proofs.Common.{◌≡◌, ℕ, suc, ◌+◌, ◌-◌, ◌%◌, ◌<◌, ◌≤◌, length, get_or, take, ap, ◌∙◌, arith, length-set, rules}
+use Rattle.std.proofs.Common.{◌≡◌, ℕ, ◌+◌, ◌-◌, ◌%◌, get_or, ap, ◌∙◌, arith, length-set}
 use Rattle.rows.specs.Limits.{sheet_link_limit}
-use Rattle.placing.specs.Net.{Range}
-use Rattle.candidates.specs.Laid.{link_of}
 use Rattle.colours.specs.Colours.{places_at}
 use Rattle.colours.specs.Mixed.{word_size, mixing}
 use Rattle.colours.proofs.SumLaws.{around-next}
@@ -11,35 +9,10 @@ pub loop-k-init : goal.loop-k-init
 unfolding places_at
 loop-k-init c = (c.requires.1, λ sums h x b. h x b ∙ ap (λ (z : ℕ). z % word_size) (let e : sums x ≡ sums x + 0 = omega arith in e))
 
-pub overflow_cast-x : goal.overflow_cast-x
-overflow_cast-x c = let t = c.requires.0.numbered c.loop-k.k c.loop-k-test.true in omega (arith, t.0, t.1)
-
-pub overflow_sub-x : goal.overflow_sub-x
-overflow_sub-x c = let t = c.requires.0.numbered c.loop-k.k c.loop-k-test.true in omega (arith, t.0, t.1)
-
-pub offset_bounds-around-x : goal.offset_bounds-around-x
-offset_bounds-around-x c = let t = c.requires.0.numbered c.loop-k.k c.loop-k-test.true in omega (arith, t.0, t.1)
-
-pub bounds-around-x : goal.bounds-around-x
-bounds-around-x c = let t = c.requires.0.numbered c.loop-k.k c.loop-k-test.true in omega (arith, t.0, t.1)
-
-pub overflow_sub-around : goal.overflow_sub-around
-overflow_sub-around c = let t = c.requires.0.numbered c.loop-k.k c.loop-k-test.true in omega (arith, t.0, t.1)
-
-pub offset_bounds-around-x-in-loop-k : goal.offset_bounds-around-x-in-loop-k
-offset_bounds-around-x-in-loop-k c = let t = c.requires.0.numbered c.loop-k.k c.loop-k-test.true in omega (arith, t.0, t.1)
-
-pub bounds-around-x-in-loop-k : goal.bounds-around-x-in-loop-k
-bounds-around-x-in-loop-k c = let t = c.requires.0.numbered c.loop-k.k c.loop-k-test.true in omega (arith, t.0, t.1)
-
 pub loop-k-preserved : goal.loop-k-preserved
 loop-k-preserved c = let links = c.args.atom.links in
-    let more = c.mix-more in (simp length-set c.loop-k.invariant.0,
+    let more = c.mix-more in (
+      simp length-set c.loop-k.invariant.0,
       λ sums h. around-next word_size sums (mixing.at_place c.args.colour) c.loop-k.around links sheet_link_limit c.loop-k.k c.wrapping_add_u64.result c.loop-k.invariant.0 (omega (arith, c.loop-k-test.true, c.requires.0.few, c.requires.0.width)) (c.requires.0.numbered c.loop-k.k c.loop-k-test.true) (c.loop-k.invariant.1 sums h)
           (c.wrapping_add_u64.ensures.value ∙ ap (λ (z : ℕ). (get_or c.loop-k.around (get_or links c.loop-k.k 0 - 1) 0 + z) % word_size) more.ensures),
     )
-
-pub returns : goal.returns
-returns c = let s = c.args in
-    let e : c.loop-k.k ≡ s.atom.count = omega arith in
-    (c.loop-k.invariant.0, rw e at c.loop-k.invariant.1)

@@ -1,11 +1,8 @@
 -- Invariant: what the first k places add is added.
-use Rattle.std.proofs.Common.{◌≡◌, ℕ, suc, ◌+◌, ◌-◌, ◌%◌, ◌<◌, ◌≤◌, length, get_or, take, ap, ◌∙◌, arith, length-set, rules}
+use Rattle.std.proofs.Common.{◌≡◌, ℕ, suc, ◌+◌, ◌%◌, ◌<◌, length, get_or, take}
 use Rattle.rows.specs.Limits.{sheet_link_limit}
-use Rattle.placing.specs.Net.{Range}
-use Rattle.candidates.specs.Laid.{link_of}
 use Rattle.colours.specs.Colours.{places_at}
 use Rattle.colours.specs.Mixed.{word_size, mixing}
-use Rattle.colours.proofs.SumLaws.{around-next}
 use Rattle.colours.proofs.atom.add_around.Given as goal
 
 abbrev pub invariant-loop-k : goal.invariant-loop-k

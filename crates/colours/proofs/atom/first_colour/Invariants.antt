@@ -1,9 +1,7 @@
 -- Invariant: the pattern of the first k places is mixed in.
-use Rattle.std.proofs.Common.{◌≡◌, ℕ, ◌-◌, ◌≤◌, map, take, ap, ◌∙◌, arith, rules}
-use Rattle.candidates.specs.Laid.{link_of}
+use Rattle.std.proofs.Common.{◌≡◌, map, take}
 use Rattle.colours.specs.Colours.{first_at}
 use Rattle.colours.specs.Mixed.{seed, mixed, mixed_all}
-use Rattle.colours.proofs.MixLaws.{mixed-next}
 use Rattle.colours.proofs.atom.first_colour.Given as goal
 
 abbrev pub invariant-loop-k : goal.invariant-loop-k

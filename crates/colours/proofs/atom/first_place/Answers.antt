@@ -1,4 +1,4 @@
-use Rattle.std.proofs.Common.{◌≡◌, ℕ, ◌-◌, ◌<◌, ◌≤◌, ◌≢◌, take, sym, refl, ap, ◌∙◌, arith, rules, below_more}
+use Rattle.std.proofs.Common.{◌≡◌, ℕ, ◌<◌, ◌≤◌, ◌≢◌, take, sym, refl, ◌∙◌, arith}
 use Rattle.network.proofs.NetIn.{used-length, used-at}
 use Rattle.candidates.specs.Laid.{link_of}
 use Rattle.colours.specs.Colours.{first_at}

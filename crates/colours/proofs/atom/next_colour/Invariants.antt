@@ -1,5 +1,5 @@
 -- Invariant: the colours of the first k links are mixed in.
-use Rattle.std.proofs.Common.{◌≡◌, ◌≤◌, map, take}
+use Rattle.std.proofs.Common.{◌≡◌, map, take}
 use Rattle.colours.specs.Mixed.{mixed_all}
 use Rattle.colours.specs.Arrays.{link_colour}
 use Rattle.colours.proofs.atom.next_colour.Given as goal

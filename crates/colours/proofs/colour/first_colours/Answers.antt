@@ -4,20 +4,13 @@ use Rattle.rows.specs.Limits.{sheet_atom_limit}
 use Rattle.rows.proofs.Padding.{get_d-filled}
 use Rattle.candidates.specs.Frames.{whole}
 use Rattle.candidates.proofs.Laying.{laid-rowed}
-use Rattle.candidates.proofs.Marks.{own-marks, mark-links}
+use Rattle.candidates.proofs.Marks.{own-marks}
 use Rattle.colours.proofs.Coloured.{first-agree}
 use Rattle.colours.proofs.colour.first_colours.Goals as goal
 
 pub sizes_of-requires : goal.sizes_of-requires
 sizes_of-requires c =
     (laid-rowed (whole c.args.net c.args.laid.now) c.args.laid.now _ c.requires.0, c.requires.1, ap length c.requires.2 ∙ length-replicate {A = ℕ} sheet_atom_limit 0, λ t. ap (λ (l : List ℕ). get_or l t 0) c.requires.2 ∙ get_d-filled {A = ℕ} 0 sheet_atom_limit t)
-
-pub first_atoms-requires : goal.first_atoms-requires
-first_atoms-requires c = (laid-rowed (whole c.args.net c.args.laid.now) c.args.laid.now _ c.requires.0, c.sizes_of.ensures.0)
-
-pub first_links-requires : goal.first_links-requires
-first_links-requires c = let net = whole c.args.net c.args.laid.now in
-    (mark-links net _ _ _ (own-marks net c.requires.0.fit c.requires.0.normal), c.requires.3)
 
 pub returns : goal.returns
 returns c = let net = whole c.args.net c.args.laid.now in

@@ -1,4 +1,4 @@
-use Rattle.std.proofs.Common.{◌≡◌, ℕ, ◌+◌, ◌-◌, ◌*◌, ◌↔◌, get_or, subst, arith, rules}
+use Rattle.std.proofs.Common.{◌≡◌, ℕ, ◌+◌, ◌-◌, ◌*◌, ◌↔◌, get_or, subst, arith}
 use Rattle.rows.specs.Format.{most_links}
 use Rattle.rows.specs.Limits.{sheet_link_limit}
 use Rattle.rows.specs.declared.Atom.{Atom}
@@ -8,10 +8,10 @@ use Rattle.colours.proofs.PieceCode.{Some, some-none, some_more, share-users}
 use Rattle.colours.proofs.pieces.beside.Goals as goal
 
 pub loop-k-init : goal.loop-k-init
-loop-k-init c = (some-none _)
+loop-k-init c = some-none _
 
 pub loop-k-preserved : goal.loop-k-preserved
-loop-k-preserved c = (some_more _ c.loop-k.all c.on_link-all.result c.loop-k.k c.loop-k.invariant c.on_link-all.ensures)
+loop-k-preserved c = some_more _ c.loop-k.all c.on_link-all.result c.loop-k.k c.loop-k.invariant c.on_link-all.ensures
 
 pub returns : goal.returns
 returns c = let P : Atom → ℕ → ℕ → Type 0 = λ z h v. Some (λ i x. In (get_or c.args.users.now (i * sheet_link_limit + (link_of z h - 1)) 0) x) most_links v in

@@ -1,5 +1,5 @@
 -- Invariant: the atoms on the first k links.
-use Rattle.std.proofs.Common.{ℕ, ◌+◌, ◌-◌, ◌*◌, ◌≤◌, ◌↔◌, get_or}
+use Rattle.std.proofs.Common.{ℕ, ◌+◌, ◌-◌, ◌*◌, ◌↔◌, get_or}
 use Rattle.rows.specs.Format.{most_links}
 use Rattle.rows.specs.Limits.{sheet_link_limit}
 use Rattle.candidates.specs.Laid.{link_of}

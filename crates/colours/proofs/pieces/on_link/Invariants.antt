@@ -1,6 +1,5 @@
 -- Invariant: the atoms that have the link at one of the first k places.
-use Rattle.std.proofs.Common.{ℕ, ◌+◌, ◌*◌, ◌≤◌, ◌↔◌, get_or}
-use Rattle.rows.specs.Format.{most_links}
+use Rattle.std.proofs.Common.{ℕ, ◌+◌, ◌*◌, ◌↔◌, get_or}
 use Rattle.rows.specs.Limits.{sheet_link_limit}
 use Rattle.candidates.specs.Words.{In}
 use Rattle.colours.proofs.PieceCode.{Some}

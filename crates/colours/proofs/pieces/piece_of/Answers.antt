@@ -1,14 +1,9 @@
-use Rattle.std.proofs.Common.{ℕ, ◌<◌, ◌≢◌, subst, arith, rules}
-use Rattle.rows.specs.declared.Sheet.{Sheet as NormalForm}
+use Rattle.std.proofs.Common.{ℕ, subst, arith}
 use Rattle.network.proofs.NetIn.{atoms-length}
-use Rattle.candidates.specs.Laid.{LaidOut}
 use Rattle.candidates.specs.Words.{In}
 use Rattle.candidates.proofs.Digits.{none_in, in_and, and_in, alone-in, alone-only, in-fewer, fewer-smaller}
-use Rattle.colours.proofs.PieceCode.{all_in, Grown, grown-one, grown-more, grown-same, grown-all}
+use Rattle.colours.proofs.PieceCode.{all_in, grown-one, grown-more, grown-same, grown-all}
 use Rattle.colours.proofs.pieces.piece_of.Goals as goal
-
-pub one-piece-requires : goal.one-piece-requires
-one-piece-requires c = omega (arith, c.requires.0.few, c.requires.1)
 
 pub loop-piece-init : goal.loop-piece-init
 loop-piece-init c =

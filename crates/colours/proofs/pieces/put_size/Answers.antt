@@ -1,12 +1,8 @@
-use Rattle.std.proofs.Common.{◌≡◌, ℕ, ◌<◌, length, subst, arith, length-set, rules}
-use Rattle.rows.specs.Limits.{sheet_atom_limit}
+use Rattle.std.proofs.Common.{ℕ, subst, arith, length-set}
 use Rattle.candidates.specs.Words.{In}
 use Rattle.candidates.proofs.Digits.{none_in, alone-in, alone-only, fewer-in, in-fewer, fewer-smaller}
-use Rattle.colours.proofs.PieceCode.{Put, put-none, put-more}
+use Rattle.colours.proofs.PieceCode.{put-more}
 use Rattle.colours.proofs.pieces.put_size.Goals as goal
-
-pub loop-rest-init : goal.loop-rest-init
-loop-rest-init c = (c.requires, put-none c.args.piece c.args.size c.args.sizes.now)
 
 pub loop-rest-smaller : goal.loop-rest-smaller
 loop-rest-smaller c = fewer-smaller _ _ _ c.minus-rest.ensures c.first-u.result c.first-u.ensures.1 (alone-in _ _ c.one.ensures)

@@ -1,9 +1,7 @@
 -- Invariant: the atoms of the piece that are not in the rest have the size.
-use Rattle.std.proofs.Common.{◌≡◌, ℕ, ◌<◌, length, subst, arith, length-set, rules}
+use Rattle.std.proofs.Common.{◌≡◌, length}
 use Rattle.rows.specs.Limits.{sheet_atom_limit}
-use Rattle.candidates.specs.Words.{In}
-use Rattle.candidates.proofs.Digits.{none_in, alone-in, alone-only, fewer-in, in-fewer, fewer-smaller}
-use Rattle.colours.proofs.PieceCode.{Put, put-none, put-more}
+use Rattle.colours.proofs.PieceCode.{Put}
 use Rattle.colours.proofs.pieces.put_size.Given as goal
 
 abbrev pub invariant-loop-rest : goal.invariant-loop-rest

@@ -1,5 +1,5 @@
 -- Invariant: the sizes that are noted are right, and those of the first t atoms are noted.
-use Rattle.std.proofs.Common.{◌≡◌, ◌≤◌, length}
+use Rattle.std.proofs.Common.{◌≡◌, length}
 use Rattle.rows.specs.Limits.{sheet_atom_limit}
 use Rattle.rows.specs.declared.Sheet.{Sheet as NormalForm}
 use Rattle.candidates.specs.Laid.{LaidOut}

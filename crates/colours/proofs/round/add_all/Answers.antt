@@ -1,13 +1,10 @@
-use Rattle.std.proofs.Common.{◌≡◌, ℕ, ◌-◌, ◌%◌, ◌<◌, ◌≤◌, List, length, get_or, sym, ap, ◌∙◌, subst, arith, rules}
+use Rattle.std.proofs.Common.{◌≡◌, ℕ, ◌%◌, List, length, get_or, ap, ◌∙◌, arith}
 use lib.ListN.{length-replicate}
 use Rattle.rows.specs.Limits.{sheet_link_limit}
-use Rattle.rows.specs.declared.Atom.{Atom}
-use Rattle.rows.specs.declared.Sheet.{Sheet as NormalForm}
 use Rattle.rows.proofs.Padding.{get_d-filled}
-use Rattle.network.specs.NetIn.{net_in, Used}
+use Rattle.network.specs.NetIn.{net_in}
 use Rattle.network.specs.Sums.{sum_to}
 use Rattle.network.proofs.NetIn.{atoms-length}
-use Rattle.candidates.specs.Laid.{LaidOut}
 use Rattle.colours.specs.Mixed.{word_size}
 use Rattle.colours.proofs.RoundCode.{added, added_next}
 use Rattle.colours.proofs.round.add_all.Goals as goal
@@ -20,7 +17,8 @@ pub loop-t-preserved : goal.loop-t-preserved
 loop-t-preserved c = let a = c.laid_atom-atom in
     let s = c.args in
     let t = c.loop-t.t in
-    let e = c.add_around.ensures in (e.0,
+    let e = c.add_around.ensures in (
+      e.0,
       λ net o x h. e.1 (λ z. sum_to (added (net_in net) s.atoms.now z) t) (c.loop-t.invariant.1 net o) x h ∙ added_next net s.laid.now s.n o s.atoms.now t c.loop-t-test.true a.result a.ensures x,
     )
 

@@ -1,16 +1,12 @@
 -- Invariant: what the first t atoms add is added.
-use Rattle.std.proofs.Common.{◌≡◌, ℕ, ◌-◌, ◌%◌, ◌<◌, ◌≤◌, List, length, get_or, sym, ap, ◌∙◌, subst, arith, rules}
-use lib.ListN.{length-replicate}
+use Rattle.std.proofs.Common.{◌≡◌, ℕ, ◌%◌, ◌<◌, length, get_or}
 use Rattle.rows.specs.Limits.{sheet_link_limit}
-use Rattle.rows.specs.declared.Atom.{Atom}
 use Rattle.rows.specs.declared.Sheet.{Sheet as NormalForm}
-use Rattle.rows.proofs.Padding.{get_d-filled}
-use Rattle.network.specs.NetIn.{net_in, Used}
+use Rattle.network.specs.NetIn.{net_in}
 use Rattle.network.specs.Sums.{sum_to}
-use Rattle.network.proofs.NetIn.{atoms-length}
 use Rattle.candidates.specs.Laid.{LaidOut}
 use Rattle.colours.specs.Mixed.{word_size}
-use Rattle.colours.proofs.RoundCode.{added, added_next}
+use Rattle.colours.proofs.RoundCode.{added}
 use Rattle.colours.proofs.round.add_all.Given as goal
 
 abbrev pub invariant-loop-t : goal.invariant-loop-t

@@ -1,12 +1,10 @@
 -- Invariant: the first t atoms have their first colours, the others their sizes.
-use Rattle.std.proofs.Common.{◌≡◌, ℕ, ◌-◌, ◌≤◌, length, get_or, take, sym, ap, ◌∙◌, subst, arith, length-set, rules}
-use Rattle.rows.specs.Limits.{sheet_atom_limit, sheet_link_limit}
-use Rattle.rows.specs.declared.Atom.{Atom}
-use Rattle.network.specs.NetIn.{Used}
+use Rattle.std.proofs.Common.{◌≡◌, length, get_or, take}
+use Rattle.rows.specs.Limits.{sheet_atom_limit}
 use Rattle.candidates.specs.Laid.{laid_atom}
 use Rattle.colours.specs.Colours.{pattern}
 use Rattle.colours.specs.Mixed.{mixing}
-use Rattle.colours.proofs.RoundCode.{Stored, stored-none, stored_next}
+use Rattle.colours.proofs.RoundCode.{Stored}
 use Rattle.colours.proofs.round.first_atoms.Given as goal
 
 abbrev pub invariant-loop-t : goal.invariant-loop-t

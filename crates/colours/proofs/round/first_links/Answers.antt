@@ -1,12 +1,9 @@
-use Rattle.std.proofs.Common.{◌≡◌, ℕ, suc, ◌-◌, ◌<◌, ◌≤◌, List, length, get_or, take, ap, ◌∙◌, ap₂, arith, length-set, take_all, rules}
+use Rattle.std.proofs.Common.{◌≡◌, ℕ, suc, ◌-◌, List, length, get_or, take, ap, ◌∙◌, ap₂, arith, length-set, take_all}
 use lib.ListN.{length-replicate}
 use Rattle.rows.proofs.Padding.{get_d-filled}
 use Rattle.rows.specs.Limits.{sheet_link_limit}
-use Rattle.rows.specs.declared.Sheet.{Sheet as NormalForm}
-use Rattle.placing.specs.Net.{Range}
 use Rattle.network.specs.NetIn.{net_in}
 use Rattle.network.proofs.NetIn.{marks-length, mark-at}
-use Rattle.candidates.specs.Marks.{MarksIn}
 use Rattle.colours.specs.Colours.{marks_at}
 use Rattle.colours.specs.Mixed.{joined_marks}
 use Rattle.colours.proofs.MarkLaws.{marks-next}
@@ -17,30 +14,10 @@ pub loop-p-init : goal.loop-p-init
 unfolding marks_at joined_marks
 loop-p-init c = (ap length c.requires.1 ∙ length-replicate {A = ℕ} sheet_link_limit 0, λ net m x h. ap (λ (l : List ℕ). get_or l x 0) c.requires.1 ∙ get_d-filled {A = ℕ} 0 sheet_link_limit x)
 
-pub overflow_cast-x : goal.overflow_cast-x
-overflow_cast-x c = let t = c.requires.0.numbered c.loop-p.p c.loop-p-test.true in omega (arith, t.0, t.1)
-
-pub overflow_sub-links : goal.overflow_sub-links
-overflow_sub-links c = let t = c.requires.0.numbered c.loop-p.p c.loop-p-test.true in omega (arith, t.0, t.1)
-
-pub offset_bounds-links-x : goal.offset_bounds-links-x
-offset_bounds-links-x c = let t = c.requires.0.numbered c.loop-p.p c.loop-p-test.true in omega (arith, t.0, t.1)
-
-pub bounds-links-x : goal.bounds-links-x
-bounds-links-x c = let t = c.requires.0.numbered c.loop-p.p c.loop-p-test.true in omega (arith, t.0, t.1)
-
-pub overflow_sub-links-in-loop-p : goal.overflow_sub-links-in-loop-p
-overflow_sub-links-in-loop-p c = let t = c.requires.0.numbered c.loop-p.p c.loop-p-test.true in omega (arith, t.0, t.1)
-
-pub offset_bounds-links-x-in-loop-p : goal.offset_bounds-links-x-in-loop-p
-offset_bounds-links-x-in-loop-p c = let t = c.requires.0.numbered c.loop-p.p c.loop-p-test.true in omega (arith, t.0, t.1)
-
-pub bounds-links-x-in-loop-p : goal.bounds-links-x-in-loop-p
-bounds-links-x-in-loop-p c = let t = c.requires.0.numbered c.loop-p.p c.loop-p-test.true in omega (arith, t.0, t.1)
-
 pub loop-p-preserved : goal.loop-p-preserved
 loop-p-preserved c = let s = c.args in
-    let p = c.loop-p.p in (simp length-set c.loop-p.invariant.0,
+    let p = c.loop-p.p in (
+      simp length-set c.loop-p.invariant.0,
       λ net m. marks-next (net_in net).marks c.loop-p.links sheet_link_limit p (get_or s.marked.now p 0) (get_or s.marks p 0) _ c.loop-p.invariant.0
           (omega (arith, c.loop-p-test.true, marks-length net m.fit, m.count))
           (mark-at net m.fit p (omega (arith, c.loop-p-test.true, m.count)) ∙ ap₂ (λ (a b : List ℕ). (get_or a p 0, get_or b p 0)) m.same-marked m.same-marks)

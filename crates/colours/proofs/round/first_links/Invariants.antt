@@ -1,17 +1,11 @@
 -- Invariant: the first p marks are joined.
-use Rattle.std.proofs.Common.{◌≡◌, ℕ, suc, ◌-◌, ◌<◌, ◌≤◌, List, length, get_or, take, ap, ◌∙◌, ap₂, arith, length-set, take_all, rules}
-use lib.ListN.{length-replicate}
-use Rattle.rows.proofs.Padding.{get_d-filled}
+use Rattle.std.proofs.Common.{◌≡◌, ℕ, suc, ◌<◌, length, get_or, take}
 use Rattle.rows.specs.Limits.{sheet_link_limit}
 use Rattle.rows.specs.declared.Sheet.{Sheet as NormalForm}
-use Rattle.placing.specs.Net.{Range}
 use Rattle.network.specs.NetIn.{net_in}
-use Rattle.network.proofs.NetIn.{marks-length, mark-at}
 use Rattle.candidates.specs.Marks.{MarksIn}
 use Rattle.colours.specs.Colours.{marks_at}
 use Rattle.colours.specs.Mixed.{joined_marks}
-use Rattle.colours.proofs.MarkLaws.{marks-next}
-use lib.Bits.{bit_or}
 use Rattle.colours.proofs.round.first_links.Given as goal
 
 abbrev pub invariant-loop-p : goal.invariant-loop-p

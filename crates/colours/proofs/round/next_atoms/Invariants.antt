@@ -1,5 +1,5 @@
 -- Invariant: the first t atoms have their next colours, the others those of before.
-use Rattle.std.proofs.Common.{◌≡◌, ◌≤◌, map, length, get_or, take}
+use Rattle.std.proofs.Common.{◌≡◌, map, length, get_or, take}
 use Rattle.rows.specs.Limits.{sheet_atom_limit}
 use Rattle.candidates.specs.Laid.{laid_atom}
 use Rattle.colours.specs.Mixed.{mixed_all}

@@ -1,5 +1,5 @@
 -- Invariant: the first x links have their next colours, the others those of before.
-use Rattle.std.proofs.Common.{◌≡◌, ◌≤◌, length, get_or}
+use Rattle.std.proofs.Common.{◌≡◌, length, get_or}
 use Rattle.rows.specs.Limits.{sheet_link_limit}
 use Rattle.colours.specs.Mixed.{mixed}
 use Rattle.colours.proofs.RoundCode.{Stored}

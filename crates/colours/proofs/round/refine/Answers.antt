@@ -1,4 +1,3 @@
-use Rattle.std.proofs.Common.{rules}
 use Rattle.colours.proofs.RoundCode.{refined}
 use Rattle.colours.proofs.round.refine.Goals as goal
 

@@ -1,9 +1,8 @@
 -- Invariants: the sum over the first t atoms, then over all atoms and the first x links.
-use Rattle.std.proofs.Common.{◌≡◌, ℕ, suc, ◌+◌, ◌-◌, ◌%◌, ◌≤◌, List, get_or, refl, ap, ◌∙◌, arith, rules}
+use Rattle.std.proofs.Common.{◌≡◌, ◌+◌, ◌%◌}
 use Rattle.network.specs.Sums.{sum_to}
 use Rattle.colours.specs.Mixed.{word_size}
 use Rattle.colours.specs.Arrays.{held}
-use Rattle.colours.proofs.RoundCode.{sum-next}
 use Rattle.colours.proofs.round.total.Given as goal
 
 abbrev pub invariant-loop-t : goal.invariant-loop-t

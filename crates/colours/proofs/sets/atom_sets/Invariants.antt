@@ -1,5 +1,5 @@
 -- Invariant: the sets of the first i figure atoms have what is of their colours.
-use Rattle.std.proofs.Common.{◌≡◌, ℕ, ◌<◌, ◌≤◌, length, get_or}
+use Rattle.std.proofs.Common.{◌≡◌, ℕ, ◌<◌, length, get_or}
 use Rattle.rows.specs.Limits.{sheet_atom_limit}
 use Rattle.candidates.specs.Tables.{AtomIn}
 use Rattle.colours.proofs.sets.atom_sets.Given as goal

@@ -1,5 +1,5 @@
 -- Invariant: of the first t atoms those of this colour are in the set.
-use Rattle.std.proofs.Common.{◌≡◌, ℕ, ◌<◌, ◌≤◌, get_or}
+use Rattle.std.proofs.Common.{◌≡◌, ℕ, ◌<◌, get_or}
 use Rattle.candidates.specs.Words.{In}
 use Rattle.colours.proofs.sets.atoms_of.Given as goal
 

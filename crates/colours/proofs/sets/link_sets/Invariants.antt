@@ -1,5 +1,5 @@
 -- Invariant: the sets of the first x figure links have what is of their colours.
-use Rattle.std.proofs.Common.{◌≡◌, ℕ, ◌*◌, ◌<◌, ◌≤◌, length, get_or}
+use Rattle.std.proofs.Common.{◌≡◌, ℕ, ◌*◌, ◌<◌, length, get_or}
 use Rattle.rows.specs.Limits.{sheet_link_limit}
 use Rattle.candidates.specs.Tables.{LinkIn}
 use Rattle.colours.proofs.sets.link_sets.Given as goal

@@ -1,5 +1,5 @@
 -- Invariant: of the first y links those of this colour are in the set.
-use Rattle.std.proofs.Common.{◌≡◌, ℕ, ◌<◌, ◌≤◌, get_or}
+use Rattle.std.proofs.Common.{◌≡◌, ℕ, ◌<◌, get_or}
 use Rattle.candidates.specs.Words.{InPair}
 use Rattle.colours.proofs.sets.links_of.Given as goal
 
