@@ -53,9 +53,6 @@ pub record Put (piece size : ℕ) (sizes now : List ℕ) (rest : ℕ) : Type 0 w
   pub kept : (u : ℕ) → ¬ In piece u → get_or now u 0 ≡ get_or sizes u 0
 
 module _ (piece size : ℕ) (sizes : List ℕ) where
-  pub put-none : Put piece size sizes sizes piece
-  put-none = record { part = λ u m. m; done = λ u b m n. absurd (n m); kept = λ u n. refl }
-
   pub put-more : (now : List ℕ) (rest less v : ℕ) → Put piece size sizes now rest → v < length now → In rest v → ((u : ℕ) → In less u → In rest u) → ((u : ℕ) → In rest u → u ≢ v → In less u) → ¬ In less v
       → Put piece size sizes (set now v size) less
   put-more now rest less v p b m sub all gone = record { part = λ u i. p.part u (sub u i); done = done; kept = kept }

@@ -1,6 +1,5 @@
 -- The loops that make colours: numbers stored one after another, and sums.
-use Rattle.std.proofs.Common.{◌≡◌, ℕ, suc, ◌+◌, ◌-◌, ◌%◌, ◌<◌, ◌≤◌, List, map, length, get_or, take, set, sym, refl, ap, ◌∙◌, ap₂, add-one, arith, get_or-set_other, get_or-set_same}
-use native.Mathlib.Decide.{ℕ_discrete}
+use Rattle.std.proofs.Common.{◌≡◌, ℕ, suc, ◌+◌, ◌-◌, ◌%◌, ◌<◌, ◌≤◌, List, map, length, get_or, take, sym, ap, ◌∙◌, ap₂, add-one, arith}
 use Rattle.rows.specs.declared.Atom.{Atom}
 use Rattle.rows.specs.declared.Sheet.{Sheet as NormalForm}
 use Rattle.rows.specs.Limits.{sheet_link_limit}
@@ -19,20 +18,6 @@ use Rattle.colours.proofs.SumLaws.{rest-added}
 pub record Stored (f : ℕ → ℕ) (was now : List ℕ) (k : ℕ) : Type 0 where
   pub new : (i : ℕ) → i < k → get_or now i 0 ≡ f i
   pub old : (i : ℕ) → k ≤ i → get_or now i 0 ≡ get_or was i 0
-
-module _ (f : ℕ → ℕ) (was : List ℕ) where
-  pub stored-none : Stored f was was 0
-  stored-none = record { new = λ i h. absurd (omega arith); old = λ i h. refl }
-
-  pub stored_next : (now : List ℕ) (k v : ℕ) → Stored f was now k → k < length now → v ≡ f k → Stored f was (set now k v) (k + 1)
-  stored_next now k v s b e = record { new = new; old = λ i h. get_or-set_other now k i v 0 (λ q. let z : i ≡ k = q in absurd (omega arith)) ∙ s.old i (omega arith) }
-    where
-      new : (i : ℕ) → i < k + 1 → get_or (set now k v) i 0 ≡ f i
-      new i h = go (ℕ_discrete i k)
-        where
-          go : Dec (i ≡ k) → get_or (set now k v) i 0 ≡ f i
-          go (yes q) = ap (λ (z : ℕ). get_or (set now k v) z 0) q ∙ get_or-set_same now k v 0 b ∙ e ∙ ap f (sym q)
-          go (no d) = get_or-set_other now k i v 0 d ∙ s.new i (omega (arith, h, d))
 
 -- one number more in a sum that wraps
 pub sum-next : (m : ℕ) (f : ℕ → ℕ) (a t s v r : ℕ) → s ≡ (a + sum_to f t) % m → v ≡ f (suc t) → r ≡ (s + v) % m → r ≡ (a + sum_to f (t + 1)) % m

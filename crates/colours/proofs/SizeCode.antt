@@ -115,9 +115,6 @@ module _ (net : NormalForm) (n : ℕ) (sizes : List ℕ) (t : ℕ) (s : SizedTo 
       noted u b (yes m) = some u (omega (arith, b, h, few)) m
       noted u b (no d) = λ z. s.noted u b (sym (kept u d) ∙ z)
 
-pub sized-none : (net : NormalForm) (n : ℕ) (sizes : List ℕ) → ((t : ℕ) → get_or sizes t 0 ≡ 0) → SizedTo net n sizes 0
-sized-none net n sizes z = record { right = λ u b e. absurd (e (z u)); noted = λ u b. absurd (omega arith) }
-
 pub sized-all : (net : NormalForm) (laid : List ℕ) (n : ℕ) → LaidOut net laid n → (sizes : List ℕ) → SizedTo net n sizes n → Sizes (net_in net) (λ j. get_or sizes (j - 1) 0)
 sized-all net laid n o sizes s i r =
     subst (λ (k : ℕ). HowMany (OnePiece (net_in net) i) (length (net_in net).atoms) k) (sym z.size) (subst (λ (j : ℕ). HowMany (OnePiece (net_in net) j) (length (net_in net).atoms) (sum_to (flags z.word) word_digits)) e (piece-size net (i - 1) z.word (subst (Range (length (net_in net).atoms)) (sym e) r) few z.piece))

@@ -16,14 +16,12 @@ fn first_place(atom: Atom, k: usize) -> usize
     requires { Used sheet_link_limit atom.count atom.links × (k < atom.count) }
     ensures { result ≡ first_at (link_of atom k) (take atom.count atom.links) }
 {
-    let mut h = 0;
-    while h < k {
+    for h in 0..k {
         if atom.links[h] == atom.links[k] {
             return h;
         }
-        h += 1;
     }
-    h
+    k
 }
 
 // The first colour of an atom: its name, the size of its piece and the pattern of its links.
@@ -33,10 +31,8 @@ pub(crate) fn first_colour(atom: Atom, size: u64) -> u64
 {
     let mut colour = mix(mix(SEED, atom.name as u64), size);
     let count = atom.count as usize;
-    let mut k = 0;
-    while k < count {
+    for k in 0..count {
         colour = mix(colour, first_place(atom, k) as u64);
-        k += 1;
     }
     colour
 }
@@ -48,11 +44,9 @@ pub(crate) fn next_colour(atom: Atom, before: u64, links: &[u64; Sheet::LINKS]) 
 {
     let mut colour = before;
     let count = atom.count as usize;
-    let mut k = 0;
-    while k < count {
+    for k in 0..count {
         let x = atom.links[k] as usize;
         colour = mix(colour, links[x - 1]);
-        k += 1;
     }
     colour
 }
@@ -63,11 +57,9 @@ pub(crate) fn add_around(atom: Atom, colour: u64, around: &mut [u64; Sheet::LINK
     ensures { (length around.new ≡ sheet_link_limit) × ((sums : ℕ → ℕ) → ((x : ℕ) → x < sheet_link_limit → slice_index around.old x ≡ sums x % word_size) → (x : ℕ) → x < sheet_link_limit → slice_index around.new x ≡ (sums x + places_at (mixing.at_place colour) (suc x) 0 (take atom.count atom.links)) % word_size) }
 {
     let count = atom.count as usize;
-    let mut k = 0;
-    while k < count {
+    for k in 0..count {
         let x = atom.links[k] as usize;
         let more = mix(colour, (k + 1) as u64);
         around[x - 1] = wrapping_add_u64(around[x - 1], more);
-        k += 1;
     }
 }

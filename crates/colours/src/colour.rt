@@ -66,15 +66,13 @@ pub fn colours_differ<'a>(
     let mut figure_atoms = [0u64; Sheet::ATOMS];
     let mut figure_links = [0u64; Sheet::LINKS];
     first_colours(figure, parts, owners, &mut figure_atoms, &mut figure_links);
-    let mut rounds = 0;
-    while rounds < ROUNDS {
+    for rounds in 0..ROUNDS {
         let sum = total(n, c, &sheet_atoms, &sheet_links);
         if sum != total(m, d, &figure_atoms, &figure_links) {
             return true;
         }
         refine(laid, n, c, &mut sheet_atoms, &mut sheet_links);
         refine(parts, m, d, &mut figure_atoms, &mut figure_links);
-        rounds += 1;
     }
     let last = total(n, c, &sheet_atoms, &sheet_links);
     if last != total(m, d, &figure_atoms, &figure_links) {

@@ -23,10 +23,8 @@ fn on_link(users: &[u64; PLACES], y: usize) -> u64
     ensures { (u : ℕ) → In result u ↔ ((k : ℕ) × (k < most_links) × In (slice_index users.now (k * sheet_link_limit + y)) u) }
 {
     let mut all = 0u64;
-    let mut k = 0;
-    while k < Sheet::MOST_LINKS {
+    for k in 0..Sheet::MOST_LINKS {
         all = all | users[k * Sheet::LINKS + y];
-        k += 1;
     }
     all
 }
@@ -39,11 +37,9 @@ fn beside<'a>(laid: &'a [u16; LAID], n: usize, users: &'a [u64; PLACES], t: usiz
     let atom = laid_atom(laid, t);
     let count = atom.count as usize;
     let mut all = 0u64;
-    let mut k = 0;
-    while k < count {
+    for k in 0..count {
         let y = atom.links[k] as usize;
         all = all | on_link(users, y - 1);
-        k += 1;
     }
     all
 }
@@ -95,12 +91,10 @@ pub(crate) fn sizes_of<'a>(
     requires { Rowed laid.now n × UsersIn laid.now n users.now × (length sizes.old ≡ sheet_atom_limit) × ((t : ℕ) → slice_index sizes.old t ≡ 0) }
     ensures { (length sizes.new ≡ sheet_atom_limit) × ((net : NormalForm) → LaidOut net laid.now n → Sizes (net_in net) (λ j. slice_index sizes.new (j - 1))) }
 {
-    let mut t = 0;
-    while t < n {
+    for t in 0..n {
         if sizes[t] == 0 {
             let piece = piece_of(laid, n, users, t);
             put_size(piece, size_of(piece), sizes);
         }
-        t += 1;
     }
 }

@@ -22,11 +22,9 @@ pub(crate) fn first_atoms(laid: &[u16; LAID], n: usize, atoms: &mut [u64; Sheet:
     requires { Rowed laid.now n × (length atoms.old ≡ sheet_atom_limit) }
     ensures { (length atoms.new ≡ sheet_atom_limit) × ((t : ℕ) → t < n → slice_index atoms.new t ≡ mixing.atom_first (laid_atom laid.now t).name (slice_index atoms.old t) (pattern (take (laid_atom laid.now t).count (laid_atom laid.now t).links))) }
 {
-    let mut t = 0;
-    while t < n {
+    for t in 0..n {
         let atom = laid_atom(laid, t);
         atoms[t] = first_colour(atom, atoms[t]);
-        t += 1;
     }
 }
 
@@ -40,11 +38,9 @@ pub(crate) fn first_links(
     requires { MarkLinks marked.now n × (links.old ≡ replicate sheet_link_limit 0) }
     ensures { (length links.new ≡ sheet_link_limit) × ((net : NormalForm) → MarksIn net marks marked.now n → (x : ℕ) → x < sheet_link_limit → slice_index links.new x ≡ joined_marks (marks_at (suc x) (net_in net).marks)) }
 {
-    let mut p = 0;
-    while p < n {
+    for p in 0..n {
         let x = marked[p] as usize;
         links[x - 1] = links[x - 1] | mix(SEED, marks[p] as u64);
-        p += 1;
     }
 }
 
@@ -58,11 +54,9 @@ fn add_all<'a>(
     requires { Rowed laid.now n × (around.old ≡ replicate sheet_link_limit 0) }
     ensures { (length around.new ≡ sheet_link_limit) × ((net : NormalForm) → LaidOut net laid.now n → (x : ℕ) → x < sheet_link_limit → (links : ℕ → ℕ) → slice_index around.new x ≡ around_in mixing (net_in net) (record { of_atom = λ j. slice_index atoms.now (j - 1); of_link = links }) (suc x) % word_size) }
 {
-    let mut t = 0;
-    while t < n {
+    for t in 0..n {
         let atom = laid_atom(laid, t);
         add_around(atom, atoms[t], around);
-        t += 1;
     }
 }
 
@@ -75,11 +69,9 @@ fn next_atoms(
     requires { Rowed laid.now n × (length atoms.old ≡ sheet_atom_limit) }
     ensures { (length atoms.new ≡ sheet_atom_limit) × ((t : ℕ) → t < n → slice_index atoms.new t ≡ mixed_all (slice_index atoms.old t) (map (link_colour links.now) (take (laid_atom laid.now t).count (laid_atom laid.now t).links))) }
 {
-    let mut t = 0;
-    while t < n {
+    for t in 0..n {
         let atom = laid_atom(laid, t);
         atoms[t] = next_colour(atom, atoms[t], links);
-        t += 1;
     }
 }
 
@@ -87,10 +79,8 @@ fn next_links(c: usize, around: &[u64; Sheet::LINKS], links: &mut [u64; Sheet::L
     requires { (c ≤ sheet_link_limit) × (length links.old ≡ sheet_link_limit) }
     ensures { (length links.new ≡ sheet_link_limit) × ((x : ℕ) → x < c → slice_index links.new x ≡ mixed (slice_index links.old x) (slice_index around.now x)) }
 {
-    let mut x = 0;
-    while x < c {
+    for x in 0..c {
         links[x] = mix(links[x], around[x]);
-        x += 1;
     }
 }
 
@@ -122,15 +112,11 @@ pub(crate) fn total<'a>(
     ensures { result ≡ (sum_to (held atoms.now links.now).of_atom n + sum_to (held atoms.now links.now).of_link c) % word_size }
 {
     let mut sum = 0u64;
-    let mut t = 0;
-    while t < n {
+    for t in 0..n {
         sum = wrapping_add_u64(sum, atoms[t]);
-        t += 1;
     }
-    let mut x = 0;
-    while x < c {
+    for x in 0..c {
         sum = wrapping_add_u64(sum, links[x]);
-        x += 1;
     }
     sum
 }

@@ -15,12 +15,10 @@ fn atoms_of(colours: &[u64; Sheet::ATOMS], n: usize, colour: u64) -> u64
     ensures { (t : ℕ) → t < n → colour ≡ slice_index colours.now t → In result t }
 {
     let mut row = 0u64;
-    let mut t = 0;
-    while t < n {
+    for t in 0..n {
         if colours[t] == colour {
             row = row | one(t);
         }
-        t += 1;
     }
     row
 }
@@ -31,13 +29,11 @@ fn links_of(colours: &[u64; Sheet::LINKS], n: usize, colour: u64) -> [u64; 2]
     ensures { (y : ℕ) → y < n → colour ≡ slice_index colours.now y → InPair result y }
 {
     let mut pair = [0u64; 2];
-    let mut y = 0;
-    while y < n {
+    for y in 0..n {
         if colours[y] == colour {
             let more = with(pair, y);
             pair = more;
         }
-        y += 1;
     }
     pair
 }
@@ -53,10 +49,8 @@ pub(crate) fn atom_sets<'a>(
     requires { (n ≤ sheet_atom_limit) × (m ≤ sheet_atom_limit) × (length atoms.old ≡ sheet_atom_limit) }
     ensures { (i t : ℕ) → i < m → t < n → slice_index figure.now i ≡ slice_index sheet.now t → AtomIn atoms.new i t }
 {
-    let mut i = 0;
-    while i < m {
+    for i in 0..m {
         atoms[i] = atoms_of(sheet, n, figure[i]);
-        i += 1;
     }
 }
 
@@ -71,10 +65,8 @@ pub(crate) fn link_sets<'a>(
     requires { (n ≤ sheet_link_limit) × (m ≤ sheet_link_limit) × (length links.old ≡ sheet_link_limit * 2) }
     ensures { (x y : ℕ) → x < m → y < n → slice_index figure.now x ≡ slice_index sheet.now y → LinkIn links.new x y }
 {
-    let mut x = 0;
-    while x < m {
+    for x in 0..m {
         let pair = links_of(sheet, n, figure[x]);
         set_pair(links, x, pair);
-        x += 1;
     }
 }
