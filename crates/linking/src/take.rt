@@ -17,12 +17,10 @@ fn among_eight(s: &[u16], i: usize, x: u16) -> bool
     ensures { result ≡ false → (k : ℕ) → k < 8 → ¬ (get_or s.now (i + k) 0 ≡ x) }
 {
     let mut found = false;
-    let mut k = 0;
-    while k < 8 {
+    for k in 0..8 {
         if s[i + k] == x {
             found = true;
         }
-        k += 1;
     }
     found
 }
@@ -47,12 +45,10 @@ pub fn index_of(s: &[u16], n: usize, x: u16) -> usize
     requires { n ≤ length s.now }
     ensures { result ≡ index_of x (take n s.now) }
 {
-    let mut i = skipped(s, n, x);
-    while i < n {
+    for i in skipped(s, n, x)..n {
         if s[i] == x {
             return i;
         }
-        i += 1;
     }
     n
 }
@@ -62,14 +58,12 @@ pub(crate) fn relabel(classes: &mut [u16], n: usize, from: u16, to: u16)
     requires { n ≤ length classes.old }
     ensures { classes.new ≡ map (relabelled from to) (take n classes.old) ++ drop n classes.old }
 {
-    let mut i = 0;
-    while i < n {
+    for i in 0..n {
         let mut label = classes[i];
         if label == from {
             label = to;
         }
         classes[i] = label;
-        i += 1;
     }
 }
 
@@ -78,10 +72,8 @@ pub(crate) fn clear(s: &mut [u16], n: usize)
     requires { n ≤ length s.old }
     ensures { s.new ≡ cleared n s.old }
 {
-    let mut i = 0;
-    while i < n {
+    for i in 0..n {
         s[i] = 0;
-        i += 1;
     }
 }
 
@@ -127,10 +119,8 @@ pub(crate) fn add_links(
     ensures { (result ≤ n + count) × Relinks links.old classes.old n links.new classes.new result (λ w. with_links w (take count (drop from nums))) × Hinted hints.new links.new result }
 {
     let mut m = n;
-    let mut k = 0;
-    while k < count {
+    for k in 0..count {
         m = add_link(links, classes, m, nums[from + k], hints);
-        k += 1;
     }
     m
 }
@@ -174,8 +164,7 @@ pub(crate) fn link_count(own: [Rule; Sheet::FIELDS], count: u16) -> usize
     ensures { result ≡ link_count_in own count }
 {
     let mut links = 0;
-    let mut f = 0;
-    while f < Sheet::FIELDS {
+    for f in 0..Sheet::FIELDS {
         let rule = own[f];
         if rule.link {
             if rule.counted {
@@ -183,7 +172,6 @@ pub(crate) fn link_count(own: [Rule; Sheet::FIELDS], count: u16) -> usize
             }
             links += 1;
         }
-        f += 1;
     }
     links
 }
