@@ -30,14 +30,13 @@ fn skipped(s: &[u16], n: usize, x: u16) -> usize
     requires { n ≤ length s.now }
     ensures { (result ≤ n) × (index_of x (take n s.now) ≡ result + index_of x (drop result (take n s.now))) }
 {
-    let mut i = 0;
-    while 8 <= n - i {
+    for eight in 0..n / 8 {
+        let i = 8 * eight;
         if among_eight(s, i, x) {
             return i;
         }
-        i += 8;
     }
-    i
+    8 * (n / 8)
 }
 
 // The place of x among the first n numbers, or n where it is not there.
@@ -72,9 +71,7 @@ pub(crate) fn clear(s: &mut [u16], n: usize)
     requires { n ≤ length s.old }
     ensures { s.new ≡ cleared n s.old }
 {
-    for i in 0..n {
-        s[i] = 0;
-    }
+    s[..n].fill(0);
 }
 
 // The classes of the links at places i and j made one, where they are two.
@@ -149,14 +146,12 @@ pub(crate) fn add_fusion(
 pub(crate) fn first_link(own: [Rule; Sheet::FIELDS]) -> usize
     ensures { result ≡ first_link_in own }
 {
-    let mut f = 0;
-    while f < Sheet::FIELDS {
-        if own[f].link {
+    for (f, rule) in own.iter().enumerate() {
+        if rule.link {
             return f;
         }
-        f += 1;
     }
-    f
+    Sheet::FIELDS
 }
 
 // How many links a row with this count has, by the rules of its letter.
@@ -164,8 +159,7 @@ pub(crate) fn link_count(own: [Rule; Sheet::FIELDS], count: u16) -> usize
     ensures { result ≡ link_count_in own count }
 {
     let mut links = 0;
-    for f in 0..Sheet::FIELDS {
-        let rule = own[f];
+    for rule in &own {
         if rule.link {
             if rule.counted {
                 return links + count as usize;
@@ -180,10 +174,7 @@ pub(crate) fn link_count(own: [Rule; Sheet::FIELDS], count: u16) -> usize
 pub(crate) fn gone_by(letter: usize, n: usize) -> usize
     ensures { result ≡ gone letter n }
 {
-    if letter == Row::HEAD {
-        return n;
-    }
-    0
+    if letter == Row::HEAD { n } else { 0 }
 }
 
 // Those of n numbers in both arrays that are gone, made 0. How many are left is returned.

@@ -1,5 +1,4 @@
 -- The classes of the two links' places are merged.
-use borrow.Author.Rules.{rules}
 use mathlib.Core.Path.{◌∙◌}
 use native.Mathlib.Omega.{arith}
 use Rattle.linking.proofs.Arrays.{links-fused}

@@ -1,12 +1,8 @@
 use borrow.Author.Rules.{rules}
-use Prim.Native.Nat.{◌≤◌, ◌+◌, ◌-◌}
+use Prim.Native.Nat.{◌+◌}
 use mathlib.Core.Path.{◌≡◌, ◌∙◌}
 use native.Mathlib.Omega.{arith}
-use lib.ListN.{length, take, drop, get_or}
-use Rattle.rows.specs.Format.{field_count}
-use Rattle.rows.specs.Limits.{link_room}
-use Rattle.rows.specs.Held.{with_links}
-use Rattle.linking.specs.Steps.{Relinks, Hinted}
+use lib.ListN.{take, drop, get_or}
 use Rattle.linking.proofs.Arrays.{links-none, links-more}
 use Rattle.rows.proofs.Lists.{row-link}
 use Rattle.linking.proofs.take.add_links.Goals as goal

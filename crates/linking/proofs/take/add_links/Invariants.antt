@@ -1,15 +1,11 @@
 -- Invariant: the numbers of the first k fields are taken in.
-use borrow.Author.Rules.{rules}
-use Prim.Native.Nat.{◌≤◌, ◌+◌, ◌-◌}
-use mathlib.Core.Path.{◌≡◌, ◌∙◌}
-use native.Mathlib.Omega.{arith}
-use lib.ListN.{length, take, drop, get_or}
+use Prim.Native.Nat.{◌≤◌, ◌+◌}
+use mathlib.Core.Path.{◌≡◌}
+use lib.ListN.{length, take, drop}
 use Rattle.rows.specs.Format.{field_count}
 use Rattle.rows.specs.Limits.{link_room}
 use Rattle.rows.specs.Held.{with_links}
 use Rattle.linking.specs.Steps.{Relinks, Hinted}
-use Rattle.linking.proofs.Arrays.{links-none, links-more}
-use Rattle.rows.proofs.Lists.{row-link}
 use Rattle.linking.proofs.take.add_links.Given as goal
 
 abbrev pub invariant-loop-k : goal.invariant-loop-k

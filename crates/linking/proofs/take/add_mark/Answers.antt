@@ -1,5 +1,4 @@
 -- A known mark merges two links; a new one is stored with its link's place.
-use borrow.Author.Rules.{rules}
 use native.Mathlib.Omega.{arith}
 use Rattle.rows.proofs.Lists.{index_below}
 use Rattle.linking.proofs.Arrays.{mark-merged, mark-added}

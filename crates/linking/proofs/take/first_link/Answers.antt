@@ -1,24 +1,22 @@
-use borrow.Author.Rules.{rules}
-use Prim.Native.Nat.{◌≤◌, ◌+◌, ◌-◌}
 use mathlib.Core.Path.{◌≡◌}
 use native.Mathlib.Omega.{arith}
-use lib.ListN.{length, drop}
+use borrow.Author.Rules.{rules}
+use lib.ListN.{length}
 use Rattle.rows.specs.Format.{field_count}
-use Rattle.linking.specs.Steps.{first_link_in}
 use Rattle.linking.proofs.RowLinks.{first-hit, first-miss, first-end}
 use Rattle.linking.proofs.take.first_link.Goals as goal
 
-pub returns-then-own-f : goal.returns-then-own-f
-returns-then-own-f c = let l = c in
-    omega (arith, l.loop-f.invariant.2, first-hit l.args.own l.loop-f.f (omega (arith, l.loop-f.invariant.1, c.loop-f-test.true)) c.if-own-f.true)
+pub returns-then-rule : goal.returns-then-rule
+returns-then-rule c = let own = c.args.own in
+    let wide : length own ≡ field_count = search rules in
+    omega (arith, c.loop-f.invariant, first-hit own c.loop-f.f (omega arith) c.if-rule.true)
 
 pub loop-f-preserved : goal.loop-f-preserved
-loop-f-preserved c = let l = c in (
-  omega (arith, c.loop-f-test.true),
-  l.loop-f.invariant.1,
-  omega (arith, l.loop-f.invariant.2, first-miss l.args.own l.loop-f.f (omega (arith, l.loop-f.invariant.1, c.loop-f-test.true)) c.if-own-f.false),
-)
+loop-f-preserved c = let own = c.args.own in
+    let wide : length own ≡ field_count = search rules in
+    omega (arith, c.loop-f.invariant, first-miss own c.loop-f.f (omega arith) c.if-rule.false)
 
 pub returns : goal.returns
-returns c = let l = c in
-    omega (arith, l.loop-f.invariant.2, first-end l.args.own l.loop-f.f (omega (arith, l.loop-f.invariant.1, c.loop-f-test.false)))
+returns c = let own = c.args.own in
+    let wide : length own ≡ field_count = search rules in
+    omega (arith, c.loop-f.invariant, first-end own c.loop-f.f (omega arith))

@@ -1,10 +1,8 @@
 use borrow.Author.Rules.{rules}
-use Prim.Native.Nat.{◌≤◌, ◌+◌, ◌-◌}
 use mathlib.Core.Path.{◌≡◌, ◌∙◌, sym}
 use native.Mathlib.Omega.{arith}
-use lib.ListN.{length, drop, take}
+use lib.ListN.{length, take}
 use lib.Seq.{length-take-le, get_or-take}
-use Rattle.rows.specs.Held.{index_of}
 use Rattle.linking.proofs.Loops.{index-end, index-hit, index-miss}
 use Rattle.linking.proofs.take.index_of.Goals as goal
 

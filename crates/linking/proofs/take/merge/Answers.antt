@@ -1,5 +1,4 @@
 -- Where both are one class already, nothing is left to be done.
-use borrow.Author.Rules.{rules}
 use Rattle.linking.proofs.Loops.{relabel-none}
 use Rattle.linking.proofs.take.merge.Goals as goal
 

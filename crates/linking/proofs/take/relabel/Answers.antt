@@ -1,23 +1,18 @@
-use borrow.Author.Rules.{rules}
-use Prim.Native.Nat.{◌≤◌, ◌<◌, ◌-◌}
-use mathlib.Core.Path.{◌≡◌, ◌∙◌, ap}
-use mathlib.Core.Logic.{⊎_elim}
+use Prim.Native.Nat.{◌<◌}
+use mathlib.Core.Path.{◌∙◌, ap}
 use native.Mathlib.Omega.{arith}
-use lib.ListN.{length, length-set, set}
+use lib.ListN.{length, set}
 use lib.Seq.{set-get_or}
-use Rattle.rows.specs.Held.{relabelled}
-use Rattle.rows.proofs.Lists.{mapped}
 use Rattle.linking.proofs.Loops.{relabel-hit, relabel-miss}
 use Rattle.linking.proofs.take.relabel.Goals as goal
+use Rattle.linking.proofs.take.relabel.Goals.{then-label-from, else-label-from}
 
 pub loop-i-preserved : goal.loop-i-preserved
-loop-i-preserved c = let l = c in
-    let a = l.args in
-    let h : l.loop-i.i < length a.classes.now = omega (arith, l.requires, c.loop-i-test.true) in (
-      search rules,
-      simp length-set l.loop-i.invariant.1,
-      ⊎_elim
-          (λ w. ap (set l.loop-i.classes l.loop-i.i) w.label-is ∙ relabel-hit a.from a.to a.classes.now l.loop-i.classes l.loop-i.i h l.loop-i.invariant.2 w.if-label-from.true)
-          (λ w. ap (set l.loop-i.classes l.loop-i.i) w.label-is ∙ set-get_or l.loop-i.classes l.loop-i.i 0 ∙ relabel-miss a.from a.to a.classes.now l.loop-i.classes l.loop-i.i h l.loop-i.invariant.2 w.if-label-from.false)
-          c.if-label-from.branch-raw,
-    )
+loop-i-preserved c = let a = c.args in
+    let i = c.loop-i.i in
+    let labels = c.loop-i.classes in
+    let h : i < length a.classes.now = omega (arith, c.requires, c.loop-i-test.true) in
+    elim c.if-label-from.branch [
+      | then-label-from w ↦ ap (set labels i) w.label-is ∙ relabel-hit a.from a.to a.classes.now labels i h c.loop-i.invariant w.if-label-from.true
+      | else-label-from w ↦ ap (set labels i) w.label-is ∙ set-get_or labels i 0 ∙ relabel-miss a.from a.to a.classes.now labels i h c.loop-i.invariant w.if-label-from.false
+    ]
