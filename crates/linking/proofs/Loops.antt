@@ -52,10 +52,6 @@ index-lacks l x i (suc m) h lacks =
     let rest = index-lacks l x (i + 1) m (omega arith) (λ k q e. lacks (suc k) (omega arith) (ap (λ (n : ℕ). get_or l n 0) (omega arith) ∙ e)) in
     rw z (omega (arith, index-miss l x i (omega arith) first, rest))
 
--- one turn of clearing in place
-pub clear_next : (l s : List ℕ) (i : ℕ) → i < length l → s ≡ cleared i l → set s i 0 ≡ cleared (i + 1) l
-clear_next l s i h e = rw e (sym (mapped_next (λ x. 0) 0 l i h))
-
 -- one turn of relabelling in place
 module _ (from to : ℕ) (l labels : List ℕ) (i : ℕ) (h : i < length l) (e : labels ≡ mapped (relabelled from to) i l) where
   here : get_or labels i 0 ≡ get_or l i 0
@@ -82,7 +78,7 @@ pub relabel-none : (from to n : ℕ) (l : List ℕ) → from ≡ to → l ≡ ma
 relabel-none from to n l e = rw (relabelled-same from to e (take n l)) (sym (take-append-drop n l))
 
 -- a list that is cleared is nothing but padding
-zeros : (l : List ℕ) → map {B = ℕ} (λ x. 0) l ≡ replicate (length l) 0
+pub zeros : (l : List ℕ) → map {B = ℕ} (λ x. 0) l ≡ replicate (length l) 0
 zeros [] = refl
 zeros (x ∷ l) = ap (λ (r : List ℕ). 0 ∷ r) (zeros l)
 
