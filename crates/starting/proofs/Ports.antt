@@ -2,7 +2,6 @@
 use Prim.Native.Nat.{ℕ, ◌+◌, ◌-◌, ◌<◌}
 use mathlib.Core.Path.{◌≡◌, sym, subst}
 use mathlib.Core.List.{List}
-use native.Mathlib.Decide.{ℕ_discrete}
 use native.Mathlib.Omega.{arith}
 use lib.ListN.{get_or}
 use Rattle.hyperlmntal.specs.Link.{◌∈◌}
@@ -11,19 +10,10 @@ use Rattle.placing.specs.Net.{NetCell, cell_links}
 use Rattle.placing.proofs.Standing.{of-cells}
 use Rattle.network.specs.NetIn.{net_in}
 use Rattle.network.proofs.NetIn.{context-of}
-use Rattle.candidates.specs.PortSets.{set_at, ContextsIn}
-use Rattle.candidates.specs.Tables.{StaysCleared}
+use Rattle.candidates.specs.PortSets.{ContextsIn}
 use Rattle.candidates.specs.declared.ports.PortSet.{PortSet}
 use Rattle.candidates.proofs.PortRows.{in-port}
-use Rattle.starting.specs.Steps.{Cleared, PortsCleared}
-
--- one context more
-pub ports-next : (sets : List PortSet) (a b : List ℕ) (i : ℕ) → PortsCleared sets i a → StaysCleared a b → Cleared (set_at sets i).links b → PortsCleared sets (i + 1) b
-ports-next sets a b i f s g h u = go (ℕ_discrete h i)
-  where
-    go : Dec (h ≡ i) → Cleared (set_at sets h).links b
-    go (yes e) = subst (λ (j : ℕ). Cleared (set_at sets j).links b) (sym e) g
-    go (no d) = λ x l m. s x (f h (omega (arith, u, d)) x l m)
+use Rattle.starting.specs.Steps.{PortsCleared}
 
 pub ports-all : {net : NormalForm} {sets : List PortSet} {rows links : ℕ} → ContextsIn net sets rows links → (a : List ℕ) → PortsCleared sets rows a → (x : ℕ) → (x + 1) ∈ cell_links (net_in net).contexts → get_or a x 0 ≡ 0
 ports-all {net} {rows = rows} o a f x m =

@@ -18,14 +18,7 @@ fn echoes(here: Atom, there: Atom, k: usize) -> bool
     requires { k < most_links }
     ensures { Echoes here there k → result ≡ true }
 {
-    for h in 0..k {
-        if here.links[h] == here.links[k] {
-            if there.links[h] != there.links[k] {
-                return false;
-            }
-        }
-    }
-    true
+    (0..k).all(|h| here.links[h] != here.links[k] || there.links[h] == there.links[k])
 }
 
 // Where links of the figure atom `here` are equal, so are those of the sheet atom `there`.
@@ -33,8 +26,7 @@ fn echoes_all(here: Atom, there: Atom) -> bool
     requires { Used sheet_link_limit here.count here.links }
     ensures { ((k : ℕ) → k < here.count → Echoes here there k) → result ≡ true }
 {
-    let count = here.count as usize;
-    for k in 0..count {
+    for k in 0..here.count as usize {
         if !echoes(here, there, k) {
             return false;
         }

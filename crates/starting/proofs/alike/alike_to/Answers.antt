@@ -1,5 +1,5 @@
 -- One more atom is alike, or is not.
-use Rattle.std.proofs.Common.{ℕ, arith, below_more}
+use Rattle.std.proofs.Common.{ℕ, below_more}
 use lib.Bits.{bit_or}
 use Rattle.placing.proofs.FirstLaws.{both_ways}
 use Rattle.candidates.specs.Laid.{laid_atom}
@@ -13,6 +13,6 @@ pub loop-t-preserved : goal.loop-t-preserved
 loop-t-preserved c = let l = c.loop-t in
     let P : ℕ → ℕ → Type 0 = λ r u. Alike c.args.here (laid_atom c.args.sheet.now u) → In r u in
     elim c.if-alike.branch [
-      then-alike w ↦ rw w.row-is (below_more (P (bit_or l.row w.one-row.result)) l.t (λ u h a. in-or-left l.row w.one-row.result u (l.invariant u h a)) (λ a. in-or-right l.row w.one-row.result l.t (alone-in _ _ w.one-row.ensures)))
-    | else-alike w ↦ rw w.row-is (below_more (P l.row) l.t l.invariant (λ a. absurd (both_ways (c.alike.ensures a) w.if-alike.false)))
+      | then-alike w ↦ rw w.row-is (below_more (P (bit_or l.row w.one-row.result)) l.t (λ u h a. in-or-left l.row w.one-row.result u (l.invariant u h a)) (λ a. in-or-right l.row w.one-row.result l.t (alone-in _ _ w.one-row.ensures)))
+      | else-alike w ↦ rw w.row-is (below_more (P l.row) l.t l.invariant (λ a. absurd (both_ways (c.alike.ensures a) w.if-alike.false)))
     ]

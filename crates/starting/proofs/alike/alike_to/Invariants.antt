@@ -1,5 +1,5 @@
 -- Invariant: what is alike, of those looked at, is in the set.
-use Prim.Native.Nat.{ℕ, ◌≤◌, ◌<◌}
+use Prim.Native.Nat.{ℕ, ◌<◌}
 use Rattle.candidates.specs.Laid.{laid_atom}
 use Rattle.candidates.specs.Words.{In}
 use Rattle.starting.specs.Steps.{Alike}

@@ -1,5 +1,5 @@
 -- Invariant: the sets of the first i figure atoms have what is alike.
-use Prim.Native.Nat.{ℕ, ◌≤◌, ◌<◌}
+use Prim.Native.Nat.{ℕ, ◌<◌}
 use mathlib.Core.Path.{◌≡◌}
 use lib.ListN.{length}
 use Rattle.rows.specs.Limits.{sheet_atom_limit}

@@ -1,5 +1,5 @@
 -- The labels, and one number behind them.
-use Rattle.std.proofs.Common.{ℕ, ◌<◌, List, [], ◌∷◌, ◌++◌, length, get_or, set, ap, ◌∙◌, arith, get_or-set_other}
+use Rattle.std.proofs.Common.{ℕ, List, [], ◌∷◌, ◌++◌, get_or, set, ap, ◌∙◌, arith, get_or-set_other}
 use Rattle.std.proofs.lemmas.List.{get_or_append_left}
 use Rattle.rows.specs.Limits.{sheet_link_limit}
 use Rattle.starting.proofs.KinLabels.{row-labels}

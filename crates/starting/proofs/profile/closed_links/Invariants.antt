@@ -1,5 +1,4 @@
 -- Invariant: the links of the first i contexts are 0.
-use Prim.Native.Nat.{◌≤◌}
 use Rattle.starting.specs.Steps.{PortsCleared}
 use Rattle.starting.proofs.profile.closed_links.Given as goal
 

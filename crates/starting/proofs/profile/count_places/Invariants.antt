@@ -1,14 +1,10 @@
 -- Invariant: the first k links are counted.
-use native.Mathlib.Omega.{arith}
-use borrow.Author.Rules.{rules}
-use Prim.Native.Nat.{ℕ, ◌≤◌, ◌+◌, ◌-◌, ◌<◌}
+use Prim.Native.Nat.{ℕ, ◌+◌, ◌<◌}
 use mathlib.Core.Path.{◌≡◌}
 use lib.ListN.{get_or, take}
 use Rattle.rows.specs.Limits.{sheet_link_limit}
-use Rattle.placing.specs.Net.{Range}
 use Rattle.starting.specs.Count.{count as times}
 use Rattle.starting.specs.Steps.{Tally}
-use Rattle.starting.proofs.Tallies.{counted_next, tally-next}
 use Rattle.starting.proofs.profile.count_places.Given as goal
 
 abbrev pub invariant-loop-k : goal.invariant-loop-k

@@ -14,6 +14,6 @@ loop-y-preserved c = let l = c.loop-y in
     let small : l.y < sheet_link_limit = omega (arith, c.loop-y-test.true, c.requires) in
     let P : List ℕ → ℕ → Type 0 = λ r v. Enough a.closed a.wanted (get_or a.counts.now v 0) → InPair r v in
     elim c.if-enough.branch [
-      then-enough w ↦ rw w.pair-is (below_more (P w.with-more.result) l.y (λ v h e. with-kept _ _ small _ w.with-more.ensures v (omega (arith, h, small)) (l.invariant v h e)) (λ e. with-there _ _ small _ w.with-more.ensures))
-    | else-enough w ↦ rw w.pair-is (below_more (P l.pair) l.y l.invariant (λ e. absurd (both_ways (c.enough.ensures e) w.if-enough.false)))
+      | then-enough w ↦ rw w.pair-is (below_more (P w.with-more.result) l.y (λ v h e. with-kept _ _ small _ w.with-more.ensures v (omega (arith, h, small)) (l.invariant v h e)) (λ e. with-there _ _ small _ w.with-more.ensures))
+      | else-enough w ↦ rw w.pair-is (below_more (P l.pair) l.y l.invariant (λ e. absurd (both_ways (c.enough.ensures e) w.if-enough.false)))
     ]

@@ -1,5 +1,5 @@
 -- Invariant: what has places enough, of those looked at, is in the set.
-use Prim.Native.Nat.{ℕ, ◌≤◌, ◌<◌}
+use Prim.Native.Nat.{ℕ, ◌<◌}
 use lib.ListN.{get_or}
 use Rattle.candidates.specs.Words.{InPair}
 use Rattle.starting.specs.Steps.{Enough}

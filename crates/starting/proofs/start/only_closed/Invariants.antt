@@ -1,5 +1,5 @@
 -- Invariant: what is not taken out stays.
-use Prim.Native.Nat.{◌≤◌, ◌+◌, ◌-◌}
+use Prim.Native.Nat.{◌+◌, ◌-◌}
 use mathlib.Core.Path.{◌≡◌}
 use lib.ListN.{get_or}
 use Rattle.candidates.specs.Tables.{LinksStay}

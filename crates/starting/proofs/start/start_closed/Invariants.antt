@@ -1,15 +1,10 @@
 -- Invariant: what has no other marks stays.
-use native.Mathlib.Omega.{arith}
-use borrow.Author.Rules.{rules}
-use Prim.Native.Nat.{◌≤◌, ◌+◌, ◌-◌}
 use mathlib.Core.Path.{◌≡◌}
 use lib.ListN.{get_or}
 use Rattle.rows.specs.declared.Sheet.{Sheet as NormalForm}
 use Rattle.candidates.specs.Marks.{MarksIn}
 use Rattle.candidates.specs.Tables.{LinksStay}
-use Rattle.candidates.proofs.Staying.{links-then}
 use Rattle.starting.specs.Steps.{MarksBack}
-use Rattle.starting.proofs.Marking.{mark-back}
 use Rattle.starting.proofs.start.start_closed.Given as goal
 
 abbrev pub invariant-loop-q : goal.invariant-loop-q

@@ -1,15 +1,8 @@
 -- Invariant: what has a link's marks stays.
-use native.Mathlib.Omega.{arith}
-use borrow.Author.Rules.{rules}
-use Prim.Native.Nat.{◌≤◌, ◌+◌, ◌-◌}
-use mathlib.Core.Path.{◌≡◌}
-use lib.ListN.{get_or}
 use Rattle.rows.specs.declared.Sheet.{Sheet as NormalForm}
 use Rattle.candidates.specs.Marks.{MarksIn}
 use Rattle.candidates.specs.Tables.{LinksStay}
-use Rattle.candidates.proofs.Staying.{links-then}
 use Rattle.starting.specs.Steps.{MarksOn}
-use Rattle.starting.proofs.Marking.{mark_on}
 use Rattle.starting.proofs.start.start_marks.Given as goal
 
 abbrev pub invariant-loop-p : goal.invariant-loop-p

@@ -1,5 +1,5 @@
 -- Invariant: the sets of the first x figure links have what has places enough.
-use Prim.Native.Nat.{ℕ, ◌≤◌, ◌*◌, ◌<◌}
+use Prim.Native.Nat.{ℕ, ◌*◌, ◌<◌}
 use mathlib.Core.Path.{◌≡◌}
 use lib.ListN.{length, get_or}
 use Rattle.rows.specs.Limits.{sheet_link_limit}

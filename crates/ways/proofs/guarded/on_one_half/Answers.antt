@@ -11,8 +11,7 @@ use Rattle.ways.proofs.Words.{some-half}
 use Rattle.ways.proofs.guarded.on_one_half.Goals as goal
 
 pub loop-k-preserved : goal.loop-k-preserved
-loop-k-preserved c = let s = c in
-    let a = s.args in
+loop-k-preserved c = let a = c.args in
     let l = c.loop-k in
     let x = c.link-x in
     let half = c.half_of-halves in
