@@ -20,13 +20,11 @@ fn chain(table: &mut [u16; CHAINS], j: usize, links: [u16; Sheet::MOST_LINKS], c
     requires { (j < sheet_atom_limit) × (count ≤ most_links) × Within sheet_link_limit count links × (length table.old ≡ node_count) }
     ensures { (length table.new ≡ node_count) × ((S : Net) → RowIn S j links count → Chained S (node_of j 0) table.old → Chained S (node_of (suc j) 0) table.new) }
 {
-    let mut k = 0;
-    while k < count {
+    for k in 0..count {
         let y = (links[k] - 1) as usize;
         let v = Sheet::LINKS + (j * Sheet::MOST_LINKS + k);
         table[v] = table[y];
         table[y] = v as u16;
-        k += 1;
     }
 }
 
@@ -35,11 +33,9 @@ pub fn chains(table: &mut [u16; CHAINS], laid: &[u16; LAID], atoms: usize)
     requires { Rowed laid.now atoms × (table.old ≡ replicate node_count 0) }
     ensures { (sheet : NormalForm) → LaidOut sheet laid.now atoms → ChainsIn sheet table.new }
 {
-    let mut j = 0;
-    while j < atoms {
+    for j in 0..atoms {
         let a = laid_atom(laid, j);
         let links = a.links;
         chain(&mut *table, j, links, a.count as usize);
-        j += 1;
     }
 }

@@ -33,10 +33,8 @@ pub fn cut_at(
     requires { (y < sheet_link_limit) × (contexts ≤ figure_contexts) × (length cuts.old ≡ context_room) × (1 ≤ mark) }
     ensures { (length cuts.new ≡ context_room) × ((c : ℕ) → c < contexts → (get_or cuts.new c 0 ≡ 0) ↔ ((get_or cuts.old c 0 ≡ 0) × (get_or ports.now (c * sheet_link_limit + y) 0 ≡ 1))) }
 {
-    let mut c = 0;
-    while c < contexts {
+    for c in 0..contexts {
         cuts[c] = cut_by(ports[c * Sheet::LINKS + y], cuts[c], mark);
-        c += 1;
     }
 }
 
@@ -46,10 +44,8 @@ pub fn numbers(contexts: [PortSet; Sheet::CONTEXT_ROOM], count: usize) -> [u16; 
     ensures { (c : ℕ) → c < count → get_or result c 0 ≡ number_of contexts c }
 {
     let mut list = [0u16; Sheet::CONTEXT_ROOM];
-    let mut c = 0;
-    while c < count {
+    for c in 0..count {
         list[c] = contexts[c].number;
-        c += 1;
     }
     list
 }
@@ -65,8 +61,7 @@ pub fn least(
     ensures { (result ≤ count) × Least numbers.now count cuts.now count result }
 {
     let mut best = count;
-    let mut c = 0;
-    while c < count {
+    for c in 0..count {
         if cuts[c] == 0 {
             if best == count {
                 best = c;
@@ -74,7 +69,6 @@ pub fn least(
                 best = c;
             }
         }
-        c += 1;
     }
     best
 }

@@ -16,13 +16,11 @@ pub fn used_links(count: usize, to: &[u16; Sheet::LINKS], none: u16) -> [u8; She
     ensures { (y : ℕ) → (get_or result y 0 ≡ 1) ↔ ((x : ℕ) × (x < count) × SentTo to.now none x y) }
 {
     let mut flags = [0u8; Sheet::LINKS];
-    let mut x = 0;
-    while x < count {
+    for x in 0..count {
         let y = to[x];
         if y != none {
             flags[(y - 1) as usize] = 1;
         }
-        x += 1;
     }
     flags
 }
@@ -57,12 +55,10 @@ fn port_rows(
     ensures { (length table.new ≡ context_room * sheet_link_limit) × ((p : ℕ) → (get_or table.new p 0 ≡ 1) ↔ ((get_or table.old p 0 ≡ 1) ⊎ PortOfRow numbers.now count row to.now none p)) }
 {
     let ports = row.links;
-    let mut c = 0;
-    while c < count {
+    for c in 0..count {
         if numbers[c] == row.number {
             port_row(&mut *table, c, ports, to, none);
         }
-        c += 1;
     }
 }
 
@@ -79,10 +75,8 @@ pub fn port_table(
     requires { (none ≤ sheet_link_limit + 1) × ((links : ℕ) × Ports contexts count links × Within none links to.now) × (table.old ≡ replicate (context_room * sheet_link_limit) 0) × ((c : ℕ) → c < count → get_or numbers.now c 0 ≡ number_of contexts c) }
     ensures { (p : ℕ) → (get_or table.new p 0 ≡ 1) ↔ ((c : ℕ) × (c < count) × PortOfNumber contexts count to.now none c p) }
 {
-    let mut d = 0;
-    while d < count {
+    for d in 0..count {
         let row = contexts[d];
         port_rows(&mut *table, numbers, count, row, to, none);
-        d += 1;
     }
 }

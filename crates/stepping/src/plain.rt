@@ -91,13 +91,11 @@ fn leads_to(
     requires { (count ≤ most_links) × Within sheet_link_limit count links × Falls node_count chains.now }
     ensures { result ≢ 0 → ((k : ℕ) × (k < count) × (get_or links k 0 ≡ result)) }
 {
-    let mut k = 0;
-    while k < count {
+    for k in 0..count {
         let w = links[k] as usize;
         if !own_link(chains, used, w - 1, t, y, y) {
             return w;
         }
-        k += 1;
     }
     0
 }
@@ -115,13 +113,11 @@ fn all_own(
     requires { (count ≤ most_links) × Within sheet_link_limit count links × Falls node_count chains.now }
     ensures { result ≡ true → AllOwn chains.now used.now links count t y z }
 {
-    let mut k = 0;
-    while k < count {
+    for k in 0..count {
         let w = (links[k] - 1) as usize;
         if !own_link(chains, used, w, t, y, z) {
             return false;
         }
-        k += 1;
     }
     true
 }
@@ -174,12 +170,10 @@ fn new_number(numbers: &[u16; Sheet::CONTEXT_ROOM], c: usize) -> bool
     requires { c < figure_contexts }
     ensures { result ≡ true → (d : ℕ) → d < c → get_or numbers.now d 0 ≢ get_or numbers.now c 0 }
 {
-    let mut d = 0;
-    while d < c {
+    for d in 0..c {
         if numbers[d] == numbers[c] {
             return false;
         }
-        d += 1;
     }
     true
 }
@@ -190,12 +184,10 @@ pub fn one_each(contexts: [PortSet; Sheet::CONTEXT_ROOM], rows: usize) -> bool
     ensures { result ≡ true → (figure : NormalForm) (links : ℕ) → ContextsIn figure contexts rows links → OneEach (net_in figure) }
 {
     let list = numbers(contexts, rows);
-    let mut c = 0;
-    while c < rows {
+    for c in 0..rows {
         if !new_number(&list, c) {
             return false;
         }
-        c += 1;
     }
     true
 }

@@ -41,12 +41,10 @@ pub fn standing(contexts: [PortSet; Sheet::CONTEXT_ROOM], rows: usize) -> [u16; 
     ensures { (figure : NormalForm) (links : ℕ) → ContextsIn figure contexts rows links → Standing figure result }
 {
     let mut words = [0u16; Sheet::LINKS];
-    let mut c = 0;
-    while c < rows {
+    for c in 0..rows {
         let row = contexts[c];
         let links = row.links;
         mark_links(&mut words, links, context_word(row.number));
-        c += 1;
     }
     words
 }

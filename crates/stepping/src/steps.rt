@@ -15,10 +15,8 @@ fn own_labels(labels: &mut [u16; Sheet::LINKS])
     requires { length labels.old ≡ sheet_link_limit }
     ensures { (length labels.new ≡ sheet_link_limit) × ((x : ℕ) → x < sheet_link_limit → get_or labels.new x 0 ≡ x + 1) }
 {
-    let mut x = 0;
-    while x < Sheet::LINKS {
+    for x in 0..Sheet::LINKS {
         labels[x] = (x + 1) as u16;
-        x += 1;
     }
 }
 
@@ -27,12 +25,10 @@ fn relabel(labels: &mut [u16; Sheet::LINKS], n: usize, from: u16, to: u16)
     requires { (n ≤ sheet_link_limit) × (length labels.old ≡ sheet_link_limit) × ((x : ℕ) → n ≤ x → x < sheet_link_limit → get_or labels.old x 0 ≢ from) }
     ensures { (length labels.new ≡ sheet_link_limit) × Relabelled labels.old labels.new from to }
 {
-    let mut x = 0;
-    while x < n {
+    for x in 0..n {
         if labels[x] == from {
             labels[x] = to;
         }
-        x += 1;
     }
 }
 
@@ -89,12 +85,10 @@ pub fn step_labels(
     ensures { (length labels.new ≡ sheet_link_limit) × Labelled contexts count to.now labels.new }
 {
     own_labels(&mut *labels);
-    let mut c = 0;
-    while c < count {
+    for c in 0..count {
         let row = contexts[c];
         let ports = row.links;
         with_context(&mut *labels, to, ports, n);
-        c += 1;
     }
 }
 
@@ -104,8 +98,7 @@ fn all_alone(count: usize, to: &[u16; Sheet::LINKS], none: u16) -> bool
     ensures { result ≡ true → AllAlone count to.now none }
 {
     let mut met = [0u8; Sheet::LINKS];
-    let mut x = 0;
-    while x < count {
+    for x in 0..count {
         let y = to[x];
         if y != none {
             let at = (y - 1) as usize;
@@ -114,7 +107,6 @@ fn all_alone(count: usize, to: &[u16; Sheet::LINKS], none: u16) -> bool
             }
             met[at] = 1;
         }
-        x += 1;
     }
     true
 }
@@ -133,8 +125,7 @@ fn untied(
     let mut labels = [0u16; Sheet::LINKS];
     step_labels(&mut labels, to, contexts, rows, count);
     let mut owner = [0u16; Sheet::LINKS];
-    let mut x = 0;
-    while x < count {
+    for x in 0..count {
         let y = to[x];
         if y != none {
             let at = (y - 1) as usize;
@@ -145,7 +136,6 @@ fn untied(
                 return y;
             }
         }
-        x += 1;
     }
     0
 }
