@@ -14,13 +14,11 @@ fn holders(m: usize, row: u64, atoms: &[u64; Sheet::ATOMS]) -> u64
 {
     let mut set = 0u64;
     let mut bit = 1u64;
-    let mut j = 0;
-    while j < m {
+    for j in 0..m {
         if atoms[j] & row != 0 {
             set = set | bit;
         }
         bit = bit << 1;
-        j += 1;
     }
     set
 }
@@ -31,12 +29,10 @@ fn strip(row: u64, m: usize, atoms: &mut [u64; Sheet::ATOMS], lost: &mut [u64; S
     requires { m ≤ sheet_atom_limit }
     ensures { (length atoms.new ≡ length atoms.old) × AtomsStay atoms.old atoms.new (λ j u. ¬ In row u) }
 {
-    let mut j = 0;
-    while j < m {
+    for j in 0..m {
         let before = atoms[j];
         atoms[j] = minus(before, row);
         lost[j] = lost[j] | (before & row);
-        j += 1;
     }
 }
 
@@ -72,12 +68,10 @@ fn wanted_twice(m: usize, atoms: &[u64; Sheet::ATOMS]) -> u64
 {
     let mut once = 0u64;
     let mut twice = 0u64;
-    let mut j = 0;
-    while j < m {
+    for j in 0..m {
         let row = atoms[j];
         twice = twice | (once & row);
         once = once | row;
-        j += 1;
     }
     twice
 }
@@ -96,14 +90,12 @@ pub(crate) fn contested(m: usize, atoms: &[u64; Sheet::ATOMS]) -> u64
     let twice = wanted_twice(m, atoms);
     let mut set = 0u64;
     let mut bit = 1u64;
-    let mut j = 0;
-    while j < m {
+    for j in 0..m {
         let row = atoms[j];
         if minus(row, twice) == 0 && at_most_one(row) {
             set = set | bit;
         }
         bit = bit << 1;
-        j += 1;
     }
     set
 }

@@ -106,14 +106,12 @@ pub(crate) fn follow_link<'a>(
 {
     let left = pair_at(links, x);
     let mut due = 0u64;
-    let mut k = 0;
-    while k < Sheet::MOST_LINKS {
+    for k in 0..Sheet::MOST_LINKS {
         let some = owners[k * Sheet::LINKS + x];
         if some != 0 {
             let out = barred(users, k, left, gone);
             due = due | take_from(some, out, atoms, lost);
         }
-        k += 1;
     }
     due
 }

@@ -101,9 +101,7 @@ pub(crate) fn follow<'a>(
     ensures empty { result ≡ true → (i : ℕ) × (i < m) × NoAtom atoms.new i }
 {
     let mut due = first_due;
-    let mut left = TURNS;
-    while left > 0 {
-        left -= 1;
+    for _ in 0..TURNS {
         let x = next_link(pending);
         if x < Sheet::LINKS {
             done_link(pending, x);

@@ -132,13 +132,11 @@ pub(crate) fn follow_atom<'a>(
     ensures { LinksStay links.old links.new (GivenRow (laid_atom laid.now) n here row) }
 {
     let count = here.count as usize;
-    let mut k = 0;
-    while k < count {
+    for k in 0..count {
         let x = here.links[k] as usize - 1;
         let before = pair_at(links, x);
         let left = links_left(users, laid, n, row, gone, k, before);
         set_pair(links, x, left);
         note_loss(x, without(before, left), lost, pending);
-        k += 1;
     }
 }

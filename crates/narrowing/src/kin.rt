@@ -32,15 +32,13 @@ fn shared(n: usize, links: &[u64; LINK_SETS]) -> [u64; 2]
     let mut high = 0u64;
     let mut low_twice = 0u64;
     let mut high_twice = 0u64;
-    let mut z = 0;
-    while z < n {
+    for z in 0..n {
         let below = links[z * 2];
         let above = links[z * 2 + 1];
         low_twice = low_twice | (low & below);
         high_twice = high_twice | (high & above);
         low = low | below;
         high = high | above;
-        z += 1;
     }
     [low_twice, high_twice]
 }
@@ -59,15 +57,13 @@ fn strip_others(
     ensures { LinksStay links.old links.new (λ z y. InPair set y → get_or kin.now z 0 ≡ get_or kin.now x 0) }
 {
     let own = kin[x];
-    let mut z = 0;
-    while z < n {
+    for z in 0..n {
         let label = kin[z];
         if label != own {
             let before = pair_at(links, z);
             set_pair(links, z, without(before, set));
             note_loss(z, common(before, set), lost, pending);
         }
-        z += 1;
     }
 }
 
@@ -98,13 +94,11 @@ fn owner_of(owners: &[u64; PLACES], x: usize) -> usize
     requires { x < sheet_link_limit }
     ensures { result < word_digits → (k : ℕ) × (k < most_links) × In (get_or owners.now (k * sheet_link_limit + x) 0) result }
 {
-    let mut k = 0;
-    while k < Sheet::MOST_LINKS {
+    for k in 0..Sheet::MOST_LINKS {
         let some = owners[k * Sheet::LINKS + x];
         if some != 0 {
             return first(some);
         }
-        k += 1;
     }
     DIGITS
 }
@@ -147,9 +141,7 @@ pub(crate) fn kin_turns<'a>(
     if is_empty(others) {
         return;
     }
-    let mut x = 0;
-    while x < n {
+    for x in 0..n {
         kin_turn(owners, kin, x, n, others, links, lost, pending);
-        x += 1;
     }
 }

@@ -40,9 +40,7 @@ fn narrow<'a>(
     ensures empty { result ≡ true → (i : ℕ) × (i < m) × NoAtom atoms.new i }
 {
     let mut due = first_due;
-    let mut left = ROUNDS;
-    while left > 0 {
-        left -= 1;
+    for _ in 0..ROUNDS {
         if follow(
             users, owners, laid, n, parts, m, due, atoms, links, lost, gone, pending,
         ) {

@@ -35,12 +35,10 @@ fn look_up(
             return known;
         }
     }
-    let mut k = 0;
-    while k < count {
+    for k in 0..count {
         let pair = given(laid, n, row, k);
         table[k * 2] = pair[0];
         table[k * 2 + 1] = pair[1];
-        k += 1;
     }
     count
 }
@@ -56,14 +54,12 @@ fn keep_given(
     ensures { LinksStay links.old links.new (TableRow table.now here) }
 {
     let count = here.count as usize;
-    let mut k = 0;
-    while k < count {
+    for k in 0..count {
         let x = here.links[k] as usize - 1;
         let before = pair_at(links, x);
         set_pair(links, x, common(before, [table[k * 2], table[k * 2 + 1]]));
         let more = with(*pending, x);
         *pending = more;
-        k += 1;
     }
 }
 
@@ -84,8 +80,7 @@ pub(crate) fn spread<'a>(
     let mut table = [0u64; GIVEN];
     let mut row = 0u64;
     let mut known = 0;
-    let mut i = 0;
-    while i < m {
+    for i in 0..m {
         let here = laid_atom(parts, i);
         let now = look_up(
             laid,
@@ -99,6 +94,5 @@ pub(crate) fn spread<'a>(
         row = atoms[i];
         known = now;
         keep_given(here, &table, links, pending);
-        i += 1;
     }
 }

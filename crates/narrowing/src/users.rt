@@ -23,12 +23,10 @@ fn add_users(there: Atom, t: usize, users: &mut [u64; PLACES])
     ensures only { (q u : ℕ) → In (get_or users.new q 0) u → In (get_or users.old q 0) u ⊎ ((u ≡ t) × ((k : ℕ) × (k < there.count) × (q ≡ k * sheet_link_limit + (link_of there k - 1)))) }
 {
     let count = there.count as usize;
-    let mut k = 0;
-    while k < count {
+    for k in 0..count {
         let y = there.links[k] as usize;
         let at = k * Sheet::LINKS + (y - 1);
         users[at] = users[at] | one(t);
-        k += 1;
     }
 }
 
@@ -37,10 +35,8 @@ pub fn users_of(laid: &[u16; LAID], n: usize, users: &mut [u64; PLACES])
     requires { Rowed laid.now n × (users.old ≡ replicate (most_links * sheet_link_limit) 0) }
     ensures { UsersIn laid.now n users.new }
 {
-    let mut t = 0;
-    while t < n {
+    for t in 0..n {
         let there = laid_atom(laid, t);
         add_users(there, t, users);
-        t += 1;
     }
 }

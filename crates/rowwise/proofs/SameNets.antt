@@ -1,13 +1,12 @@
 -- Nets that are equal row by row.
 use Prim.Native.Nat.{ℕ, ◌+◌, ◌-◌, ◌<◌, ◌≤◌}
 use mathlib.Core.Path.{◌≡◌, refl, ap, ap₂, sym, ◌∙◌, subst}
-use mathlib.Core.List.{List, [], ◌∷◌, ◌++◌, map}
+use mathlib.Core.List.{List, [], map}
 use mathlib.Core.Bool.{true, false}
 use mathlib.Core.Option.{Option, none, some}
-use native.Mathlib.Numerals.{add-one}
 use native.Mathlib.Omega.{arith}
 use lib.ListN.{length, take, get_or}
-use lib.Seq.{take-suc, length-take-le, get_or-take, ext_get_or}
+use lib.Seq.{length-take-le, get_or-take, ext_get_or}
 use Rattle.hyperlmntal.specs.Congruence.{◌≅◌, ≅-refl}
 use Rattle.rows.specs.declared.Atom.{Atom}
 use Rattle.rows.specs.declared.Sheet as form
@@ -23,9 +22,12 @@ use Rattle.network.proofs.NetIn.{atoms-length, atom-index}
 
 -- The first numbers of two lists are the same: as many, and the same number at each place.
 module _ (a b : List ℕ) (m n : ℕ) (h : m ≤ length a) (l : n ≤ length b) where
-  pub all_same : m ≡ n → ((k : ℕ) → k < m → get_or a k 0 ≡ get_or b k 0) → same_list (take m a) (take n b) ≡ true
-  all_same e f = (says-list (take m a) (take n b)).complete (ext_get_or 0 (take m a) (take n b) (length-take-le m a h ∙ e ∙ sym (length-take-le n b l))
-      (λ i q. let k : i < m = omega (arith, q, length-take-le m a h) in get_or-take m a i 0 k ∙ f i k ∙ sym (get_or-take n b i 0 (omega (arith, e, k)))))
+  all-taken : m ≡ n → ((k : ℕ) → k < m → get_or a k 0 ≡ get_or b k 0) → take m a ≡ take n b
+  all-taken e f = ext_get_or 0 (take m a) (take n b) (length-take-le m a h ∙ e ∙ sym (length-take-le n b l))
+      (λ i q. let k : i < m = omega (arith, q, length-take-le m a h) in get_or-take m a i 0 k ∙ f i k ∙ sym (get_or-take n b i 0 (omega (arith, e, k))))
+
+  pub all_same : m ≡ n → ((k : ℕ) → k < m → get_or a k 0 ≡ get_or b k 0) → true ≡ same_list (take m a) (take n b)
+  all_same e f = sym ((says-list (take m a) (take n b)).complete (all-taken e f))
 
   pub counts-differ : (m ≡ n → ⊥) → false ≡ same_list (take m a) (take n b)
   counts-differ d = sym (turned_down (says-list (take m a) (take n b)) (λ e. d (sym (length-take-le m a h) ∙ ap length e ∙ length-take-le n b l)))
@@ -33,12 +35,10 @@ module _ (a b : List ℕ) (m n : ℕ) (h : m ≤ length a) (l : n ≤ length b) 
   pub number-differs : m ≡ n → (k : ℕ) → k < m → (get_or a k 0 ≡ get_or b k 0 → ⊥) → false ≡ same_list (take m a) (take n b)
   number-differs e k q d = sym (turned_down (says-list (take m a) (take n b)) (λ s. d (sym (get_or-take m a k 0 q) ∙ ap (λ (t : List ℕ). get_or t k 0) s ∙ get_or-take n b k 0 (omega (arith, e, q)))))
 
--- One turn of the loop that compares the links of two atoms, and its end.
-pub same_next : (l m : List ℕ) (k : ℕ) → k < length l → k < length m → take k l ≡ take k m → get_or l k 0 ≡ get_or m k 0 → take (k + 1) l ≡ take (k + 1) m
-same_next l m k h h' e q = rw (add-one k) (take-suc l k 0 h ∙ ap₂ (λ (n : List ℕ) (x : ℕ). n ++ (x ∷ [])) e q ∙ sym (take-suc m k 0 h'))
-
-pub same_end : (a b : Atom) (k : ℕ) → a.name ≡ b.name → a.count ≡ b.count → k ≡ a.count → take k a.links ≡ take k b.links → atom_in a ≡ atom_in b
-same_end a b k name count end e = ap₂ (λ (n : ℕ) (l : List ℕ). (n, l)) name (ap (λ j. take j a.links) (sym end) ∙ e ∙ ap (λ j. take j b.links) (end ∙ count))
+-- Two atoms with the same name and the same links, one by one, are read as one.
+pub same_links : (a b : Atom) → a.count ≤ length a.links → b.count ≤ length b.links → a.name ≡ b.name → a.count ≡ b.count →
+    ((k : ℕ) → k < a.count → get_or a.links k 0 ≡ get_or b.links k 0) → atom_in a ≡ atom_in b
+same_links a b h l name count f = ap₂ (λ (n : ℕ) (l : List ℕ). (n, l)) name (all-taken a.links b.links a.count b.count h l count f)
 
 no-contexts : (n : form.Sheet) → n.context_count ≡ 0 → (net_in n).contexts ≡ []
 no-contexts n e = ap (λ (c : ℕ). map context_in (take c n.contexts)) e

@@ -5,8 +5,5 @@ ghost use Rattle.std.specs.Prelude.{◌≡◌, true, ◌↔◌, ◌<◌};
 pub fn leaves_some(contexts: usize, m: usize, n: usize) -> bool
     ensures { (result ≡ true) ↔ ((contexts ≡ 0) × (m < n)) }
 {
-    if contexts != 0 {
-        return false;
-    }
-    m < n
+    contexts == 0 && m < n
 }
