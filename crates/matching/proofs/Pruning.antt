@@ -69,7 +69,7 @@ module _ (sheet figure : form.Sheet) where
 
   -- ---- the steps
 
-  pub chosen-sent : (k t : ℕ) (a l b : List ℕ) → b ≡ set a k (bit_and (get_or a k 0) (alone t)) → Sent sheet figure k t a l b l false
+  chosen-sent : (k t : ℕ) (a l b : List ℕ) → b ≡ set a k (bit_and (get_or a k 0) (alone t)) → Sent sheet figure k t a l b l false
   chosen-sent k t a l b e = record { stays = λ p h. choose-obeys S F (MayLink l) p a h.obeys k b t e h.there; none = λ z. both_ways z refl }
 
   pub lost-narrowed : (k t : ℕ) (a l b : List ℕ) → b ≡ set a k (fewer (get_or a k 0) (alone t)) → ((p : Placing) → ¬ GoesTo sheet figure a l k t p) → Narrowed sheet figure a l b l
@@ -88,3 +88,9 @@ module _ (sheet figure : form.Sheet) where
           let t = atom_target p (suc w.0) - 1 in
           w.2 t (subst (λ (j : ℕ). AtomIn b j t) (row-place sheet figure os.fit of.fit os.normal of.normal p g w.0)
           (o.atoms (suc w.0) (row-range sheet figure os.fit of.fit os.normal of.normal p g w.0 (omega (arith, w.1, of.count)))))
+
+  -- A figure atom is sent, and the sets are narrowed.
+  pub sent-narrowed : (laid : List ℕ) (n : ℕ) (parts : List ℕ) (m : ℕ) → LaidOut sheet laid n → LaidOut figure parts m → (kin : List ℕ) → RowLabels F (λ x. get_or kin (x - 1) 0)
+      → (k t : ℕ) (a l s b g : List ℕ) (r : Bool) → s ≡ set a k (bit_and (get_or a k 0) (alone t)) → NarrowedBy kin laid n parts m s l b g → (r ≡ true → (i : ℕ) × (i < m) × NoAtom b i) → Sent sheet figure k t a l b g r
+  sent-narrowed laid n parts m os of kin rows k t a l s b g r e narrowed empty =
+      sent-pruned k t a l s l b g false r (chosen-sent k t a l s e) (narrow-pruned laid n parts m os of kin rows s l b g r narrowed empty)

@@ -1,22 +1,37 @@
-// The search before anything is tried: labels of kin, and the first sets, narrowed.
+// The search before anything is tried: atoms laid out, labels of kin, and the first sets, narrowed.
 ghost use Rattle.std.specs.Prelude.{◌≡◌, [], ◌*◌, ◌-◌, length, get_or};
 ghost use Rattle.rows.specs.Limits.{sheet_atom_limit, sheet_link_limit};
-ghost use Rattle.network.specs.NetIn.{net_in};
+ghost use Rattle.placing.specs.Net.{Normal};
+ghost use Rattle.network.specs.NetIn.{net_in, Fit};
 ghost use Rattle.network.specs.Ready.{Ready};
-ghost use Rattle.candidates.specs.Frames.{whole};
+ghost use Rattle.candidates.specs.Frames.{FrameOf, whole};
 ghost use Rattle.candidates.specs.Kin.{RowLabels};
 ghost use Rattle.candidates.specs.Laid.{LaidOut};
 ghost use Rattle.narrowing.specs.Users.{UsersIn};
 ghost use Rattle.matching.specs.Search.{Kept};
 
 use candidates::empty::mark_lost;
-use candidates::frame::Frame;
+use candidates::frame::{Frame, frame_of};
+use candidates::laid::lay;
+use candidates::ports::port_sets;
 use candidates::{KIN, LAID, LINK_SETS};
 use narrowing::PLACES;
 use narrowing::narrow::narrow_all;
 use rows::Sheet;
 use starting::first::first_sets;
 use starting::kin::kin_of;
+
+// A net without its atoms, which are laid out.
+pub(crate) fn lay_out(net: Sheet, laid: &mut [u16; LAID]) -> Frame
+    requires { Fit net × Normal (net_in net) }
+    ensures laid_out { LaidOut net laid.new net.atom_count }
+    ensures frame { FrameOf net result }
+{
+    lay(net, laid);
+    let contexts = net.contexts;
+    let sets = port_sets(contexts, net.context_count);
+    frame_of(net, sets)
+}
 
 // The labels of kin of a figure.
 pub(crate) fn kin_in(figure: Frame, parts: &[u16; LAID]) -> [u16; KIN]

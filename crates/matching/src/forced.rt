@@ -18,14 +18,12 @@ pub(crate) fn advance(
     requires { (k ≤ m) × (m ≤ sheet_atom_limit) × (n ≤ sheet_atom_limit) }
     ensures { Forward atoms.now n m k chosen.old result chosen.new }
 {
-    let mut i = k;
-    while i < m {
+    for i in k..m {
         let t = forced(atoms, i, n);
         if t == 0 {
             return i;
         }
         chosen[i] = t as u16;
-        i += 1;
     }
-    i
+    m
 }

@@ -130,14 +130,12 @@ pub(crate) fn try_singly<'a>(
     ensures { Pruned (sheet_of state laid.now) (figure_of state parts.now) atoms.old links.old atoms.new links.new result }
 {
     let m = state.figure.atom_count;
-    let mut k = 0;
-    while k < m {
+    for k in 0..m {
         if try_row(
             state, users, owners, kin, laid, parts, k, atoms, links, lost, gone,
         ) {
             return true;
         }
-        k += 1;
     }
     false
 }
