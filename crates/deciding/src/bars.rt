@@ -41,9 +41,7 @@ pub fn bar(
     requires { (count ≤ sheet_link_limit) × (x < count) × (y < sheet_link_limit) }
     ensures { BarredTo kinds.now x y bars.old bars.new }
 {
-    let mut z = 0;
-    while z < count {
+    for z in 0..count {
         bar_alike(bars, kinds, x, z, y);
-        z += 1;
     }
 }

@@ -34,11 +34,9 @@ fn double(kinds: &mut [u16; Sheet::LINKS], flags: &[u8; Sheet::LINKS])
     requires { (length kinds.old ≡ sheet_link_limit) × ((x : ℕ) → x < sheet_link_limit → (get_or kinds.old x 0 < 256) × (get_or flags.now x 0 ≤ 1)) }
     ensures { Doubled kinds.old flags.now kinds.new }
 {
-    let mut x = 0;
-    while x < Sheet::LINKS {
+    for x in 0..Sheet::LINKS {
         let kind = kinds[x];
         kinds[x] = kind + kind + wide(flags[x]);
-        x += 1;
     }
 }
 
@@ -48,14 +46,12 @@ pub fn kinds(contexts: [PortSet; Sheet::CONTEXT_ROOM], rows: usize) -> [u16; She
     ensures { (figure : NormalForm) (links : ℕ) → ContextsIn figure contexts rows links → KindsIn figure result }
 {
     let mut k = [0u16; Sheet::LINKS];
-    let mut c = 0;
-    while c < rows {
+    for c in 0..rows {
         let row = contexts[c];
         let links = row.links;
         let mut flags = [0u8; Sheet::LINKS];
         flag_links(&mut flags, links);
         double(&mut k, &flags);
-        c += 1;
     }
     k
 }

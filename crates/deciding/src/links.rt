@@ -44,12 +44,10 @@ fn put_places(
     requires { Places count a × Places count b × (length to.old ≡ sheet_link_limit) }
     ensures { PlacesPut to.old a b count to.new result }
 {
-    let mut k = 0;
-    while k < count {
+    for k in 0..count {
         if !enter(&mut *to, (a[k] - 1) as usize, b[k]) {
             return false;
         }
-        k += 1;
     }
     true
 }
@@ -66,8 +64,7 @@ pub(crate) fn put_atoms<'a>(
     requires { ((n : ℕ) × Rowed laid.now n × ((i : ℕ) → i < m → Range n (get_or atoms_to.now i 0))) × Rowed parts.now m × (length to.old ≡ sheet_link_limit) }
     ensures { (sheet figure : NormalForm) → LaidOut sheet laid.now sheet.atom_count → LaidOut figure parts.now m → AtomsIn sheet figure.atom_count atoms_to.now → Told sheet figure atoms_to.now to.old → AtomsPut sheet figure atoms_to.now to.new result }
 {
-    let mut i = 0;
-    while i < m {
+    for i in 0..m {
         let t = (atoms_to[i] - 1) as usize;
         let a = laid_atom(parts, i);
         let b = laid_atom(laid, t);
@@ -82,7 +79,6 @@ pub(crate) fn put_atoms<'a>(
         if !put_places(&mut *to, x, y, a.count as usize) {
             return false;
         }
-        i += 1;
     }
     true
 }

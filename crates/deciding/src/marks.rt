@@ -15,14 +15,12 @@ fn place_of(marks: &[u16; Sheet::MARK_ROOM], count: usize, mark: u16) -> usize
     requires { count ≤ sheet_marks }
     ensures { PlaceOf marks.now count mark result }
 {
-    let mut i = 0;
-    while i < count {
+    for i in 0..count {
         if marks[i] == mark {
             return i;
         }
-        i += 1;
     }
-    i
+    count
 }
 
 // The figure's m marks are among the sheet's n marks, and their links go to those of the sheet's marks.
@@ -38,8 +36,7 @@ pub(crate) fn put_marks<'a>(
     requires { (n ≤ sheet_marks) × MarkLinks figure_marked.now m }
     ensures { (sheet figure : NormalForm) → MarksIn sheet marks.now marked.now n → MarksIn figure figure_marks.now figure_marked.now m → (atoms : List ℕ) → AtomsIn sheet figure.atom_count atoms → Told sheet figure atoms to.old → AtomsAgree sheet figure atoms to.old → MarksPut sheet figure atoms to.new result }
 {
-    let mut i = 0;
-    while i < m {
+    for i in 0..m {
         let j = place_of(marks, n, figure_marks[i]);
         if j == n {
             return false;
@@ -47,7 +44,6 @@ pub(crate) fn put_marks<'a>(
         if !enter(&mut *to, (figure_marked[i] - 1) as usize, marked[j]) {
             return false;
         }
-        i += 1;
     }
     true
 }
@@ -62,13 +58,11 @@ pub(crate) fn marks_back<'a>(
     requires { (n ≤ sheet_marks) × (m ≤ sheet_marks) }
     ensures { AllAmong marks.now n figure_marks.now m result }
 {
-    let mut i = 0;
-    while i < n {
+    for i in 0..n {
         let j = place_of(figure_marks, m, marks[i]);
         if j == m {
             return false;
         }
-        i += 1;
     }
     true
 }

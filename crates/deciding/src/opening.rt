@@ -18,13 +18,11 @@ pub fn open_links(to: [u16; Sheet::LINKS], none: u16, count: usize) -> Opened
 {
     let mut next = to;
     let mut flags = [0u8; Sheet::LINKS];
-    let mut x = 0;
-    while x < count {
+    for x in 0..count {
         if next[x] == 0 {
             next[x] = none;
             flags[x] = 1;
         }
-        x += 1;
     }
     Opened { to: next, flags }
 }

@@ -19,8 +19,7 @@ fn on_one(contexts: [PortSet; Sheet::CONTEXT_ROOM], rows: usize) -> [u64; 2]
 {
     let mut fresh = [ALL; 2];
     let mut single = [ALL; 2];
-    let mut c = 0;
-    while c < rows {
+    for c in 0..rows {
         let row = contexts[c];
         let links = row.links;
         let again = without(links, fresh);
@@ -28,7 +27,6 @@ fn on_one(contexts: [PortSet; Sheet::CONTEXT_ROOM], rows: usize) -> [u64; 2]
         single = less;
         let left = without(fresh, links);
         fresh = left;
-        c += 1;
     }
     single
 }
@@ -50,10 +48,8 @@ fn flags_beside(flags: &[u8; Sheet::LINKS], set: [u64; 2], count: usize) -> [u8;
     ensures { (length result ≡ sheet_link_limit) × FlagsBeside flags.now set count result }
 {
     let mut r = [0u8; Sheet::LINKS];
-    let mut x = 0;
-    while x < count {
+    for x in 0..count {
         r[x] = unless_in(flags[x], set[x / DIGITS], x % DIGITS);
-        x += 1;
     }
     r
 }

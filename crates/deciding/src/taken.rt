@@ -18,14 +18,12 @@ pub fn taken_by(count: usize, atoms_to: [u16; Sheet::ATOMS]) -> Taken
     ensures { TakenBy atoms_to count result }
 {
     let mut flags = [0u8; Sheet::ATOMS];
-    let mut i = 0;
-    while i < count {
+    for i in 0..count {
         let t = (atoms_to[i] - 1) as usize;
         if flags[t] == 1 {
             return Taken { ok: false, flags };
         }
         flags[t] = 1;
-        i += 1;
     }
     Taken { ok: true, flags }
 }

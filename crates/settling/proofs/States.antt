@@ -1,7 +1,7 @@
 -- One link settled, in the arrays.
 use Prim.Native.Nat.{ℕ, suc, ◌-◌, ◌≤◌, ◌<◌}
 use mathlib.Core.Path.{◌≡◌, refl, sym, ◌∙◌, ap, subst}
-use mathlib.Core.Logic.{◌⊎◌, inl, inr, ◌≢◌}
+use mathlib.Core.Logic.{◌⊎◌, inl, inr}
 use mathlib.Core.List.{List, []}
 use native.Mathlib.Omega.{arith}
 use lib.ListN.{length, take, get_or, set, length-set}
@@ -27,7 +27,7 @@ use Rattle.completing.proofs.Barring.{bars-put, barred-refused, failed-bars}
 use Rattle.completing.proofs.OneRow.{several-suffice}
 use Rattle.deciding.specs.Bars.{BarredTo}
 use Rattle.deciding.specs.Kinds.{KindsIn}
-use Rattle.settling.specs.Completes.{unsettled, Placed, Several, Working, CompletableIn, CompletableAt, BarredBy, BarsIn, WayOut}
+use Rattle.settling.specs.Completes.{unsettled, Several, Working, CompletableIn, CompletableAt, BarredBy, BarsIn, WayOut}
 use Rattle.deciding.proofs.Sets.{set_cases}
 use Rattle.deciding.proofs.Flagged.{flagged-in, flagged-out, cleared-out, cleared-in}
 

@@ -27,7 +27,7 @@ use Rattle.deciding.specs.Bars.{BarredTo}
 use Rattle.deciding.specs.Kinds.{KindsIn}
 use Rattle.deciding.proofs.Sets.{below-cases}
 use Rattle.deciding.proofs.Flagged.{flagged-out}
-use Rattle.settling.specs.Completes.{unsettled, Tables, Working, CompletableIn, CompletableAt, BarsIn, Completes, KeepsBars, CompletesAt, Mends, Hinders, FirstFor}
+use Rattle.settling.specs.Completes.{unsettled, Tables, Working, CompletableAt, BarsIn, Completes, KeepsBars, CompletesAt, Mends, Hinders, FirstFor}
 use Rattle.settling.proofs.States.{links-set, of-put, to-put, working-put, put_back, bars-at, barred-at, failed-at, tried-partial, several-in, way_out}
 
 -- what is read of a net, as it stands there

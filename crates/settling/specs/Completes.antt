@@ -1,7 +1,6 @@
 -- Whether a state can be completed, and its least completion.
-use Rattle.std.specs.Prelude.{ℕ, suc, ◌≤◌, ◌<◌, ◌≡◌, ◌⊎◌, List, [], Bool, true, false, length, take, get_or}
+use Rattle.std.specs.Prelude.{ℕ, suc, ◌≤◌, ◌<◌, ◌≡◌, ◌⊎◌, List, [], Bool, true, false, take, get_or}
 use Rattle.hyperlmntal.specs.Link.{◌∈◌}
-use Rattle.rows.specs.Limits.{sheet_link_limit}
 use Rattle.rows.specs.declared.Sheet as form
 use Rattle.placing.specs.Net.{Range}
 use Rattle.network.specs.NetIn.{net_in}

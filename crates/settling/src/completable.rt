@@ -35,8 +35,7 @@ pub(crate) fn completable(
     }
     let links = fault.links;
     let mut known = *bars;
-    let mut x = 0;
-    while x < nets.count {
+    for x in 0..nets.count {
         if flags[x] == 1 {
             if mendable(
                 nets, laid, chains, taken, kinds, standing, to, flags, &links, x, &mut known,
@@ -44,7 +43,6 @@ pub(crate) fn completable(
                 return true;
             }
         }
-        x += 1;
     }
     false
 }
@@ -67,8 +65,7 @@ fn mendable(
     requires { ((sheet : NormalForm) × (figure : NormalForm) × Tables sheet figure nets laid.now chains.now kinds.now standing.now to.now) × (length flags.now ≡ sheet_link_limit) × (x < nets.count) × (get_or flags.now x 0 ≡ 1) }
     ensures { (sheet figure : NormalForm) → Tables sheet figure nets laid.now chains.now kinds.now standing.now to.now → Mends sheet figure taken.now to.now flags.now bars.old links.now x result × KeepsBars sheet figure taken.now to.now flags.now bars.old x bars.new }
 {
-    let mut y = 0;
-    while y < nets.links {
+    for y in 0..nets.links {
         if links[y] == 1 {
             if tried_at(
                 nets, laid, chains, taken, kinds, standing, to, flags, x, y, bars,
@@ -76,7 +73,6 @@ fn mendable(
                 return true;
             }
         }
-        y += 1;
     }
     false
 }

@@ -50,12 +50,10 @@ fn none_open(flags: &[u8; Sheet::LINKS], count: usize) -> bool
     requires { count ≤ sheet_link_limit }
     ensures { (result ≡ true) ↔ ((x : ℕ) → x < count → get_or flags.now x 0 ≢ 1) }
 {
-    let mut x = 0;
-    while x < count {
+    for x in 0..count {
         if flags[x] == 1 {
             return false;
         }
-        x += 1;
     }
     true
 }

@@ -69,15 +69,13 @@ fn follow(
 {
     let mut at = y;
     let mut atom = t;
-    let mut n = 0;
-    while n < nets.links {
+    for n in 0..nets.links {
         let z = bar_beyond(nets, laid, chains, taken, kinds, used, x, at, atom, bars);
         if z == 0 {
             return;
         }
         at = z - 1;
         atom = other_on(chains, at, atom);
-        n += 1;
     }
 }
 

@@ -26,16 +26,14 @@ fn first_link(
     requires { ((sheet : NormalForm) × (figure : NormalForm) × Tables sheet figure nets laid.now chains.now kinds.now standing.now to.now) × (length flags.now ≡ sheet_link_limit) × (x < nets.count) }
     ensures { (sheet figure : NormalForm) → Tables sheet figure nets laid.now chains.now kinds.now standing.now to.now → FirstFor sheet figure taken.now to.now flags.now bars.old x result × KeepsBars sheet figure taken.now to.now flags.now bars.old x bars.new }
 {
-    let mut y = 0;
-    while y < nets.links {
+    for y in 0..nets.links {
         if tried_at(
             nets, laid, chains, taken, kinds, standing, to, flags, x, y, bars,
         ) {
             return (y + 1) as u16;
         }
-        y += 1;
     }
-    (y + 1) as u16
+    (nets.links + 1) as u16
 }
 
 // The links with a flag in `opened` settled; those on several rows have one in `flags` too. Nothing is barred at first.
@@ -57,8 +55,7 @@ pub(crate) fn settled(
     let mut next = *to;
     let mut rest = *opened;
     let mut several = *flags;
-    let mut x = 0;
-    while x < nets.count {
+    for x in 0..nets.count {
         if rest[x] == 1 {
             let y = first_link(
                 nets, laid, chains, taken, kinds, standing, &next, &several, x, bars,
@@ -67,7 +64,6 @@ pub(crate) fn settled(
             rest[x] = 0;
             several[x] = 0;
         }
-        x += 1;
     }
     next
 }
