@@ -1,5 +1,5 @@
 -- Invariant: the atoms so far have the context.
-use Prim.Native.Nat.{ℕ, ◌≤◌}
+use Prim.Native.Nat.{ℕ}
 use mathlib.Core.List.{List}
 use Rattle.faults.specs.Grows.{growth}
 use Rattle.faults.specs.Gives.{given, Gave}

@@ -1,15 +1,10 @@
-use Prim.Native.Nat.{ℕ, ◌+◌, ◌<◌}
-use mathlib.Core.Path.{◌≡◌, refl, sym, subst}
+use mathlib.Core.Path.{◌≡◌, refl}
 use mathlib.Core.Logic.{◌⊎◌, inl, inr, ⊎_elim}
-use mathlib.Core.List.{List}
 use native.Mathlib.Omega.{arith}
-use lib.ListN.{length, get_or, replicate}
-use Rattle.rows.specs.Limits.{sheet_atom_limit, sheet_link_limit}
-use Rattle.placing.specs.Net.{Net}
-use Rattle.placing.specs.Placing.{Placing}
+use lib.ListN.{get_or, replicate}
+use Rattle.rows.specs.Limits.{sheet_link_limit}
 use Rattle.stepping.specs.Contexts.{number_of}
-use Rattle.faults.specs.Grows.{Tables}
-use Rattle.faults.specs.Gives.{given, TakenFlags, HeldIn, GivenAt}
+use Rattle.faults.specs.Gives.{given}
 use Rattle.stepping.proofs.Tables.{below_next}
 use Rattle.faults.proofs.Serving.{held-as, given-start, other_at, cut-gives, all-given}
 use Rattle.faults.proofs.fault.served.Goals as goal
@@ -30,20 +25,20 @@ pub loop-j-preserved : goal.loop-j-preserved
 loop-j-preserved c = let l = c.loop-j in
     let a = c.args in
     elim c.if-taken-j-ne1.branch [
-      then-taken-j-ne1+then-done-j-ne1+else-one w ↦
-        let e = w.one_more-one.ensures in
-        rw (w.contexts-is, w.done-is) (
-          e.done-room,
-          e.contexts-room,
-          λ S F q held t f.
-              let o = l.invariant.2 S F q held t f in
-              let v = (e.at S F q held t (other_at S F q a.atoms t.around.atom-count a.taken f l.j (omega arith) w.if-taken-j-ne1.true)).none_found w.if-one.false in (
-                v.0 o.0,
-                below_next (λ i. (get_or a.taken i 0 ≡ 1) ⊎ (get_or w.one_more-one.new.done i 0 ≡ 1)) l.j (λ i h. ⊎_elim (λ e. inl e) (λ e. inr (v.1 i (inl e))) (o.1 i h)) (inr (v.1 l.j (inr refl))),
-              ),
-        )
-    | then-taken-j-ne1+else-done-j-ne1 w ↦ rw (w.contexts-is, w.done-is) (l.invariant.0, l.invariant.1, λ S F q held t f. let o = l.invariant.2 S F q held t f in (o.0, below_next (λ i. (get_or a.taken i 0 ≡ 1) ⊎ (get_or l.done i 0 ≡ 1)) l.j o.1 (inr w.if-done-j-ne1.false)))
-    | else-taken-j-ne1 w ↦ rw (w.contexts-is, w.done-is) (l.invariant.0, l.invariant.1, λ S F q held t f. let o = l.invariant.2 S F q held t f in (o.0, below_next (λ i. (get_or a.taken i 0 ≡ 1) ⊎ (get_or l.done i 0 ≡ 1)) l.j o.1 (inl w.if-taken-j-ne1.false)))
+      | then-taken-j-ne1+then-done-j-ne1+else-one w ↦
+          let e = w.one_more-one.ensures in
+          rw (w.contexts-is, w.done-is) (
+            e.done-room,
+            e.contexts-room,
+            λ S F q held t f.
+                let o = l.invariant.2 S F q held t f in
+                let v = (e.at S F q held t (other_at S F q a.atoms t.around.atom-count a.taken f l.j (omega arith) w.if-taken-j-ne1.true)).none_found w.if-one.false in (
+                  v.0 o.0,
+                  below_next (λ i. (get_or a.taken i 0 ≡ 1) ⊎ (get_or w.one_more-one.new.done i 0 ≡ 1)) l.j (λ i h. ⊎_elim (λ e. inl e) (λ e. inr (v.1 i (inl e))) (o.1 i h)) (inr (v.1 l.j (inr refl))),
+                ),
+          )
+      | then-taken-j-ne1+else-done-j-ne1 w ↦ rw (w.contexts-is, w.done-is) (l.invariant.0, l.invariant.1, λ S F q held t f. let o = l.invariant.2 S F q held t f in (o.0, below_next (λ i. (get_or a.taken i 0 ≡ 1) ⊎ (get_or l.done i 0 ≡ 1)) l.j o.1 (inr w.if-done-j-ne1.false)))
+      | else-taken-j-ne1 w ↦ rw (w.contexts-is, w.done-is) (l.invariant.0, l.invariant.1, λ S F q held t f. let o = l.invariant.2 S F q held t f in (o.0, below_next (λ i. (get_or a.taken i 0 ≡ 1) ⊎ (get_or l.done i 0 ≡ 1)) l.j o.1 (inl w.if-taken-j-ne1.false)))
     ]
 
 pub returns : goal.returns

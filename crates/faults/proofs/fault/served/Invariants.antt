@@ -1,5 +1,5 @@
 -- Invariant: the atoms so far are taken or have their least context.
-use Prim.Native.Nat.{ℕ, ◌≤◌, ◌<◌}
+use Prim.Native.Nat.{ℕ, ◌<◌}
 use mathlib.Core.Path.{◌≡◌}
 use mathlib.Core.Logic.{◌⊎◌}
 use lib.ListN.{length, get_or}

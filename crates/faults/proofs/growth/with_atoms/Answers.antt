@@ -1,6 +1,5 @@
 use Prim.Native.Nat.{◌-◌, ◌/◌, ◌%◌, ◌<◌}
 use mathlib.Core.Path.{◌≡◌, sym, subst}
-use mathlib.Core.Logic.{⊎_elim}
 use native.Mathlib.Nat.{div-add-mod', mod-lt}
 use native.Mathlib.Omega.{arith}
 use lib.ListN.{get_or}
@@ -34,16 +33,16 @@ loop-v-preserved c = let l = c.loop-v in
     let g = growth l.order l.next l.way in
     let P : Growth → Type 0 = λ m. Sized a.atoms m × Longer g₀ m × WithAtoms a.chains.now a.y a.atoms (get_or a.chains.now l.v 0) g₀ m in
     let w : P (growth c.if-way-i-eq0.order c.if-way-i-eq0.next c.if-way-i-eq0.way') = elim c.if-way-i-eq0.branch [
-      then-way-i-eq0 w ↦
-    let f : growth c.if-way-i-eq0.order c.if-way-i-eq0.next c.if-way-i-eq0.way' ≡ added g i a.mark = cc in
-    subst P (sym f) (
-      sized-added a.atoms g i a.mark c.requires.1 l.invariant.2 h w.if-way-i-eq0.true c.requires.3,
-      longer-then g₀ g (added g i a.mark) l.invariant.3 (longer-added a.atoms g i a.mark c.requires.1 l.invariant.2 h w.if-way-i-eq0.true c.requires.3),
-      atoms-next a.chains.now a.y a.atoms c.requires.0 l.v i k g₀ g (added g i a.mark) rest e (joins a.atoms g i a.mark c.requires.1 l.invariant.2 h w.if-way-i-eq0.true c.requires.3) l.invariant.4,
-    )
-    | else-way-i-eq0 w ↦
-    let f : growth c.if-way-i-eq0.order c.if-way-i-eq0.next c.if-way-i-eq0.way' ≡ g = cc in
-    subst P (sym f) (l.invariant.2, l.invariant.3, atoms-next a.chains.now a.y a.atoms c.requires.0 l.v i k g₀ g g rest e (stays a.atoms i g w.if-way-i-eq0.false) l.invariant.4)
+      | then-way-i-eq0 w ↦
+          let f : growth c.if-way-i-eq0.order c.if-way-i-eq0.next c.if-way-i-eq0.way' ≡ added g i a.mark = cc in
+          subst P (sym f) (
+            sized-added a.atoms g i a.mark c.requires.1 l.invariant.2 h w.if-way-i-eq0.true c.requires.3,
+            longer-then g₀ g (added g i a.mark) l.invariant.3 (longer-added a.atoms g i a.mark c.requires.1 l.invariant.2 h w.if-way-i-eq0.true c.requires.3),
+            atoms-next a.chains.now a.y a.atoms c.requires.0 l.v i k g₀ g (added g i a.mark) rest e (joins a.atoms g i a.mark c.requires.1 l.invariant.2 h w.if-way-i-eq0.true c.requires.3) l.invariant.4,
+          )
+      | else-way-i-eq0 w ↦
+          let f : growth c.if-way-i-eq0.order c.if-way-i-eq0.next c.if-way-i-eq0.way' ≡ g = cc in
+          subst P (sym f) (l.invariant.2, l.invariant.3, atoms-next a.chains.now a.y a.atoms c.requires.0 l.v i k g₀ g g rest e (stays a.atoms i g w.if-way-i-eq0.false) l.invariant.4)
     ] in
     (c.requires.4.within l.v, c.requires.4.above l.v, w.0, w.1, w.2)
 

@@ -29,7 +29,8 @@ loop-k-preserved c = let l = c.loop-k in
     let n = growth e.order c.with_link-next.result e.way in
     let f = laid-link a.laid.now a.from l.k (omega (arith, laid-few c.args.laid.now c.args.atoms c.args.from c.requires.0 c.requires.1, c.loop-k-test.true)) in
     let now : List ℕ = e.seen in
-    let w = subst (λ (z : ℕ). (1 ≤ z) × (get_or now (z - 1) 0 ≡ 1) × WithLink a.chains.now a.used.now a.ports.now (z - 1) a.atoms a.contexts g l.seen l.cuts n now e.cuts) f (r.0, v.1, v.2) in (record { sized = v.0.sized; longer = longer-then g₀ g n l.invariant.0.longer v.0.longer; flags-room = v.0.flags-room; flags-kept = λ z i. v.0.flags-kept z (l.invariant.0.flags-kept z i); cuts-room = v.0.cuts-room },
+    let w = subst (λ (z : ℕ). (1 ≤ z) × (get_or now (z - 1) 0 ≡ 1) × WithLink a.chains.now a.used.now a.ports.now (z - 1) a.atoms a.contexts g l.seen l.cuts n now e.cuts) f (r.0, v.1, v.2) in (
+      record { sized = v.0.sized; longer = longer-then g₀ g n l.invariant.0.longer v.0.longer; flags-room = v.0.flags-room; flags-kept = λ z i. v.0.flags-kept z (l.invariant.0.flags-kept z i); cuts-room = v.0.cuts-room },
       links-next a.chains.now a.used.now a.ports.now (laid_atom a.laid.now a.from).links a.atoms a.contexts g₀ a.seen.now a.cuts.now l.k g l.seen l.cuts n now e.cuts w.0 l.invariant.0.longer l.invariant.0.sized v.0.flags-kept l.invariant.1 w.1 w.2,
     )
 

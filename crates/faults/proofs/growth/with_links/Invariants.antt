@@ -1,5 +1,4 @@
 -- Invariant: the links so far were looked at.
-use Prim.Native.Nat.{◌≤◌}
 use Rattle.candidates.specs.Laid.{laid_atom}
 use Rattle.faults.specs.Grows.{growth, Enlarged, WithLinks}
 use Rattle.faults.proofs.growth.with_links.Given as goal

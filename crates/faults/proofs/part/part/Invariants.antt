@@ -1,5 +1,5 @@
 -- Invariant: a connected part at whose links the contexts so far are cut off.
-use Prim.Native.Nat.{ℕ, ◌-◌, ◌≤◌, ◌<◌}
+use Prim.Native.Nat.{ℕ, ◌<◌}
 use lib.ListN.{replicate, set}
 use Rattle.rows.specs.Limits.{sheet_atom_limit, sheet_link_limit}
 use Rattle.faults.specs.Parts.{Stepped, Cut}
