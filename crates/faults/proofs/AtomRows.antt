@@ -33,9 +33,6 @@ module _ (S : Net) (j : ℕ) (links : List ℕ) (count : ℕ) (r : RowIn S j lin
 
 -- Atom j as it is read.
 module _ (laid : List ℕ) (atoms j : ℕ) (h : j < atoms) (a : Atom) (e : a ≡ laid_atom laid j) where
-  pub read-few : Rowed laid atoms → a.count ≤ most_links
-  read-few r = subst (λ (b : Atom). b.count ≤ most_links) (sym e) (r.atoms j h).few
-
   pub read-stands : (k : ℕ) → k < a.count → StandsOn laid atoms j (get_or a.links k 0)
   read-stands = subst (λ (b : Atom). (k : ℕ) → k < b.count → StandsOn laid atoms j (get_or b.links k 0)) (sym e) (λ k l S rows. row_on S j (laid_atom laid j).links (laid_atom laid j).count (rows j h) k l)
 

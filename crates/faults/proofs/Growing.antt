@@ -1,7 +1,7 @@
 -- The laws of a component that is grown over the tables.
 use Prim.Native.Nat.{ℕ, suc, ◌+◌, ◌*◌, ◌-◌, ◌≤◌, ◌<◌}
 use mathlib.Core.Path.{◌≡◌, refl, sym, ◌∙◌, ap, subst}
-use mathlib.Core.Logic.{◌↔◌, ◌⊎◌, inl, ⊎_elim, ◌≢◌}
+use mathlib.Core.Logic.{◌↔◌, inl, ⊎_elim, ◌≢◌}
 use mathlib.Core.List.Memᴰ
 use mathlib.Core.List.{List, [], ◌∷◌, ◌++◌, map, map-append}
 use native.Mathlib.Decide.{ℕ_discrete}
@@ -219,9 +219,6 @@ module _ (chains used ports : List ℕ) (y atoms contexts : ℕ) (g : Growth) (f
 
 -- One link of an atom more.
 module _ (chains used ports links : List ℕ) (atoms contexts : ℕ) (g : Growth) (flags cuts : List ℕ) where
-  pub links-start : WithLinks chains used ports links 0 atoms contexts g flags cuts g flags cuts
-  links-start = record { looked = λ k l. absurd (omega arith); grows = λ S F q root j t m on w. w }
-
   pub links-next : (k : ℕ) (next : Growth) (flags_next cuts_next : List ℕ) (r : Growth) (flags_now cuts_now : List ℕ) → 1 ≤ get_or links k 0 → Longer g next → Sized atoms next → Kept flags_next flags_now
       → WithLinks chains used ports links k atoms contexts g flags cuts next flags_next cuts_next
       → get_or flags_now (get_or links k 0 - 1) 0 ≡ 1 → WithLink chains used ports (get_or links k 0 - 1) atoms contexts next flags_next cuts_next r flags_now cuts_now

@@ -1,6 +1,6 @@
 -- The laws of giving contexts to components.
 use Prim.Native.Nat.{ℕ, suc, ◌+◌, ◌-◌, ◌≤◌, ◌<◌}
-use mathlib.Core.Path.{◌≡◌, refl, sym, ◌∙◌, ap, subst}
+use mathlib.Core.Path.{◌≡◌, sym, ◌∙◌, ap, subst}
 use mathlib.Core.Logic.{◌⊎◌, inl, inr, ⊎_elim, ◌≢◌}
 use mathlib.Core.List.{List, []}
 use mathlib.Core.Bool.{true, false}
@@ -40,10 +40,7 @@ held-as S F laid atoms links number other rows e h = record {
   choice-number = λ c l. h.choice-number c l ∙ sym (e c l);
 }
 
--- One atom more has the context.
-pub gave-start : (given : Given) (g : Growth) (number : ℕ) → length given.contexts ≡ sheet_atom_limit → length given.done ≡ sheet_atom_limit → Gave given g number 0 given
-gave-start given g number a b = record { contexts-room = a; done-room = b; all_done = λ h l. absurd (omega arith); each = λ j. inr (refl, refl) }
-
+-- one atom more has the context
 pub gave-next : (given r : Given) (g : Growth) (number n : ℕ) → get_or g.order n 0 < sheet_atom_limit → Gave given g number n r
     → Gave given g number (n + 1) (record { contexts = set r.contexts (get_or g.order n 0) number; done = set r.done (get_or g.order n 0) 1 })
 gave-next given r g number n h w = record {

@@ -47,12 +47,10 @@ fn give(
     requires { (length contexts.old ≡ sheet_atom_limit) × (length done.old ≡ sheet_atom_limit) × (count ≤ sheet_atom_limit) × ((h : ℕ) → h < count → get_or order.now h 0 < sheet_atom_limit) }
     ensures { (members : List ℕ) → Gave (given contexts.old done.old) (growth order.now count members) number count (given contexts.new done.new) }
 {
-    let mut h = 0;
-    while h < count {
+    for h in 0..count {
         let j = order[h] as usize;
         contexts[j] = number;
         done[j] = 1;
-        h += 1;
     }
 }
 
@@ -122,8 +120,7 @@ fn served(
 {
     let mut contexts = [0u16; Sheet::ATOMS];
     let mut done = [0u8; Sheet::ATOMS];
-    let mut j = 0;
-    while j < atoms {
+    for j in 0..atoms {
         if taken[j] != 1 {
             if done[j] != 1 {
                 let one = one_more(
@@ -145,7 +142,6 @@ fn served(
                 }
             }
         }
-        j += 1;
     }
     Fault {
         found: false,

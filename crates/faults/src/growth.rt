@@ -92,13 +92,11 @@ fn with_links(
     let at = from * Sheet::FIELDS;
     let width = laid[at + 1] as usize;
     let mut next = count;
-    let mut k = 0;
-    while k < width {
+    for k in 0..width {
         let y = (laid[at + 2 + k] - 1) as usize;
         next = with_link(
             order, way, seen, cuts, next, chains, used, ports, y, atoms, contexts, from,
         );
-        k += 1;
     }
     next
 }

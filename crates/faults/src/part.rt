@@ -23,12 +23,10 @@ pub fn stands(laid: &[u16; LAID], atoms: usize, j: usize, z: usize) -> bool
         let a = laid_atom(laid, j);
         let links = a.links;
         let count = a.count as usize;
-        let mut k = 0;
-        while k < count {
+        for k in 0..count {
             if links[k] as usize == z {
                 return true;
             }
-            k += 1;
         }
     }
     false
@@ -97,16 +95,14 @@ fn way_back(
     ensures { result ≤ sheet_atom_limit }
 {
     let mut j = from;
-    let mut n = 0;
-    while n < Sheet::ATOMS {
+    for n in 0..Sheet::ATOMS {
         if members[j] == 1 {
             return n;
         }
         path[n] = j as u16;
         j = wide(way[j]) % Sheet::ATOMS;
-        n += 1;
     }
-    n
+    Sheet::ATOMS
 }
 
 // The atoms on the way to an atom join.
@@ -124,10 +120,9 @@ fn with_way(
     ensures { Stepped laid.now atoms links used.now members.old seen.old members.new seen.new }
 {
     let mut path = [0u16; Sheet::ATOMS];
-    let mut n = way_back(&mut path, members, way, from);
-    while 0 < n {
-        n -= 1;
-        let j = wide(path[n]) % Sheet::ATOMS;
+    let n = way_back(&mut path, members, way, from);
+    for i in (0..n).rev() {
+        let j = wide(path[i]) % Sheet::ATOMS;
         with_step(members, seen, laid, atoms, links, used, way[j], j);
     }
 }
@@ -181,9 +176,8 @@ pub(crate) fn part(
     let mut members = [0u8; Sheet::ATOMS];
     let mut seen = [0u8; Sheet::LINKS];
     members[root] = 1;
-    let mut c = 0;
-    while c < contexts {
-        if with_cut(
+    for c in 0..contexts {
+        if !with_cut(
             &mut members,
             &mut seen,
             laid,
@@ -195,8 +189,6 @@ pub(crate) fn part(
             c,
             cuts[c],
         ) {
-            c += 1;
-        } else {
             return all;
         }
     }

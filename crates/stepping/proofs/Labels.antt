@@ -3,9 +3,9 @@ use Prim.Native.Nat.{ℕ, ◌+◌, ◌≤◌, ◌<◌}
 use mathlib.Core.Path.{◌≡◌, refl, sym, ◌∙◌, ap, subst}
 use mathlib.Core.Logic.{◌⊎◌, inl, inr, ◌≢◌, ⊎_elim}
 use mathlib.Core.List.{List}
-use native.Mathlib.Decide.{ℕ_discrete, dec_lt}
+use native.Mathlib.Decide.{ℕ_discrete}
 use native.Mathlib.Omega.{arith}
-use lib.ListN.{length, get_or, set, length-set}
+use lib.ListN.{get_or, set}
 use Rattle.rows.specs.Held.{relabelled}
 use Rattle.rows.specs.Limits.{sheet_link_limit}
 use Rattle.placing.proofs.Joined.{relabelled-hit, relabelled-miss}
@@ -16,8 +16,7 @@ use Rattle.candidates.proofs.Halves.{in_without}
 use Rattle.candidates.proofs.Members.{Seen, seen_more}
 use Rattle.network.specs.Reach.{Reach, stay, move}
 use Rattle.network.proofs.Reaching.{reach-then}
-use Rattle.stepping.specs.Labels.{Tie, Sound, Relabelled, Bounded, Grew, GrewWith, Tied, AllTied}
-use Rattle.stepping.proofs.Tables.{below_set, above-set, below_next}
+use Rattle.stepping.specs.Labels.{Tie, Sound, Relabelled, Bounded, Grew, GrewWith, Tied}
 
 pub relabelled-same : (from to c : ℕ) → to ≡ from → relabelled from to c ≡ c
 relabelled-same from to c e = go (ℕ_discrete c from)
@@ -121,10 +120,6 @@ module _ (to set : List ℕ) (n : ℕ) (few : n ≤ sheet_link_limit) (below : B
         (λ q. absurd (w.0 (sym q))),
   )
 
--- links of a set that are tied stay tied
-pub all-kept : (to set : List ℕ) → Below sheet_link_limit set → (l m : List ℕ) → ((x z : ℕ) → x < sheet_link_limit → z < sheet_link_limit → get_or l x 0 ≡ get_or l z 0 → get_or m x 0 ≡ get_or m z 0) → AllTied to set l → AllTied to set m
-all-kept to set below l m kept f x z h k i j e = kept x z (below x h i) (below z k j) (f x z h k i j e)
-
 -- tied to all links of a set
 abbrev pub AllWith : List ℕ → List ℕ → List ℕ → ℕ → Type 0
 AllWith to set l x = (z : ℕ) → z < pair_digits → InPair set z → Tied to l x z
@@ -171,23 +166,3 @@ module _ (n : ℕ) (few : n ≤ sheet_link_limit) (labels : List ℕ) where
         low : (x : ℕ) → x < n → Dec (get_or labels x 0 ≡ from) → get_or next x 0 ≤ n
         low x h (yes e) = omega (arith, f x (omega arith), relabelled-hit from to (get_or labels x 0) e)
         low x h (no e) = omega (arith, f x (omega arith), relabelled-miss from to (get_or labels x 0) e, b.low x h)
-
--- one link more, whose label may change
-module _ (from to : ℕ) (start l : List ℕ) (x : ℕ) (h : x < length l)
-    (below : (i : ℕ) → i < x → get_or l i 0 ≡ relabelled from to (get_or start i 0)) (above : (i : ℕ) → x ≤ i → get_or l i 0 ≡ get_or start i 0) where
-  pub relabel-step : (m : List ℕ) → ((get_or l x 0 ≡ from) × (m ≡ set l x to)) ⊎ ((¬ (get_or l x 0 ≡ from)) × (m ≡ l))
-      → (length m ≡ length l) × ((i : ℕ) → i < x + 1 → get_or m i 0 ≡ relabelled from to (get_or start i 0)) × ((i : ℕ) → x + 1 ≤ i → get_or m i 0 ≡ get_or start i 0)
-  relabel-step m (inl w) = subst (λ (n : List ℕ). (length n ≡ length l) × ((i : ℕ) → i < x + 1 → get_or n i 0 ≡ relabelled from to (get_or start i 0)) × ((i : ℕ) → x + 1 ≤ i → get_or n i 0 ≡ get_or start i 0)) (sym w.1)
-      (simp length-set, below_set (λ i v. v ≡ relabelled from to (get_or start i 0)) l x to h below (sym (relabelled-hit from to (get_or start x 0) (sym (above x (omega arith)) ∙ w.0))), λ i k. above-set l x to i k ∙ above i (omega arith))
-  relabel-step m (inr w) = subst (λ (n : List ℕ). (length n ≡ length l) × ((i : ℕ) → i < x + 1 → get_or n i 0 ≡ relabelled from to (get_or start i 0)) × ((i : ℕ) → x + 1 ≤ i → get_or n i 0 ≡ get_or start i 0)) (sym w.1)
-      (refl, below_next (λ i. get_or l i 0 ≡ relabelled from to (get_or start i 0)) x below (above x (omega arith) ∙ sym (relabelled-miss from to (get_or start x 0) (λ e. w.0 (above x (omega arith) ∙ e)))), λ i k. above i (omega arith))
-
--- the links from n on keep their labels
-pub relabel-end : (from to : ℕ) (start l : List ℕ) (n : ℕ)
-    → ((i : ℕ) → i < n → get_or l i 0 ≡ relabelled from to (get_or start i 0)) → ((i : ℕ) → n ≤ i → get_or l i 0 ≡ get_or start i 0)
-    → ((i : ℕ) → n ≤ i → i < sheet_link_limit → get_or start i 0 ≢ from) → Relabelled start l from to
-relabel-end from to start l n below above other x h = go (dec_lt x n)
-  where
-    go : Dec (x < n) → get_or l x 0 ≡ relabelled from to (get_or start x 0)
-    go (yes w) = below x w
-    go (no w) = above x (omega arith) ∙ sym (relabelled-miss from to (get_or start x 0) (other x (omega arith) h))

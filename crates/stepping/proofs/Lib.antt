@@ -1,14 +1,11 @@
 -- Arrays as flags and tables.
 pub mod Tables
 pub mod Ports
-pub mod Rows
 pub mod StandingWords
 pub mod Reading
 pub mod Chaining
 pub mod Walking
 pub mod PlainSteps
--- Contexts that are left.
-pub mod Least
 -- Labels of figure links.
 pub mod Labels
 pub mod Owners

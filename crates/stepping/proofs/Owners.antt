@@ -7,7 +7,6 @@ use native.Mathlib.Decide.{ℕ_discrete}
 use native.Mathlib.Omega.{arith}
 use lib.ListN.{length, get_or, set, replicate}
 use lib.Seq.{get_or-set_same, get_or-set_other}
-use Rattle.rows.specs.Limits.{sheet_link_limit}
 use Rattle.candidates.specs.declared.ports.PortSet.{PortSet}
 use Rattle.network.specs.Reach.{Reach, stay, move}
 use Rattle.stepping.specs.Labels.{Tie, Labelled, Apart}
@@ -89,14 +88,3 @@ module _ (to labels : List ℕ) (none : ℕ) where
             λ r. e (tied-label sets rows to labels l r),
           );
         }
-
-  -- all links have the label of the owner of where they go
-  pub owners-one : (sets : List PortSet) (rows links : ℕ) (owner : List ℕ) → links ≤ sheet_link_limit → Labelled sets rows to labels → Owners links owner → Apart sets rows links to none 0
-  owners-one sets rows links owner few l f = record {
-    all-tied = λ i x z w m.
-        let a = f.1 x m.first-in (λ e. m.not_none (sym m.first-at ∙ e)) in
-        let b = f.1 z m.second-in (λ e. m.not_none (sym m.second_at ∙ e)) in
-        l.sound x z (omega (arith, m.first-in, few)) (omega (arith, m.second-in, few))
-        (a.1 ∙ ap (λ (y : ℕ). get_or labels (get_or owner (y - 1) 0 - 1) 0) (m.first-at ∙ sym m.second_at) ∙ sym b.1);
-    two-apart = λ n. absurd (n refl);
-  }

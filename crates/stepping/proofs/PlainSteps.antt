@@ -1,5 +1,5 @@
 -- Plain steps as the tables say them, and contexts with numbers of their own.
-use Prim.Native.Nat.{ℕ, suc, ◌-◌, ◌≤◌, ◌<◌}
+use Prim.Native.Nat.{ℕ, suc, ◌-◌, ◌<◌}
 use mathlib.Core.Path.{◌≡◌, sym, ◌∙◌, ap, subst}
 use mathlib.Core.Logic.{◌⊎◌, inl, inr, ⊎_elim, ◌≢◌}
 use mathlib.Core.List.{List}
@@ -7,7 +7,6 @@ use native.Mathlib.Decide.{ℕ_discrete}
 use native.Mathlib.Omega.{arith}
 use lib.ListN.{length, get_or}
 use Rattle.hyperlmntal.specs.Link.{◌∈◌}
-use Rattle.rows.specs.Format.{most_links}
 use Rattle.rows.specs.Limits.{sheet_link_limit}
 use Rattle.rows.specs.declared.Atom.{Atom}
 use Rattle.rows.specs.declared.Sheet as form
@@ -25,8 +24,7 @@ use Rattle.completing.specs.Known.{Touches}
 use Rattle.completing.specs.Fault.{Used}
 use Rattle.completing.specs.Neighbours.{PlainStep, OneEach}
 use Rattle.stepping.specs.Contexts.{number_of}
-use Rattle.stepping.specs.Chains.{node_of, node_count, Falls, ChainsIn, RowIn}
-use Rattle.stepping.specs.Flags.{Within}
+use Rattle.stepping.specs.Chains.{ChainsIn, RowIn}
 use Rattle.stepping.specs.Plain.{UsedBy, FreeBy, OnlyOn, OnlyBy, OtherOn, OtherBy, OwnLink, AllOwn}
 use Rattle.stepping.proofs.Reading.{atom-links}
 use Rattle.stepping.proofs.Chaining.{laid_in}
@@ -116,11 +114,6 @@ module _ (sheet : form.Sheet) (f : Fit sheet) where
 
 -- The row of atom t as it was read.
 module _ (laid chains : List ℕ) (atoms t : ℕ) (a : Atom) (e : a ≡ laid_atom laid t) (h : t < atoms) where
-  pub row-ready : Rowed laid atoms → Falls (node_of atoms 0) chains → (a.count ≤ most_links) × Within sheet_link_limit a.count a.links × Falls node_count chains
-  row-ready r c =
-      let u = subst (λ (b : Atom). Numbers sheet_link_limit b.count b.links) (sym e) (r.atoms t h) in
-      (u.few, u.numbered, record { within = λ v. omega (arith, c.within v, r.few); above = c.above; falls = c.falls })
-
   -- link `found`, counted from 1, is in it
   abbrev Found : ℕ → Type 0
   Found found = (k : ℕ) × (k < a.count) × (get_or a.links k 0 ≡ found)

@@ -15,12 +15,12 @@ use Rattle.network.specs.NetIn.{context_in, net_in, atom_at, context_at, Fit}
 use Rattle.network.specs.Ready.{state_in}
 use Rattle.network.proofs.NetIn.{atom-index, context-index, context-in, context-of}
 use Rattle.candidates.specs.Words.{pair_digits}
-use Rattle.candidates.specs.PortSets.{set_at, PortIn, ContextsIn}
+use Rattle.candidates.specs.PortSets.{PortIn, ContextsIn}
 use Rattle.candidates.specs.declared.ports.PortSet.{PortSet}
 use Rattle.candidates.proofs.PortRows.{port-in, port-range, in-port}
 use Rattle.completing.specs.Fault.{Used}
 use Rattle.stepping.specs.Contexts.{number_of}
-use Rattle.stepping.specs.Flags.{Within, SentTo, IsAtPort, PortOfNumber, PortOfRow}
+use Rattle.stepping.specs.Flags.{Within, SentTo, IsAtPort, PortOfNumber}
 use Rattle.stepping.proofs.Tables.{Marked}
 
 -- only what was flagged
@@ -30,20 +30,6 @@ marked-only P n l f p = ((λ q. go ((f p).0 q)), (λ t. (f p).1 (inr t)))
     go : ⊥ ⊎ ((k : ℕ) × (k < n) × P k p) → (k : ℕ) × (k < n) × P k p
     go (inl b) = absurd b
     go (inr t) = t
-
--- the ports of all rows, told by contexts
-pub ports-read : (sets : List PortSet) (numbers to : List ℕ) (none count : ℕ) → ((c : ℕ) → c < count → get_or numbers c 0 ≡ number_of sets c) → (l : List ℕ)
-    → Marked (λ p. ⊥) (λ d. PortOfRow numbers count (set_at sets d) to none) count l → (p : ℕ) → (get_or l p 0 ≡ 1) ↔ ((c : ℕ) × (c < count) × PortOfNumber sets count to none c p)
-ports-read sets numbers to none count same l f p = (onward, back)
-  where
-    flagged : (get_or l p 0 ≡ 1) ↔ ((d : ℕ) × (d < count) × PortOfRow numbers count (set_at sets d) to none p)
-    flagged = marked-only (λ d. PortOfRow numbers count (set_at sets d) to none) count l f p
-
-    onward : get_or l p 0 ≡ 1 → (c : ℕ) × (c < count) × PortOfNumber sets count to none c p
-    onward e = let t = flagged.0 e in let u = t.2 in (u.0, u.1, (t.0, t.1, (sym u.2.0 ∙ same u.0 u.1, u.2.1)))
-
-    back : (c : ℕ) × (c < count) × PortOfNumber sets count to none c p → get_or l p 0 ≡ 1
-    back t = let u = t.2 in flagged.1 (u.0, u.1, (t.0, t.1, (same t.0 t.1 ∙ sym u.2.0, u.2.1)))
 
 module _ (sheet : form.Sheet) (f : Fit sheet) where
   up : (j : ℕ) → j + 1 ≡ suc j

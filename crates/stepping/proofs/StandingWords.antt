@@ -22,7 +22,7 @@ use Rattle.candidates.specs.Words.{In, alone, pair_digits, InPair, PartOf, empty
 use Rattle.candidates.specs.PortSets.{set_at, PortIn, ContextsIn}
 use Rattle.candidates.specs.declared.ports.PortSet.{PortSet}
 use Rattle.candidates.proofs.Digits.{none_in, in-or-left, in-or-right, or-in, alone-in, alone-only}
-use Rattle.candidates.proofs.Members.{Seen, part-self, part-less, seen_none, seen_more, seen_all}
+use Rattle.candidates.proofs.Members.{Seen, part-less, seen_more, seen_all}
 use Rattle.completing.specs.Known.{Stands}
 use Rattle.stepping.proofs.Tables.{zeros}
 use Rattle.stepping.specs.Standing.{context_digits, digit_of, Standing, Marked, StandingTo}
@@ -44,9 +44,6 @@ module _ (was ports : List ℕ) (word : ℕ) where
     pub kept : (x t : ℕ) → In (get_or was x 0) t → In (get_or words x 0) t
     pub seen : Seen (HasWord words) ports rest
     pub only : (x t : ℕ) → In (get_or words x 0) t → In (get_or was x 0) t ⊎ (InPair ports x × In word t)
-
-  pub marking-start : length was ≡ sheet_link_limit → Marking ports was
-  marking-start e = record { part = part-self ports; room = e; kept = λ x t i. i; seen = seen_none (HasWord was) ports; only = λ x t i. inl i }
 
   pub marking-end : (rest words : List ℕ) → empty_pair rest ≡ true → Marking rest words → Marked was ports word words
   marking-end rest words e m = record { room = m.room; kept = m.kept; joined = λ x h i. seen_all (HasWord words) ports rest e m.seen x h i; only = m.only }

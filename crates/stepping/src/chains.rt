@@ -36,6 +36,6 @@ pub fn chains(table: &mut [u16; CHAINS], laid: &[u16; LAID], atoms: usize)
     for j in 0..atoms {
         let a = laid_atom(laid, j);
         let links = a.links;
-        chain(&mut *table, j, links, a.count as usize);
+        chain(table, j, links, a.count as usize);
     }
 }

@@ -57,7 +57,7 @@ fn port_rows(
     let ports = row.links;
     for c in 0..count {
         if numbers[c] == row.number {
-            port_row(&mut *table, c, ports, to, none);
+            port_row(table, c, ports, to, none);
         }
     }
 }
@@ -77,6 +77,6 @@ pub fn port_table(
 {
     for d in 0..count {
         let row = contexts[d];
-        port_rows(&mut *table, numbers, count, row, to, none);
+        port_rows(table, numbers, count, row, to, none);
     }
 }

@@ -53,7 +53,7 @@ fn with_port(
             let from = labels[b];
             let label = labels[a];
             if from != label {
-                relabel(&mut *labels, n, from, label);
+                relabel(labels, n, from, label);
             }
         }
     }
@@ -69,7 +69,7 @@ fn with_context(labels: &mut [u16; Sheet::LINKS], to: &[u16; Sheet::LINKS], set:
         let a = first_link(rest);
         let less = without_link(rest, a);
         rest = less;
-        with_port(&mut *labels, to, rest, a, n);
+        with_port(labels, to, rest, a, n);
     }
 }
 
@@ -84,11 +84,11 @@ pub fn step_labels(
     requires { Ports contexts count n × (length labels.old ≡ sheet_link_limit) }
     ensures { (length labels.new ≡ sheet_link_limit) × Labelled contexts count to.now labels.new }
 {
-    own_labels(&mut *labels);
+    own_labels(labels);
     for c in 0..count {
         let row = contexts[c];
         let ports = row.links;
-        with_context(&mut *labels, to, ports, n);
+        with_context(labels, to, ports, n);
     }
 }
 

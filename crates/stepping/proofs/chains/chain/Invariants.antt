@@ -1,5 +1,4 @@
 -- Invariant: the places so far are chained.
-use Prim.Native.Nat.{◌≤◌}
 use mathlib.Core.Path.{◌≡◌}
 use lib.ListN.{length}
 use Rattle.placing.specs.Net.{Net}

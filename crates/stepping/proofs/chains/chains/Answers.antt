@@ -14,7 +14,8 @@ loop-j-init c = (ap length c.requires.1 ∙ length-replicate {A = ℕ} node_coun
 pub loop-j-preserved : goal.loop-j-preserved
 loop-j-preserved c = let l = c.loop-j in
     let h : l.j < c.args.atoms = c.loop-j-test.true in
-    let e : suc l.j ≡ l.j + 1 = omega arith in (c.chain.ensures.0,
+    let e : suc l.j ≡ l.j + 1 = omega arith in (
+      c.chain.ensures.0,
       λ sheet o. subst (λ m. Chained (net_in sheet) (node_of m 0) c.chain.new.table) e (c.chain.ensures.1 (net_in sheet)
           (subst (λ (r : Atom). RowIn (net_in sheet) l.j r.links r.count) (sym c.laid_atom-a.ensures) (laid_in sheet c.args.laid.now c.args.atoms o l.j h)) (l.invariant.1 sheet o)),
     )

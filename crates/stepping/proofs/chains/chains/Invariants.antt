@@ -1,5 +1,4 @@
 -- Invariant: the places of the atoms so far are chained.
-use Prim.Native.Nat.{◌≤◌}
 use mathlib.Core.Path.{◌≡◌}
 use lib.ListN.{length}
 use Rattle.rows.specs.declared.Sheet.{Sheet as NormalForm}

@@ -1,48 +1,9 @@
-use borrow.Author.Rules.{rules}
-use Prim.Native.Nat.{◌*◌, ◌<◌}
-use mathlib.Core.Path.{◌≡◌, sym, ◌∙◌}
+use mathlib.Core.Path.{sym, ◌∙◌}
 use native.Mathlib.Omega.{arith}
-use borrow.Author.Tests.{not-true, not-false}
-use lib.ListN.{length, get_or, length-set}
-use Rattle.rows.specs.Limits.{sheet_link_limit, context_room}
-use Rattle.placing.specs.Net.{Range}
-use Rattle.candidates.specs.Words.{pair_size}
+use lib.ListN.{length-set}
 use Rattle.candidates.proofs.Halves.{without-smaller}
-use Rattle.stepping.proofs.Ports.{Noted, noted-none, noted-all, noted-skip, noted-put}
+use Rattle.stepping.proofs.Ports.{noted-all, noted-skip, noted-put}
 use Rattle.stepping.proofs.lookup.port_row.Goals as goal
-
-pub loop-rest-init : goal.loop-rest-init
-loop-rest-init c = (c.requires.3, noted-none c.args.to.now c.args.none c.args.set c.args.c c.args.table.now)
-
-pub first_link-x-requires : goal.first_link-x-requires
-first_link-x-requires c = sym c.is_empty.ensures ∙ c.loop-rest-test.true
-
-pub bounds-to-x : goal.bounds-to-x
-bounds-to-x c = let f = c.first_link-x in
-    let r = c.requires.2 f.result f.ensures.0 (c.loop-rest.invariant.1.part f.result f.ensures.0 f.ensures.1) in
-    omega (arith, r.0, r.1.0, r.1.1)
-
-pub overflow_sub-table : goal.overflow_sub-table
-overflow_sub-table c = let f = c.first_link-x in
-    let r = c.requires.2 f.result f.ensures.0 (c.loop-rest.invariant.1.part f.result f.ensures.0 f.ensures.1) in
-    omega (arith, r.0, r.1.0, r.1.1)
-
-pub overflow_cast-table : goal.overflow_cast-table
-overflow_cast-table c = let f = c.first_link-x in
-    let r = c.requires.2 f.result f.ensures.0 (c.loop-rest.invariant.1.part f.result f.ensures.0 f.ensures.1) in
-    omega (arith, r.0, r.1.0, r.1.1)
-
-pub overflow_add-table : goal.overflow_add-table
-overflow_add-table c = let f = c.first_link-x in
-    let r = c.requires.2 f.result f.ensures.0 (c.loop-rest.invariant.1.part f.result f.ensures.0 f.ensures.1) in
-    let n = c.if-y-none.true in
-    omega (arith, r.0, r.1.0, r.1.1)
-
-pub bounds-table-c : goal.bounds-table-c
-bounds-table-c c = let f = c.first_link-x in
-    let r = c.requires.2 f.result f.ensures.0 (c.loop-rest.invariant.1.part f.result f.ensures.0 f.ensures.1) in
-    let n = c.if-y-none.true in
-    omega (arith, r.0, r.1.0, r.1.1)
 
 pub loop-rest-smaller-then-y-none : goal.loop-rest-smaller-then-y-none
 loop-rest-smaller-then-y-none c = let f = c.first_link-x.ensures in without-smaller _ _ f.0 _ c.without_link-less.ensures f.1

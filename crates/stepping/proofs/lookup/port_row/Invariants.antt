@@ -1,15 +1,10 @@
 -- Invariant: the links that are not left are flagged.
-use borrow.Author.Rules.{rules}
-use Prim.Native.Nat.{◌*◌, ◌<◌}
-use mathlib.Core.Path.{◌≡◌, sym, ◌∙◌}
-use native.Mathlib.Omega.{arith}
-use borrow.Author.Tests.{not-true, not-false}
-use lib.ListN.{length, get_or, length-set}
+use Prim.Native.Nat.{◌*◌}
+use mathlib.Core.Path.{◌≡◌}
+use lib.ListN.{length}
 use Rattle.rows.specs.Limits.{sheet_link_limit, context_room}
-use Rattle.placing.specs.Net.{Range}
 use Rattle.candidates.specs.Words.{pair_size}
-use Rattle.candidates.proofs.Halves.{without-smaller}
-use Rattle.stepping.proofs.Ports.{Noted, noted-none, noted-all, noted-skip, noted-put}
+use Rattle.stepping.proofs.Ports.{Noted}
 use Rattle.stepping.proofs.lookup.port_row.Given as goal
 
 abbrev pub invariant-loop-rest : goal.invariant-loop-rest

@@ -1,5 +1,5 @@
 -- Invariant: the contexts so far are flagged.
-use Prim.Native.Nat.{◌*◌, ◌≤◌}
+use Prim.Native.Nat.{◌*◌}
 use mathlib.Core.Path.{◌≡◌}
 use lib.ListN.{length, get_or}
 use Rattle.rows.specs.Limits.{sheet_link_limit, context_room}

@@ -1,5 +1,5 @@
 -- Invariant: the rows so far are flagged.
-use Prim.Native.Nat.{◌*◌, ◌≤◌}
+use Prim.Native.Nat.{◌*◌}
 use mathlib.Core.Path.{◌≡◌}
 use lib.ListN.{length}
 use Rattle.rows.specs.Limits.{sheet_link_limit, context_room}

@@ -1,5 +1,4 @@
 use mathlib.Core.Path.{refl}
-use native.Mathlib.Omega.{arith}
 use lib.ListN.{replicate}
 use Rattle.rows.specs.Limits.{sheet_link_limit}
 use Rattle.stepping.specs.Flags.{SentTo}

@@ -1,5 +1,4 @@
 -- Invariant: the links so far are flagged.
-use Prim.Native.Nat.{◌≤◌}
 use mathlib.Core.Path.{◌≡◌}
 use lib.ListN.{length}
 use Rattle.rows.specs.Limits.{sheet_link_limit}

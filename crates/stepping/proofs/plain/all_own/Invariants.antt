@@ -1,5 +1,4 @@
 -- `plain::all_own` meets its contract. The loop's invariant: the first k links are passed. Assumes nothing.
-use Prim.Native.Nat.{◌≤◌}
 use Rattle.stepping.specs.Plain.{AllOwn}
 use Rattle.stepping.proofs.plain.all_own.Given as goal
 

@@ -1,5 +1,5 @@
 -- `plain::new_number` meets its contract. The loop's invariant: the first d numbers differ from this. Assumes nothing.
-use Prim.Native.Nat.{ℕ, ◌≤◌, ◌<◌}
+use Prim.Native.Nat.{ℕ, ◌<◌}
 use mathlib.Core.Logic.{◌≢◌}
 use lib.ListN.{get_or}
 use Rattle.stepping.proofs.plain.new_number.Given as goal

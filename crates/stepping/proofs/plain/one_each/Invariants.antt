@@ -1,5 +1,4 @@
 -- `plain::one_each` meets its contract. The loop's invariant: the first c numbers differ. Assumes nothing.
-use Prim.Native.Nat.{◌≤◌}
 use Rattle.stepping.proofs.PlainSteps.{Differ}
 use Rattle.stepping.proofs.plain.one_each.Given as goal
 

@@ -1,5 +1,5 @@
 use mathlib.Core.Path.{◌≡◌}
-use mathlib.Core.Logic.{◌⊎◌, inl, inr, ⊎_elim}
+use mathlib.Core.Logic.{◌⊎◌, inl, inr}
 use native.Mathlib.Omega.{arith}
 use Rattle.stepping.proofs.Walking.{walk_start, walk-next, walk_end, atom_of}
 use Rattle.stepping.proofs.plain.only_on.Goals as goal

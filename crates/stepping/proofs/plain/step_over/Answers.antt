@@ -1,5 +1,4 @@
 -- `plain::step_over` meets its contract. Assumes nothing.
-use borrow.Author.Tests.{not-false}
 use Rattle.stepping.proofs.PlainSteps.{found-range, step-found}
 use Rattle.stepping.proofs.plain.step_over.Goals as goal
 

@@ -1,5 +1,4 @@
 use mathlib.Core.Path.{sym, ◌∙◌}
-use borrow.Author.Tests.{not-false}
 use Rattle.candidates.proofs.Halves.{without-smaller}
 use Rattle.stepping.proofs.StandingWords.{marking-next, marking-end}
 use Rattle.stepping.proofs.standing.mark_links.Goals as goal

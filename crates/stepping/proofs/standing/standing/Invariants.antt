@@ -1,5 +1,4 @@
 -- `standing::standing` meets its contract. The loop's invariant: the words have the first c contexts. Assumes nothing.
-use Prim.Native.Nat.{◌≤◌}
 use Rattle.stepping.specs.Standing.{StandingTo}
 use Rattle.stepping.proofs.standing.standing.Given as goal
 

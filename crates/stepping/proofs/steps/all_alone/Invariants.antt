@@ -1,5 +1,4 @@
 -- Invariant: no two of the links so far meet, and where they go is flagged.
-use Prim.Native.Nat.{◌≤◌}
 use mathlib.Core.Path.{◌≡◌}
 use lib.ListN.{length}
 use Rattle.rows.specs.Limits.{sheet_link_limit}

@@ -1,5 +1,5 @@
 -- Invariant: the links of the contexts so far are tied, labels say no more than ties, and they stay bounded.
-use Prim.Native.Nat.{ℕ, ◌≤◌, ◌<◌}
+use Prim.Native.Nat.{ℕ, ◌<◌}
 use mathlib.Core.Path.{◌≡◌}
 use lib.ListN.{length}
 use Rattle.rows.specs.Limits.{sheet_link_limit}

@@ -1,10 +1,8 @@
-use Prim.Native.Nat.{◌+◌}
-use mathlib.Core.Path.{◌≡◌, refl, sym, subst}
-use mathlib.Core.Logic.{⊎_elim}
+use mathlib.Core.Path.{refl}
 use native.Mathlib.Omega.{arith}
-use lib.ListN.{length, get_or, length-set}
+use lib.ListN.{get_or, length-set}
 use Rattle.rows.specs.Limits.{sheet_link_limit}
-use Rattle.stepping.proofs.Owners.{Owners, owners-start, owners-none, owners-same, owners-new, owners-apart}
+use Rattle.stepping.proofs.Owners.{owners-start, owners-none, owners-same, owners-new, owners-apart}
 use Rattle.stepping.proofs.steps.untied.Goals as goal
 use Rattle.stepping.proofs.steps.untied.Goals.{then-y-none+then-first-eq0, then-y-none+else-first-eq0+else-labels-first, else-y-none}
 
@@ -24,7 +22,7 @@ loop-x-preserved c = let l = c.loop-x in
     let y = get_or a.to.now l.x 0 in
     let r = c.requires.2 l.x c.loop-x-test.true in
     elim c.if-y-none.branch [
-      then-y-none+then-first-eq0 w ↦ rw w.owner-is (simp length-set l.invariant.0, owners-new a.to.now b a.none l.x l.owner l.invariant.1 r.0 (let n = w.if-y-none.true in omega (arith, r.0, r.1)) w.if-first-eq0.true)
-    | then-y-none+else-first-eq0+else-labels-first w ↦ rw w.owner-is (l.invariant.0, owners-same a.to.now b a.none l.x l.owner l.invariant.1 w.if-first-eq0.false w.if-labels-first.false)
-    | else-y-none w ↦ rw w.owner-is (l.invariant.0, owners-none a.to.now b a.none l.x l.owner l.invariant.1 w.if-y-none.false)
+      | then-y-none+then-first-eq0 w ↦ rw w.owner-is (simp length-set l.invariant.0, owners-new a.to.now b a.none l.x l.owner l.invariant.1 r.0 (let n = w.if-y-none.true in omega (arith, r.0, r.1)) w.if-first-eq0.true)
+      | then-y-none+else-first-eq0+else-labels-first w ↦ rw w.owner-is (l.invariant.0, owners-same a.to.now b a.none l.x l.owner l.invariant.1 w.if-first-eq0.false w.if-labels-first.false)
+      | else-y-none w ↦ rw w.owner-is (l.invariant.0, owners-none a.to.now b a.none l.x l.owner l.invariant.1 w.if-y-none.false)
     ]

@@ -1,5 +1,4 @@
 -- Invariant: the links so far have the label of the first that goes to the same sheet link.
-use Prim.Native.Nat.{◌≤◌}
 use mathlib.Core.Path.{◌≡◌}
 use lib.ListN.{length}
 use Rattle.rows.specs.Limits.{sheet_link_limit}

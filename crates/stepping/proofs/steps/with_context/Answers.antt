@@ -1,6 +1,5 @@
 use mathlib.Core.Path.{sym, ◌∙◌}
 use native.Mathlib.Omega.{arith}
-use borrow.Author.Tests.{not-false}
 use Rattle.candidates.proofs.Halves.{without-smaller}
 use Rattle.candidates.proofs.Members.{part-less, seen_all}
 use Rattle.stepping.proofs.Labels.{AllWith, grew_then, context-step}

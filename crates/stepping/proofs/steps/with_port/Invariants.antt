@@ -1,17 +1,10 @@
 -- Invariant: the links of the set that are not left are tied to this one, and labels stay bounded.
-use borrow.Author.Rules.{rules}
-use Prim.Native.Nat.{◌<◌}
-use mathlib.Core.Path.{◌≡◌, refl, sym, ◌∙◌}
-use mathlib.Core.Logic.{inl, inr}
-use native.Mathlib.Omega.{arith}
-use borrow.Author.Tests.{not-true, not-false}
+use mathlib.Core.Path.{◌≡◌}
 use lib.ListN.{length}
 use Rattle.rows.specs.Limits.{sheet_link_limit}
-use Rattle.candidates.specs.Words.{InPair, PartOf, pair_size}
-use Rattle.candidates.proofs.Halves.{without-smaller}
-use Rattle.candidates.proofs.Members.{Seen, part-self, part-less, seen_none, seen_all}
+use Rattle.candidates.specs.Words.{PartOf, pair_size}
+use Rattle.candidates.proofs.Members.{Seen}
 use Rattle.stepping.specs.Labels.{Bounded, GrewWith, Tied}
-use Rattle.stepping.proofs.Labels.{relabelled-same, grew_same, port-step, port-low, above_other, bounded-next}
 use Rattle.stepping.proofs.steps.with_port.Given as goal
 
 abbrev pub invariant-loop-rest : goal.invariant-loop-rest
