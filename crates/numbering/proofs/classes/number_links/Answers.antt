@@ -2,7 +2,7 @@ use borrow.Author.Rules.{rules}
 use Prim.Native.Nat.{◌≤◌, ◌<◌}
 use mathlib.Core.Path.{◌≡◌, refl, sym, ◌∙◌}
 use native.Mathlib.Omega.{arith}
-use lib.ListN.{length, take, get_or, length-set}
+use lib.ListN.{length, take, get_or}
 use Rattle.rows.specs.Format.{most_links}
 use Rattle.rows.specs.Held.{index_of}
 use Rattle.rows.specs.Packed.{padded}
@@ -13,7 +13,7 @@ use Rattle.numbering.proofs.classes.number_links.Goals as goal
 
 pub loop-k-init : goal.loop-k-init
 unfolding padded
-loop-k-init c = (search rules, search rules, search rules, search rules, refl, λ later. refl)
+loop-k-init c = (omega arith, refl, λ later. refl)
 
 pub number_class-requires : goal.number_class-requires
 number_class-requires c = let s = c in
@@ -30,14 +30,12 @@ loop-k-preserved c = let l = c in
     let n' = numbering p.new.numbers p.new.count in
     let all = with_classes (numbering a.numbers.now a.count.now) (link_labels f a.port_count a.ports) in
     let g = c.label_of-label in
-    let fits : a.port_count ≤ length a.ports = omega (arith, v.invariant.1, l.requires.1) in
+    let wide : length a.ports ≡ most_links = search rules in
+    let fits : a.port_count ≤ length a.ports = omega (arith, l.requires.1) in
     let h : v.k < a.port_count = omega arith in (
-      search rules,
-      v.invariant.1,
-      simp length-set v.invariant.2,
-      omega (arith, v.invariant.3, pass-count f a.ports a.port_count v.k fits h n n' all g.result p.result g.ensures p.ensures.count_after v.invariant.4),
-      pass-left f a.ports a.port_count v.k fits h n n' all g.result p.result g.ensures p.ensures.count_after v.invariant.4,
-      λ later. pass-stored f a.ports a.port_count v.k fits h n n' all g.result p.result g.ensures p.ensures.count_after v.invariant.4 most_links later v.numbered p.ensures.value (omega (arith, l.requires.1)) (v.invariant.5 later),
+      omega (arith, v.invariant.0, pass-count f a.ports a.port_count v.k fits h n n' all g.result p.result g.ensures p.ensures.count_after v.invariant.1),
+      pass-left f a.ports a.port_count v.k fits h n n' all g.result p.result g.ensures p.ensures.count_after v.invariant.1,
+      λ later. pass-stored f a.ports a.port_count v.k fits h n n' all g.result p.result g.ensures p.ensures.count_after v.invariant.1 most_links later v.numbered p.ensures.value (omega (arith, l.requires.1)) (v.invariant.2 later),
     )
 
 pub returns : goal.returns
@@ -47,5 +45,5 @@ returns c = let l = c in
     let f = label_in a.links.now a.classes.now a.n in
     let e : v.k ≡ a.port_count = omega arith in
     let d : numbering v.numbers v.count ≡ with_classes (numbering a.numbers.now a.count.now) (link_labels f a.port_count a.ports)
-    = sym (classes-end f a.ports a.port_count v.k (numbering v.numbers v.count) (omega arith)) ∙ v.invariant.4 in
-    record { count_after = d; by_index = λ later. rw d (rw e at (v.invariant.5 later)) }
+    = sym (classes-end f a.ports a.port_count v.k (numbering v.numbers v.count) (omega arith)) ∙ v.invariant.1 in
+    record { count_after = d; by_index = λ later. rw d (rw e at (v.invariant.2 later)) }

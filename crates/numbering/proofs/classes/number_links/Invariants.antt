@@ -2,12 +2,11 @@
 use Prim.Native.Nat.{ℕ, ◌≤◌, ◌+◌}
 use mathlib.Core.Path.{◌≡◌}
 use mathlib.Core.List.{List, map}
-use lib.ListN.{length, take, drop}
-use Rattle.rows.specs.Format.{most_links}
+use lib.ListN.{take, drop}
 use Rattle.numbering.specs.Numbering.{numbering, label_in, with_classes, link_labels, links_by}
 use Rattle.numbering.proofs.classes.number_links.Given as goal
 
 abbrev pub invariant-loop-k : goal.invariant-loop-k
-invariant-loop-k l = (l.k ≤ l.port_count) × (length l.ports ≡ most_links) × (length l.numbered ≡ most_links) × (l.count ≤ l.initial.count + l.k)
+invariant-loop-k l = (l.count ≤ l.initial.count + l.k)
     × (with_classes (numbering l.numbers l.count) (map (label_in l.links l.classes l.n) (drop l.k (take l.port_count l.ports))) ≡ with_classes (numbering l.initial.numbers l.initial.count) (link_labels (label_in l.links l.classes l.n) l.port_count l.ports))
     × ((later : List ℕ) → l.numbered ≡ links_by (with_classes (with_classes (numbering l.initial.numbers l.initial.count) (link_labels (label_in l.links l.classes l.n) l.port_count l.ports)) later).numbers (label_in l.links l.classes l.n) l.k l.ports)

@@ -1,9 +1,8 @@
-use borrow.Author.Rules.{rules}
 use Prim.Native.Nat.{◌<◌}
 use mathlib.Core.Path.{◌≡◌, refl, sym, ◌∙◌, subst}
 use mathlib.Core.List.{[], map}
 use native.Mathlib.Omega.{arith}
-use lib.ListN.{take, get_or, length-set}
+use lib.ListN.{take, get_or}
 use Rattle.rows.specs.Limits.{mark_room}
 use Rattle.rows.specs.Held.{index_of}
 use Rattle.rows.specs.Packed.{padded}
@@ -14,13 +13,13 @@ use Rattle.numbering.proofs.numbered.numbered_marks.Goals as goal
 
 pub loop-i-init : goal.loop-i-init
 unfolding padded
-loop-i-init c = (search rules, search rules, search rules, refl, refl)
+loop-i-init c = (omega arith, refl, refl)
 
 pub number_class-requires : goal.number_class-requires
 number_class-requires c = let l = c in
     let s = l in
     let a = s.args in
-    (omega (arith, c.mark_label-label.ensures, s.requires.0.4 (get_or a.marked.now (index_of (get_or a.ascending.now l.loop-i.i 0) (take a.n a.marks.now)) 0)), omega (arith, l.loop-i.invariant.2, s.requires.3))
+    (omega (arith, c.mark_label-label.ensures, s.requires.0.4 (get_or a.marked.now (index_of (get_or a.ascending.now l.loop-i.i 0) (take a.n a.marks.now)) 0)), omega (arith, l.loop-i.invariant.0, s.requires.3))
 
 pub loop-i-preserved : goal.loop-i-preserved
 loop-i-preserved c = let l = c in
@@ -34,11 +33,9 @@ loop-i-preserved c = let l = c in
     let all = with_classes (numbering a.numbers.now a.count.now) (map f (take a.n a.ascending.now)) in
     let g = c.mark_label-label in
     let h : v.i < a.n = omega arith in (
-      search rules,
-      simp length-set v.invariant.1,
-      omega (arith, v.invariant.2, pass-count f a.ascending.now a.n v.i s.requires.2 h n n' all g.result p.result g.ensures p.ensures.count_after v.invariant.3),
-      pass-left f a.ascending.now a.n v.i s.requires.2 h n n' all g.result p.result g.ensures p.ensures.count_after v.invariant.3,
-      pass-stored f a.ascending.now a.n v.i s.requires.2 h n n' all g.result p.result g.ensures p.ensures.count_after v.invariant.3 mark_room [] v.numbered p.ensures.value (omega (arith, s.requires.1)) v.invariant.4,
+      omega (arith, v.invariant.0, pass-count f a.ascending.now a.n v.i s.requires.2 h n n' all g.result p.result g.ensures p.ensures.count_after v.invariant.1),
+      pass-left f a.ascending.now a.n v.i s.requires.2 h n n' all g.result p.result g.ensures p.ensures.count_after v.invariant.1,
+      pass-stored f a.ascending.now a.n v.i s.requires.2 h n n' all g.result p.result g.ensures p.ensures.count_after v.invariant.1 mark_room [] v.numbered p.ensures.value (omega (arith, s.requires.1)) v.invariant.2,
     )
 
 pub returns : goal.returns
@@ -49,7 +46,7 @@ returns c = let l = c in
     let f = mark_label_in a.marks.now a.marked.now a.classes.now a.n in
     let e : v.i ≡ a.n = omega arith in
     let d : numbering v.numbers v.count ≡ with_classes (numbering a.numbers.now a.count.now) (map f (take a.n a.ascending.now))
-    = sym (classes-end f a.ascending.now a.n v.i (numbering v.numbers v.count) (omega arith)) ∙ v.invariant.3 in
+    = sym (classes-end f a.ascending.now a.n v.i (numbering v.numbers v.count) (omega arith)) ∙ v.invariant.1 in
     let t : v.numbered ≡ marks_by v.numbers f (take a.n a.ascending.now)
-    = subst (λ (m : Numbering). v.numbered ≡ marks_by m.numbers f (take a.n a.ascending.now)) (sym d) (rw e at v.invariant.4) in
+    = subst (λ (m : Numbering). v.numbered ≡ marks_by m.numbers f (take a.n a.ascending.now)) (sym d) (rw e at v.invariant.2) in
     record { count_after = d; value = t }
