@@ -3,5 +3,6 @@
 
 pub mod classes;
 pub mod labels;
+pub mod linked_rows;
 pub mod marks;
 pub mod numbered;

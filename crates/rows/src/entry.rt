@@ -11,10 +11,8 @@ pub(crate) fn row_links(nums: [u16; Sheet::FIELDS]) -> [u16; Sheet::MOST_LINKS]
     ensures { result ≡ drop 2 nums }
 {
     let mut links = [0u16; Sheet::MOST_LINKS];
-    let mut k = 0;
-    while k < Sheet::MOST_LINKS {
+    for k in 0..Sheet::MOST_LINKS {
         links[k] = nums[k + 2];
-        k += 1;
     }
     links
 }

@@ -191,13 +191,11 @@ pub fn read_row(row: &[u8]) -> Row
     let own = rules_of(letter);
     let mut nums = [0u16; Sheet::FIELDS];
     let mut good = true;
-    let mut f = 0;
-    'row: while f < Sheet::FIELDS {
+    'row: for f in 0..Sheet::FIELDS {
         let at = f * Sheet::FIELD + 1;
-        let mut col = 0;
         let mut n: u16 = 0;
         let mut filled = false;
-        while col < Sheet::FIELD {
+        for col in 0..Sheet::FIELD {
             let b = row[at + col];
             if misplaced(b, filled, col + 1 == Sheet::FIELD) {
                 good = false;
@@ -207,14 +205,12 @@ pub fn read_row(row: &[u8]) -> Row
                 n = n * 10 + (b - b'0') as u16;
                 filled = true;
             }
-            col += 1;
         }
         if !field_suits(own[f], f, nums[1], filled, n) {
             good = false;
             break 'row;
         }
         nums[f] = n;
-        f += 1;
     }
     Row { letter, good, nums }
 }
