@@ -19,10 +19,8 @@ pub fn own_labels(labels: &mut [u16; PLACES])
     requires { length labels.old ≡ places }
     ensures { Own labels.new }
 {
-    let mut k = 0;
-    while k < PLACES {
+    for k in 0..PLACES {
         labels[k] = k as u16;
-        k += 1;
     }
 }
 
@@ -38,14 +36,12 @@ fn merged(labels: &mut [u16; PLACES], n: usize, a: usize, b: usize)
         labels[b] = to;
         return;
     }
-    let mut k = 0;
-    while k < n {
+    for k in 0..n {
         let mut label = labels[k];
         if label == from {
             label = to;
         }
         labels[k] = label;
-        k += 1;
     }
 }
 
@@ -62,14 +58,12 @@ pub fn with_ports(
     ensures labels_after { labels.new ≡ joined_all labels.old (port_pairs p (take count links) (take count marked.now)) }
     ensures fresh_from { FreshFrom ((p + 1) * part_room) labels.new }
 {
-    let mut k = 0;
-    while k < count {
+    for k in 0..count {
         merged(
             &mut *labels,
             (p + 1) * PART,
             links[k] as usize,
             p * PART + marked[k] as usize,
         );
-        k += 1;
     }
 }

@@ -32,12 +32,10 @@ fn marks_exact(marks: &[u16; Sheet::MARK_ROOM], count: usize, n: u16) -> bool
     if count != n as usize {
         return false;
     }
-    let mut k: u16 = 0;
-    while k < n {
+    for k in 0..n {
         if marks[k as usize] != k + 1 {
             return false;
         }
-        k += 1;
     }
     true
 }
@@ -87,13 +85,11 @@ pub fn first_lacking(
     requires { Counted contexts count }
     ensures { result ≡ first_unported ports (take count contexts) }
 {
-    let mut i = 0;
-    while i < count {
+    for i in 0..count {
         let context = contexts[i];
         if ports[context.number as usize] != context.count + 1 {
             return context.row as usize;
         }
-        i += 1;
     }
     0
 }
@@ -108,13 +104,11 @@ pub fn first_differing(
     requires { HeadsRead list.now heads count × Exacts list.now exact.now }
     ensures { result ≡ first_differing list.now (take count heads) }
 {
-    let mut i = 0;
-    while i < count {
+    for i in 0..count {
         let head = heads[i];
         if !is_exact(list, heads, count, exact, head.number, head.count) {
             return head.row as usize;
         }
-        i += 1;
     }
     0
 }

@@ -24,10 +24,8 @@ pub fn placed(p: usize, links: [u16; Sheet::MOST_LINKS]) -> [u16; Sheet::MOST_LI
     ensures { result ≡ map (place_of p) links }
 {
     let mut more = links;
-    let mut k = 0;
-    while k < Sheet::MOST_LINKS {
+    for k in 0..Sheet::MOST_LINKS {
         more[k] = (p * PART) as u16 + links[k];
-        k += 1;
     }
     more
 }
@@ -38,8 +36,7 @@ impl Whole {
         requires { (self.count ≤ atom_room) × (p ≤ figure_contexts) × (count ≤ sheet_atom_limit) × ((i k : ℕ) → get_or (get_or atoms i past_atoms).links k 0 < part_room) }
         ensures { Grown self result (map (placed_atom p) (take count atoms)) }
     {
-        let mut i = 0;
-        while i < count {
+        for i in 0..count {
             let atom = atoms[i];
             let before = atom.links;
             let links = placed(p, before);
@@ -52,7 +49,6 @@ impl Whole {
                 };
                 self.count = n + 1;
             }
-            i += 1;
         }
         self
     }
@@ -75,8 +71,7 @@ pub(crate) fn whole_of(
     ensures puts { Puts list.now own (take count contexts) labels.old labels.new result }
 {
     let mut whole = own;
-    let mut i = 0;
-    while i < count {
+    for i in 0..count {
         let context = contexts[i];
         let links = context.links;
         let part = part_of(list, heads, head_count, context.number);
@@ -96,7 +91,6 @@ pub(crate) fn whole_of(
         );
         let atoms = part.normal.atoms;
         whole = whole.with_part(i + 1, atoms, part.normal.atom_count);
-        i += 1;
     }
     whole
 }

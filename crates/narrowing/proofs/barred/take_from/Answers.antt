@@ -3,9 +3,6 @@ use Rattle.candidates.proofs.Staying.{atoms-put}
 use Rattle.candidates.proofs.Digits.{alone-in, fewer-in, in-fewer, fewer-smaller}
 use Rattle.narrowing.proofs.barred.take_from.Goals as goal
 
-pub loop-rest-init : goal.loop-rest-init
-loop-rest-init c = ((λ i m. m), λ i t h m p. m)
-
 pub loop-rest-smaller-then-row-out-ne0 : goal.loop-rest-smaller-then-row-out-ne0
 loop-rest-smaller-then-row-out-ne0 c = fewer-smaller _ _ _ c.minus-rest.ensures c.first-i.result c.first-i.ensures.1 (alone-in _ _ c.one.ensures)
 

@@ -1,21 +1,11 @@
 use Prim.Native.Nat.{ℕ}
-use mathlib.Core.Path.{refl, subst}
+use mathlib.Core.Path.{subst}
 use native.Mathlib.Omega.{arith}
-use Rattle.placing.proofs.FirstLaws.{both_ways}
 use Rattle.candidates.specs.Words.{In}
 use Rattle.candidates.proofs.Digits.{none_in}
 use Rattle.narrowing.proofs.Turns.{link-narrows, narrows_then}
 use Rattle.narrowing.proofs.follow.follow.Goals as goal
 use Rattle.narrowing.proofs.follow.follow.Goals.{then-x-lt-LINKS, else-x-lt-LINKS+else-due-eq0+else-m-i+else-atoms-i-eq0}
-
-pub loop-init : goal.loop-init
-loop-init c = λ kin S F os of rows p g o. o
-
-pub returns-then-due-eq0 : goal.returns-then-due-eq0
-returns-then-due-eq0 c = record { narrowed = c.loop.invariant; empty = λ e. both_ways e refl }
-
-pub returns-then-m-i : goal.returns-then-m-i
-returns-then-m-i c = record { narrowed = c.loop.invariant; empty = λ e. both_ways e refl }
 
 pub returns-then-atoms-i-eq0 : goal.returns-then-atoms-i-eq0
 returns-then-atoms-i-eq0 c = record {
@@ -37,6 +27,3 @@ loop-preserved c =
           rw (w.atoms-is, w.links-is)
           (λ kin. narrows_then kin s.laid.now s.n s.parts.now s.m s.atoms.now s.links.now c.loop.atoms c.loop.links turn.new.atoms turn.new.links (c.loop.invariant kin) (turn.ensures kin))
     ]
-
-pub returns : goal.returns
-returns c = record { narrowed = c.loop.invariant; empty = λ e. both_ways e refl }

@@ -20,14 +20,6 @@ taken at n k rest t w less e f y g = go (ℕ_discrete g.0 t)
     go (yes q) = inl (subst (GivenBy at n rest k y) q g.1)
     go (no d) = let b = g.1 in inr (g.0, record { sheet-atom = b.sheet-atom; may = in-fewer _ _ _ f g.0 b.may (λ q. d (alone-only _ _ e g.0 q)); place = b.place; there = b.there })
 
-pub loop-rest-init : goal.loop-rest-init
-loop-rest-init c = λ y h g. inr g
-
-pub link_at-y-requires : goal.link_at-y-requires
-link_at-y-requires c =
-    let h = c.if-t-n.true in
-    (omega (arith, h, c.requires.0.few), c.requires.1, c.requires.0.atoms c.first-t.result h)
-
 pub loop-rest-smaller-then-y-ne0 : goal.loop-rest-smaller-then-y-ne0
 loop-rest-smaller-then-y-ne0 c = fewer-smaller _ _ _ c.minus-rest.ensures c.first-t.result c.first-t.ensures.1 (alone-in _ _ c.one.ensures)
 

@@ -12,11 +12,6 @@ use Rattle.narrowing.proofs.given.missing.Goals as goal
 pub loop-rest-init : goal.loop-rest-init
 loop-rest-init c = λ y h p. absurd (empty-pair y p)
 
-pub link_at-y-requires : goal.link_at-y-requires
-link_at-y-requires c =
-    let h = c.if-t-n.true in
-    (omega (arith, h, c.requires.0.few), c.requires.1, c.requires.0.atoms c.first-t.result h)
-
 pub loop-rest-preserved-then-users-k-eq0 : goal.loop-rest-preserved-then-users-k-eq0
 loop-rest-preserved-then-users-k-eq0 c =
     let s = c.args in

@@ -3,9 +3,6 @@ use Rattle.placing.proofs.FirstLaws.{both_ways}
 use Rattle.narrowing.proofs.Turns.{narrows_then}
 use Rattle.narrowing.proofs.narrow.narrow.Goals as goal
 
-pub loop-init : goal.loop-init
-loop-init c = λ S F os of rows p g o. o
-
 pub returns-then-follow : goal.returns-then-follow
 returns-then-follow c =
     let s = c.args in
@@ -35,6 +32,3 @@ loop-preserved c =
     g s.atoms.now s.links.now f.atoms f.links f.atoms c.kin_turns.new.links
     (g s.atoms.now s.links.now c.loop.atoms c.loop.links f.atoms f.links c.loop.invariant (c.follow.ensures.narrowed s.kin.now))
     (c.kin_turns.ensures s.laid.now s.n s.parts.now s.m f.atoms c.requires.3)
-
-pub returns : goal.returns
-returns c = record { narrowed = c.loop.invariant; empty = λ e. both_ways e refl }

@@ -1,22 +1,7 @@
-use mathlib.Core.Path.{refl, sym, subst}
 use native.Mathlib.Omega.{arith}
-use Rattle.rows.specs.Limits.{sheet_link_limit}
-use Rattle.rows.specs.declared.Atom.{Atom}
-use Rattle.network.specs.NetIn.{Used}
 use Rattle.candidates.proofs.Staying.{links-more}
 use Rattle.narrowing.proofs.Turns.{atom-narrows, narrows_then}
 use Rattle.narrowing.proofs.spread.spread.Goals as goal
-
-pub loop-i-init : goal.loop-i-init
-loop-i-init c = (refl, λ k y h u g. absurd (omega (arith, h)), λ kin S F os of rows p g o. o)
-
-pub look_up-now-requires : goal.look_up-now-requires
-look_up-now-requires c =
-    let used : Used sheet_link_limit c.laid_atom-here.result.count c.laid_atom-here.result.links = subst (λ (a : Atom). Used sheet_link_limit a.count a.links) (sym c.laid_atom-here.ensures) (c.requires.1.atoms c.loop-i.i c.loop-i-test.true) in
-    (c.requires.0, used.few, c.loop-i.invariant.0)
-
-pub keep_given-requires : goal.keep_given-requires
-keep_given-requires c = subst (λ (a : Atom). Used sheet_link_limit a.count a.links) (sym c.laid_atom-here.ensures) (c.requires.1.atoms c.loop-i.i c.loop-i-test.true)
 
 pub loop-i-preserved : goal.loop-i-preserved
 loop-i-preserved c =

@@ -7,30 +7,12 @@ use Rattle.rows.specs.Limits.{sheet_link_limit}
 use Rattle.rows.specs.declared.Atom.{Atom}
 use Rattle.network.specs.NetIn.{Used}
 use Rattle.candidates.proofs.Digits.{alone-in, alone-only}
-use Rattle.narrowing.proofs.Adding.{spot, Added, added_none, added_more}
+use Rattle.narrowing.proofs.Adding.{spot, Added, added_more}
 use Rattle.narrowing.proofs.users.add_users.Goals as goal
 
 -- place k is in the table
 room : (there : Atom) (k : ℕ) → Used sheet_link_limit there.count there.links → k < there.count → spot there k < most_links * sheet_link_limit
 room there k u h = let r = u.numbered k h in omega (arith, r.0, r.1, u.few)
-
-pub loop-k-init : goal.loop-k-init
-loop-k-init c = (c.requires.2, added_none c.args.there c.args.t c.args.users.now)
-
-pub overflow_add-at : goal.overflow_add-at
-overflow_add-at c = omega (arith, room c.args.there c.loop-k.k c.requires.0 c.loop-k-test.true)
-
-pub offset_bounds-users-at : goal.offset_bounds-users-at
-offset_bounds-users-at c = omega (arith, room c.args.there c.loop-k.k c.requires.0 c.loop-k-test.true)
-
-pub bounds-users-at : goal.bounds-users-at
-bounds-users-at c = room c.args.there c.loop-k.k c.requires.0 c.loop-k-test.true
-
-pub offset_bounds-users-at-in-loop-k : goal.offset_bounds-users-at-in-loop-k
-offset_bounds-users-at-in-loop-k c = omega (arith, room c.args.there c.loop-k.k c.requires.0 c.loop-k-test.true)
-
-pub bounds-users-at-in-loop-k : goal.bounds-users-at-in-loop-k
-bounds-users-at-in-loop-k c = room c.args.there c.loop-k.k c.requires.0 c.loop-k-test.true
 
 pub loop-k-preserved : goal.loop-k-preserved
 loop-k-preserved c =
