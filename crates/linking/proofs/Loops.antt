@@ -3,8 +3,7 @@ use Prim.Native.Nat.{ℕ, zero, suc, ◌+◌, ◌-◌, ◌<◌, ◌≤◌}
 use mathlib.Core.Path.{◌≡◌, refl, ap, ◌∙◌, sym}
 use mathlib.Core.List.{List, [], ◌∷◌, map}
 use mathlib.Core.Bool.{Bool, true, false}
-use mathlib.Core.Logic.{⊎_elim}
-use native.Mathlib.Nat.{add-zero, zero-add, eq-or-lt_of_le}
+use native.Mathlib.Nat.{add-zero, zero-add}
 use native.Mathlib.Numerals.{add-one}
 use native.Mathlib.Omega.{arith}
 use lib.Dec.{eqb}
@@ -40,9 +39,6 @@ index-distinct n l x p fits h e once =
 -- x is not among the m numbers from place i on
 abbrev pub Lacks : List ℕ → ℕ → ℕ → ℕ → Type 0
 Lacks l i x m = (k : ℕ) → k < m → get_or l (i + k) 0 ≡ x → ⊥
-
-pub lacks-more : (l : List ℕ) (i x m : ℕ) → Lacks l i x m → (get_or l (i + m) 0 ≡ x → ⊥) → Lacks l i x (m + 1)
-lacks-more l i x m before here k h = ⊎_elim (λ e. rw e here) (before k) (eq-or-lt_of_le (let q : k ≤ m = omega arith in q))
 
 pub index-lacks : (l : List ℕ) (x i m : ℕ) → i + m ≤ length l → Lacks l i x m → index_of x (drop i l) ≡ m + index_of x (drop (i + m) l)
 index-lacks l x i zero h lacks = rw (add-zero i, zero-add (index_of x (drop i l)))

@@ -11,9 +11,7 @@ pub(crate) fn row_links(nums: [u16; Sheet::FIELDS]) -> [u16; Sheet::MOST_LINKS]
     ensures { result ≡ drop 2 nums }
 {
     let mut links = [0u16; Sheet::MOST_LINKS];
-    for k in 0..Sheet::MOST_LINKS {
-        links[k] = nums[k + 2];
-    }
+    links.copy_from_slice(&nums[2..]);
     links
 }
 
@@ -37,10 +35,7 @@ pub fn atom_of(row: Row) -> Atom
 pub fn is_context(letter: usize) -> bool
     ensures { result ≡ is_context letter }
 {
-    if letter == Row::CONTEXT {
-        return true;
-    }
-    letter == Row::HEAD
+    letter == Row::CONTEXT || letter == Row::HEAD
 }
 
 // The context of a blank row or a head, which is the text's row `at`, and of any other row none.
@@ -62,18 +57,17 @@ pub fn context_of(row: Row, at: u16) -> Context
 
 // The table of port counts with that of a number, unless it has one.
 pub(crate) fn ports_with(
-    ports: [u16; Sheet::NUMBERS],
+    mut ports: [u16; Sheet::NUMBERS],
     number: usize,
     count: u16,
 ) -> [u16; Sheet::NUMBERS]
     requires { number < context_bound }
     ensures { result ≡ ports_with ports number count }
 {
-    let mut table = ports;
-    if table[number] == 0 {
-        table[number] = count;
+    if ports[number] == 0 {
+        ports[number] = count;
     }
-    table
+    ports
 }
 
 // The table of port counts with that of a row.

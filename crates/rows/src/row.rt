@@ -1,7 +1,7 @@
 // The one row reader: a letter and its fields, by one table.
 ghost use Rattle.std.specs.Prelude.{◌≡◌, [], ◌<◌, length, get_or};
 ghost use Rattle.rows.specs.Format.{row_width, no_letter, letter_of, rules};
-ghost use Rattle.rows.specs.Row.{misplaced_in, suits, no_row, row_of};
+ghost use Rattle.rows.specs.Row.{misplaced_in, needed, suits, no_row, row_of};
 
 use crate::Sheet;
 
@@ -109,6 +109,7 @@ impl Row {
     }
 }
 
+#[tactic(auto, unfolding(crate::specs::Format::letter_of))]
 pub(crate) fn letter_of(b: u8) -> usize
     ensures { result ≡ letter_of b }
 {
@@ -136,47 +137,39 @@ pub fn rules_of(letter: usize) -> [Rule; Sheet::FIELDS]
     }
 }
 
+// Whether a number is asked for at field f, in a row with this count.
+fn needed(rule: Rule, f: usize, count: u16) -> bool
+    ensures { result ≡ needed rule f count }
+{
+    if rule.counted {
+        f < 2 + count as usize
+    } else {
+        rule.filled
+    }
+}
+
 // Whether field f may hold what was read there, in a row with this count.
+#[tactic(auto, unfolding(crate::specs::Row::suits))]
 pub(crate) fn field_suits(rule: Rule, f: usize, count: u16, filled: bool, n: u16) -> bool
     ensures { result ≡ suits rule f count filled n }
 {
-    let mut needed = rule.filled;
-    if rule.counted {
-        needed = f < 2 + count as usize;
+    if needed(rule, f, count) {
+        filled && rule.low <= n && n <= rule.high
+    } else {
+        !filled
     }
-    if !needed {
-        return !filled;
-    }
-    if !filled {
-        return false;
-    }
-    if n < rule.low {
-        return false;
-    }
-    n <= rule.high
 }
 
 // Whether byte b may not stand in a field's column: a space after a digit, a byte that is neither a
 // space nor a digit, or a zero that is the number's first digit and not its only one.
+#[tactic(auto, unfolding(crate::specs::Row::misplaced_in))]
 pub(crate) fn misplaced(b: u8, filled: bool, last: bool) -> bool
     ensures { result ≡ misplaced_in b filled last }
 {
     if b == b' ' {
         return filled;
     }
-    if b < b'0' {
-        return true;
-    }
-    if b'9' < b {
-        return true;
-    }
-    if b != b'0' {
-        return false;
-    }
-    if filled {
-        return false;
-    }
-    !last
+    !b.is_ascii_digit() || (b == b'0' && !filled && !last)
 }
 
 // The row's letter and numbers. The first bad field ends the reading.
