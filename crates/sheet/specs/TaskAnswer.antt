@@ -1,0 +1,16 @@
+-- Document 01, 'Order': 'the inputs in task order, each row by row'.
+use Rattle.std.specs.Prelude.{ℕ, ⊤, Result, Ok, Err}
+use Rattle.sheet.specs.declared.answer.Answer.{Answer}
+use Rattle.sheet.specs.declared.answer.Answer.TheVariants as read
+use Rattle.sheet.specs.declared.answer.TaskError.{TaskError}
+use Rattle.sheet.specs.declared.answer.TaskError.TheVariants as error
+
+-- what a reader answers of the task's input of this number
+abbrev pub input_answer : ℕ → Answer → Result ⊤ TaskError
+input_answer input read.Passed = Ok tt
+input_answer input (read.Refused why row) = Err (error.Refused input why row)
+
+-- an input that is refused at a row, or what comes next
+abbrev pub unless : {A : Type 0} → Answer → ℕ → Result A TaskError → Result A TaskError
+unless read.Passed input next = next
+unless (read.Refused why row) input next = Err (error.Refused input why row)
