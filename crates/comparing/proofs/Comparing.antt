@@ -1,4 +1,5 @@
 -- What comparing answers, in each of its cases.
+use Rattle.std.specs.Prelude.{Ok, Err}
 use Prim.Native.Nat.{ℕ}
 use mathlib.Core.Path.{◌≡◌, refl, ap, ap₂, sym, ◌∙◌}
 use mathlib.Core.Logic.{◌⊎◌, inl, inr, ◌↔◌}
@@ -12,6 +13,7 @@ use Rattle.reading.specs.NormalSheet.{packed_normal}
 use Rattle.sheet.specs.declared.kind.Kind.TheVariants.{Plain}
 use Rattle.sheet.specs.declared.answer.Refusal.{Refusal}
 use Rattle.sheet.specs.declared.answer.Answer.TheVariants as read
+use Rattle.sheet.specs.declared.answer.TaskError.TheVariants as error
 use Rattle.rows.specs.declared.Sheet as form
 use Rattle.placing.specs.Net.{Net, normal_net}
 use Rattle.placing.specs.Placing.{Placing, Good}
@@ -24,7 +26,6 @@ use Rattle.network.specs.Ready.{Ready}
 use Rattle.matching.specs.Search.{placed_in}
 use Rattle.comparing.specs.Compare.{is_placed, same_test, compare_answer}
 use Rattle.matching.specs.declared.search.Found.{Found}
-use Rattle.answers.specs.declared.outcome.Compared.TheVariants.{Same, Differs, Refused}
 
 -- A placing was found, or none.
 placed_by_lem : (sheet other : form.Sheet) (r : Found) (b : Bool) → placed_in sheet other r ≡ smallest (net_in sheet) (net_in other) → r.ok ≡ b → is_placed (smallest (net_in sheet) (net_in other)) ≡ b
@@ -35,15 +36,15 @@ placed_by_lem sheet other r b e h = sym (ap is_placed e) ∙ go r.ok _ ∙ h
     go false p = refl
 
 pub compared-by : (sheet other : form.Sheet) (r : Found) (b : Bool) → placed_in sheet other r ≡ smallest (net_in sheet) (net_in other) → r.ok ≡ b
-    → pick b Same Differs ≡ pick (is_placed (smallest (net_in sheet) (net_in other))) Same Differs
-compared-by sheet other r b e h = ap (λ (c : Bool). pick c Same Differs) (sym (placed_by_lem sheet other r b e h))
+    → pick b (Ok true) (Ok false) ≡ pick (is_placed (smallest (net_in sheet) (net_in other))) (Ok true) (Ok false)
+compared-by sheet other r b e h = ap (λ (c : Bool). pick c (Ok true) (Ok false)) (sym (placed_by_lem sheet other r b e h))
 
 module _ (a b : List ℕ) where
-  pub first-refused : (why : Refusal) (row : ℕ) → (outcome_of Plain no_ports a).answer ≡ read.Refused why row → Refused 1 why row ≡ compare_answer a b
+  pub first-refused : (why : Refusal) (row : ℕ) → (outcome_of Plain no_ports a).answer ≡ read.Refused why row → Err (error.Refused 1 why row) ≡ compare_answer a b
   unfolding compare_answer
   first-refused why row e = rw e
 
-  pub second-refused : (why : Refusal) (row : ℕ) → (outcome_of Plain no_ports a).answer ≡ read.Passed → (outcome_of Plain no_ports b).answer ≡ read.Refused why row → Refused 2 why row ≡ compare_answer a b
+  pub second-refused : (why : Refusal) (row : ℕ) → (outcome_of Plain no_ports a).answer ≡ read.Passed → (outcome_of Plain no_ports b).answer ≡ read.Refused why row → Err (error.Refused 2 why row) ≡ compare_answer a b
   unfolding compare_answer
   second-refused why row p e = rw (p, e)
 
@@ -53,9 +54,9 @@ module _ (a b : List ℕ) where
     ready_read = rw (e, f) (record { sheet-fit = fit-read Plain no_ports a refl; figure-fit = fit-read Plain no_ports b refl; sheet-normal = normal-read Plain no_ports a; figure-normal = normal-read Plain no_ports b })
 
     pub both-passed : (outcome_of Plain no_ports a).answer ≡ read.Passed → (outcome_of Plain no_ports b).answer ≡ read.Passed
-        → pick (is_placed (smallest (net_in sheet) (net_in other))) Same Differs ≡ compare_answer a b
+        → pick (is_placed (smallest (net_in sheet) (net_in other))) (Ok true) (Ok false) ≡ compare_answer a b
     unfolding compare_answer same_test
-    both-passed p q = ap₂ (λ S F. pick (is_placed (smallest S F)) Same Differs) (ap net_in e ∙ net-read Plain no_ports a) (ap net_in f ∙ net-read Plain no_ports b) ∙ rw (p, q)
+    both-passed p q = ap₂ (λ S F. pick (is_placed (smallest S F)) (Ok true) (Ok false)) (ap net_in e ∙ net-read Plain no_ports a) (ap net_in f ∙ net-read Plain no_ports b) ∙ rw (p, q)
 
 -- Some placing is found exactly when some placing is good.
 pub placed-good : (S F : Net) → (is_placed (smallest S F) ≡ true) ↔ ((p : Placing) × Good S F p)
@@ -74,23 +75,23 @@ module _ (a b : List ℕ) (p : (outcome_of Plain no_ports a).answer ≡ read.Pas
   abbrev same : Bool
   same = same_test (outcome_of Plain no_ports a).held (outcome_of Plain no_ports b).held
 
-  passed-answer : compare_answer a b ≡ pick same Same Differs
+  passed-answer : compare_answer a b ≡ pick same (Ok true) (Ok false)
   unfolding compare_answer
   passed-answer = rw (p, q)
 
-  pub passed-either : (compare_answer a b ≡ Same) ⊎ (compare_answer a b ≡ Differs)
+  pub passed-either : (compare_answer a b ≡ Ok true) ⊎ (compare_answer a b ≡ Ok false)
   passed-either = go same passed-answer
     where
-      go : (c : Bool) → compare_answer a b ≡ pick c Same Differs → (compare_answer a b ≡ Same) ⊎ (compare_answer a b ≡ Differs)
+      go : (c : Bool) → compare_answer a b ≡ pick c (Ok true) (Ok false) → (compare_answer a b ≡ Ok true) ⊎ (compare_answer a b ≡ Ok false)
       go true e = inl e
       go false e = inr e
 
-  pub passed-same : (compare_answer a b ≡ Same) ↔ ((r : Placing) × Good (normal_net (outcome_of Plain no_ports a).held) (normal_net (outcome_of Plain no_ports b).held) r)
+  pub passed-same : (compare_answer a b ≡ Ok true) ↔ ((r : Placing) × Good (normal_net (outcome_of Plain no_ports a).held) (normal_net (outcome_of Plain no_ports b).held) r)
   unfolding same_test
   passed-same =
       let t = placed-good (normal_net (outcome_of Plain no_ports a).held) (normal_net (outcome_of Plain no_ports b).held) in
-      (λ e. t.0 (picked same (sym passed-answer ∙ e)), λ g. passed-answer ∙ ap (λ (c : Bool). pick c Same Differs) (t.1 g))
+      (λ e. t.0 (picked same (sym passed-answer ∙ e)), λ g. passed-answer ∙ ap (λ (c : Bool). pick c (Ok true) (Ok false)) (t.1 g))
     where
-      picked : (c : Bool) → pick c Same Differs ≡ Same → c ≡ true
+      picked : (c : Bool) → pick c (Ok true) (Ok false) ≡ Ok true → c ≡ true
       picked true e = refl
       picked false e = absurd (let z : ◌≡◌ {A = ℕ} 0 1 = cc in omega arith)
