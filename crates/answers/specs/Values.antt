@@ -1,7 +1,6 @@
 -- Document 01, 'Numbers': 'Every answer has the number, the input, the row and the bytes written; compare and claim add their yes or no'.
 use Rattle.std.specs.Prelude.{ℕ, Bool, Result}
-use Rattle.sheet.specs.Answer.{number_of, input_of, row_number_of}
-use Rattle.sheet.specs.declared.answer.Answer.{Answer}
+use Rattle.sheet.specs.Answer.{number_of, input_of, row_number_of, Answer}
 use Rattle.sheet.specs.declared.answer.TaskError.{TaskError}
 use Rattle.answers.specs.Answers.{answer_number, answer_input, answer_row_number, written_bytes, decided_bytes, decided_yes}
 use Rattle.answers.specs.declared.TaskAnswer.{TaskAnswer}

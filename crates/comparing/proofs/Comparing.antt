@@ -12,7 +12,7 @@ use Rattle.sheet.specs.Reading.{outcome_of, no_ports}
 use Rattle.reading.specs.NormalSheet.{packed_normal}
 use Rattle.sheet.specs.declared.kind.Kind.TheVariants.{Plain}
 use Rattle.sheet.specs.declared.answer.Refusal.{Refusal}
-use Rattle.sheet.specs.declared.answer.Answer.TheVariants as read
+use Rattle.sheet.specs.Answer as read
 use Rattle.sheet.specs.declared.answer.TaskError.TheVariants as error
 use Rattle.rows.specs.declared.Sheet as form
 use Rattle.placing.specs.Net.{Net, normal_net}

@@ -9,7 +9,7 @@ use Rattle.hyperlmntal.specs.Congruence.{◌≅◌, ≅-sym}
 use Rattle.reading.specs.Graph.{term_of_text}
 use Rattle.sheet.specs.Reading.{outcome_of, no_ports}
 use Rattle.sheet.specs.declared.kind.Kind.TheVariants.{Plain}
-use Rattle.sheet.specs.declared.answer.Answer.TheVariants.{Passed}
+use Rattle.sheet.specs.Answer.{Passed}
 use Rattle.placing.specs.TextNets.{sheet_held}
 use Rattle.placing.proofs.Theorems.{text-sheets-placing}
 use Rattle.comparing.specs.Compare.{compare_answer}

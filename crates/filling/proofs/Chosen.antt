@@ -17,7 +17,7 @@ use Rattle.rows.specs.Packed.{ports_of}
 use Rattle.rows.specs.declared.Context.{Context}
 use Rattle.reading.specs.Graph.{term_of_text}
 use Rattle.sheet.specs.Reading.{Outcome, outcome_of, no_ports}
-use Rattle.sheet.specs.declared.answer.Answer.TheVariants.{Passed}
+use Rattle.sheet.specs.Answer.{Passed}
 use Rattle.sheet.specs.declared.kind.Kind.TheVariants.{Plain, Pattern}
 use Rattle.placing.specs.Net.{NetCell, Net, blank_of}
 use Rattle.placing.specs.Placing.{Placing, Good}

@@ -16,8 +16,7 @@ use Rattle.reading.specs.Graph.{term_of_text}
 use Rattle.reading.specs.Normal.{class_of, classes_by}
 use Rattle.normalising.specs.NormalText.{slip_length}
 use Rattle.sheet.specs.Reading.{outcome_of, no_ports}
-use Rattle.sheet.specs.declared.answer.Answer.{Answer}
-use Rattle.sheet.specs.declared.answer.Answer.TheVariants.{Passed, Refused}
+use Rattle.sheet.specs.Answer.{Answer, Passed, Refused}
 use Rattle.sheet.specs.declared.kind.Kind.TheVariants.{Plain, Figure, Fillings}
 use Rattle.sheet.specs.TaskAnswer.{unless}
 use Rattle.sheet.specs.declared.answer.TaskError.TheVariants as error

@@ -28,7 +28,7 @@ use Rattle.sheet.specs.Reading.{outcome_of, no_ports}
 use Rattle.reading.specs.Made.{reading_of}
 use Rattle.reading.specs.declared.read.Reading.{Reading}
 use Rattle.sheet.specs.Filling.{filling_of, HeadsRead}
-use Rattle.sheet.specs.declared.answer.Answer.TheVariants.{Passed}
+use Rattle.sheet.specs.Answer.{Passed}
 use Rattle.sheet.specs.declared.kind.Kind.{Kind}
 use Rattle.sheet.specs.declared.kind.Kind.TheVariants.{Figure, Fillings}
 use Rattle.sheet.specs.HeldLimits.{AtomRange, ContextRange, WithinLimits}

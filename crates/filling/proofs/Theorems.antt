@@ -14,7 +14,7 @@ use Rattle.rows.specs.Held.{Held}
 use Rattle.reading.specs.Graph.{graph_of, term_of_text}
 use Rattle.reading.specs.Normal.{class_of, classes_by, numbered_by, normal_form_by, normal_form}
 use Rattle.sheet.specs.Reading.{outcome_of, no_ports}
-use Rattle.sheet.specs.declared.answer.Answer.TheVariants.{Passed}
+use Rattle.sheet.specs.Answer.{Passed}
 use Rattle.sheet.specs.declared.kind.Kind.TheVariants.{Plain, Pattern, Figure, Fillings}
 use Rattle.reading.proofs.normal.NormalBounds.{normal-range}
 use Rattle.placing.specs.Net.{Range}

@@ -16,7 +16,7 @@ use Rattle.sheet.specs.Reading.{outcome_of, no_ports}
 use Rattle.rows.specs.declared.Sheet as form
 use Rattle.sheet.specs.declared.kind.Kind.TheVariants.{Plain, Pattern}
 use Rattle.sheet.specs.declared.answer.Refusal.{Refusal}
-use Rattle.sheet.specs.declared.answer.Answer.TheVariants.{Passed, Refused}
+use Rattle.sheet.specs.Answer.{Passed, Refused}
 use Rattle.sheet.proofs.read.HeldLimits.{held-within}
 use Rattle.sheet.specs.TaskAnswer.{slip_after}
 use Rattle.sheet.specs.declared.answer.TaskError.{TaskError}

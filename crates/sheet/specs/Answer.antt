@@ -1,9 +1,18 @@
 -- Document 01, 'Numbers': the number, input and row of each answer of a reader.
-use Rattle.std.specs.Prelude.{ℕ}
+use Rattle.std.specs.Prelude.{ℕ, Result, Ok, Err}
 use Rattle.sheet.specs.declared.answer.Refusal.{Refusal}
 use Rattle.sheet.specs.declared.answer.Refusal.TheVariants.{Ragged, StrangeRow, BadColumn, Long, Crowded, Joints, Marks, BlankClash}
-use Rattle.sheet.specs.declared.answer.Answer.{Answer}
-use Rattle.sheet.specs.declared.answer.Answer.TheVariants.{Passed, Refused}
+use Rattle.sheet.specs.declared.answer.RefusedRow.{RefusedRow}
+
+-- A text passes, or it is refused at a row, counted from 1.
+pub data Answer : Type 0 where
+  Passed : Answer
+  Refused : Refusal → ℕ → Answer
+
+-- what a reader hands back: of a text that passes the value x, of another one why it is refused and at which row
+abbrev pub read_as : {A : Type 0} → Answer → A → Result A RefusedRow
+read_as Passed x = Ok x
+read_as (Refused why row) x = Err (record { why = why; row = row })
 
 abbrev pub refusal_number : Refusal → ℕ
 refusal_number Ragged = 1

@@ -2,8 +2,8 @@
 ghost use Rattle.std.specs.Prelude.{◌≡◌};
 ghost use Rattle.sheet.specs.TaskAnswer.{input_answer};
 
-// The refusals of a row, in the table's order.
-#[derive(Clone, Copy)]
+// Why a reader turns a text down: the refusals of a row, in the table's order.
+#[derive(Clone, Copy, PartialEq, Eq)]
 pub enum Refusal {
     Ragged,
     StrangeRow,
@@ -15,11 +15,19 @@ pub enum Refusal {
     BlankClash,
 }
 
-// A text passed, or it is refused at a row, counted from 1.
+// A text that is turned down: why, and at which row, counted from 1.
 #[derive(Clone, Copy)]
-pub enum Answer {
-    Passed,
-    Refused(Refusal, usize),
+pub struct RefusedRow {
+    pub why: Refusal,
+    pub row: usize,
+}
+
+impl Refusal {
+    pub(crate) fn at_row(self, row: usize) -> RefusedRow
+        ensures { result ≡ record { why = self; row = row } }
+    {
+        RefusedRow { why: self, row }
+    }
 }
 
 // What a task answers where it does not do what it is for: the buffer is too short; an input is refused at a row; over
@@ -35,12 +43,9 @@ pub enum TaskError {
     TooLarge,
 }
 
-// What a reader answers of the task's input of this number.
-pub fn of_input(input: u16, answer: Answer) -> Result<(), TaskError>
-    ensures { result ≡ input_answer input answer }
+// What a reader hands back of the task's input of this number, or the task's refusal.
+pub fn of_input<T>(input: u16, reading: Result<T, RefusedRow>) -> Result<T, TaskError>
+    ensures { result ≡ input_answer input reading }
 {
-    match answer {
-        Answer::Passed => Ok(()),
-        Answer::Refused(why, row) => Err(TaskError::Refused(input, why, row)),
-    }
+    reading.map_err(|refused| TaskError::Refused(input, refused.why, refused.row))
 }

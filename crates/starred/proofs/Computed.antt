@@ -7,8 +7,7 @@ use lib.ListN.{length}
 use Rattle.normalising.specs.NormalText.{normal_text_of}
 use Rattle.sheet.specs.Reading.{outcome_of, no_ports}
 use Rattle.sheet.specs.declared.kind.Kind.TheVariants.{Plain, Pattern, Figure, Fillings}
-use Rattle.sheet.specs.declared.answer.Answer.{Answer}
-use Rattle.sheet.specs.declared.answer.Answer.TheVariants.{Passed}
+use Rattle.sheet.specs.Answer.{Answer, Passed}
 use Rattle.sheet.specs.declared.answer.TaskError.{TaskError}
 use Rattle.sheet.specs.declared.answer.TaskError.TheVariants as error
 use Rattle.comparing.specs.Compare.{compare_answer}

@@ -8,7 +8,7 @@ use lib.ListN.{length}
 use Rattle.normalising.specs.NormalText.{slip_length, normal_text_of, normalised_answer, normalised_slip}
 use Rattle.sheet.specs.Reading.{outcome_of, no_ports}
 use Rattle.sheet.specs.declared.kind.Kind.TheVariants.{Plain, Figure, Fillings}
-use Rattle.sheet.specs.declared.answer.Answer.TheVariants.{Passed}
+use Rattle.sheet.specs.Answer.{Passed}
 use Rattle.sheet.specs.TaskAnswer.{slip_after}
 use Rattle.filling.specs.Fill.{filled_answer, filled_text, fill_answer, fill_slip}
 use Rattle.starred.specs.Case.{NormaliseEnds, FillEnds}

@@ -25,8 +25,7 @@ use Rattle.rows.specs.declared.Sheet as form
 use Rattle.sheet.specs.declared.kind.Kind.TheVariants.{Plain, Pattern, Figure, Replacement}
 use Rattle.sheet.specs.declared.answer.Refusal.{Refusal}
 use Rattle.reading.specs.declared.read.Reading.{Reading}
-use Rattle.sheet.specs.declared.answer.Answer.{Answer}
-use Rattle.sheet.specs.declared.answer.Answer.TheVariants.{Passed, Refused}
+use Rattle.sheet.specs.Answer.{Answer, Passed, Refused}
 use Rattle.sheet.specs.TaskAnswer.{slip_after}
 use Rattle.sheet.specs.declared.answer.TaskError.{TaskError}
 use Rattle.sheet.specs.declared.answer.TaskError.TheVariants as error

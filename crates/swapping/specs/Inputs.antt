@@ -4,7 +4,7 @@ use Rattle.rows.specs.Pick.{pick}
 use Rattle.reading.specs.Graph.{graph_of}
 use Rattle.reading.specs.NormalSheet.{packed_normal}
 use Rattle.rows.specs.declared.Sheet as form
-use Rattle.sheet.specs.declared.answer.Answer.TheVariants.{Passed}
+use Rattle.sheet.specs.Answer.{Passed}
 use Rattle.sheet.specs.declared.answer.TaskError.{TaskError}
 use Rattle.sheet.specs.declared.answer.TaskError.TheVariants as error
 use Rattle.placing.specs.TextNets.{pattern_held}

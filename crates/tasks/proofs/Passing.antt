@@ -10,8 +10,7 @@ use borrow.Author.Tests.{le-ltb, ltb-false}
 use lib.Dec.{ltb}
 use Rattle.rows.specs.Pick.{pick}
 use Rattle.normalising.specs.NormalText.{slip_length}
-use Rattle.sheet.specs.declared.answer.Answer.{Answer}
-use Rattle.sheet.specs.declared.answer.Answer.TheVariants.{Passed, Refused}
+use Rattle.sheet.specs.Answer.{Answer, Passed, Refused}
 use Rattle.sheet.specs.TaskAnswer.{unless}
 use Rattle.sheet.specs.declared.answer.TaskError.{TaskError}
 use Rattle.sheet.specs.declared.answer.TaskError.TheVariants as error

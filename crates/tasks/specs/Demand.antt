@@ -10,7 +10,7 @@ use Rattle.reading.specs.Graph.{graph_of, term_of_text}
 use Rattle.normalising.specs.NormalText.{text_of, slip_length}
 use Rattle.sheet.specs.Reading.{outcome_of, no_ports}
 use Rattle.sheet.specs.declared.kind.Kind.TheVariants.{Plain, Fillings}
-use Rattle.sheet.specs.declared.answer.Answer.TheVariants.{Passed}
+use Rattle.sheet.specs.Answer.{Passed}
 use Rattle.sheet.specs.declared.answer.TaskError.TheVariants as error
 use Rattle.placing.specs.Net.{Net, Range, net_of, blank_of}
 use Rattle.placing.specs.Placing.{Placing}

@@ -15,7 +15,7 @@ use Rattle.normalising.specs.NormalRows.{normal_rows, Writable}
 use Rattle.sheet.specs.declared.kind.Kind.{Kind}
 use Rattle.rows.specs.declared.Sheet.{Sheet as Normal}
 use Rattle.sheet.specs.TaskAnswer.{input_answer, unless, slip_after}
-use Rattle.sheet.specs.declared.answer.Answer.TheVariants.{Passed}
+use Rattle.sheet.specs.Answer.{Passed}
 use Rattle.sheet.specs.declared.answer.TaskError.{TaskError}
 use Rattle.sheet.specs.declared.answer.TaskError.TheVariants.{ShortSlip}
 use Rattle.sheet.proofs.TaskAnswer.{input-refused}

@@ -5,7 +5,7 @@ use Rattle.std.specs.Prelude.{Ok}
 use Rattle.std.proofs.lemmas.Result.{err_from_is_err_and}
 use Rattle.sheet.specs.TaskAnswer.{input_answer}
 use Rattle.sheet.specs.Reading.{outcome_of, no_ports}
-use Rattle.sheet.specs.declared.answer.Answer.TheVariants.{Passed}
+use Rattle.sheet.specs.Answer.{Passed}
 use Rattle.sheet.proofs.TaskAnswer.{input-passed}
 use Rattle.reading.specs.NormalSheet.{packed_normal}
 use Rattle.reading.specs.declared.read.Reading.{Reading}
