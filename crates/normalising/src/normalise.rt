@@ -18,8 +18,7 @@ fn normalise(kind: Kind, text: &[u8], out: &mut [u8]) -> Result<usize, TaskError
     if out.len() < Sheet::SLIP {
         return Err(TaskError::ShortSlip);
     }
-    let reading = read_text(kind, [0; Sheet::NUMBERS], text);
-    of_input(1, reading.answer)?;
+    let reading = of_input(1, read_text(kind, [0; Sheet::NUMBERS], text))?;
     Ok(write_normal(reading.normal, out))
 }
 

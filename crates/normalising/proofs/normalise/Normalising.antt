@@ -9,6 +9,7 @@ use lib.ListN.{length, drop}
 use Rattle.rows.specs.Format.{row_width}
 use Rattle.sheet.specs.Kinds.{is_list}
 use Rattle.sheet.specs.Reading.{outcome_of, no_ports}
+use Rattle.reading.specs.Made.{reading_of}
 use Rattle.reading.specs.NormalSheet.{packed_normal}
 use Rattle.normalising.specs.NormalText.{slip_length, normal_text_of, normalised_answer, normalised_slip}
 use Rattle.normalising.specs.NormalRows.{normal_rows, Writable}
@@ -28,11 +29,11 @@ module _ (kind : Kind) (text slip : List ℕ) where
   unfolding normalised_answer normalised_slip
   slip-short h = (rw (lt-ltb (length slip) slip_length h), rw (lt-ltb (length slip) slip_length h))
 
-  pub slip-refused : slip_length ≤ length slip → (e : TaskError) → input_answer 1 (outcome_of kind no_ports text).answer ≡ Err e
+  pub slip-refused : slip_length ≤ length slip → (e : TaskError) → input_answer 1 (reading_of kind (outcome_of kind no_ports text)) ≡ Err e
       → (Err e ≡ normalised_answer kind text (length slip)) × (slip ≡ normalised_slip kind text slip)
   unfolding normalised_answer normalised_slip
   slip-refused h e q =
-      let a : Err e ≡ unless (outcome_of kind no_ports text).answer 1 (Ok (length (normal_text_of kind text))) = input-refused 1 (outcome_of kind no_ports text).answer e _ q in
+      let a : Err e ≡ unless (outcome_of kind no_ports text).answer 1 (Ok (length (normal_text_of kind text))) = input-refused 1 (outcome_of kind no_ports text).answer _ e _ q in
       (rw (le-ltb (length slip) slip_length h) a, rw (le-ltb (length slip) slip_length h) (ap (λ (d : Result ℕ TaskError). slip_after d (normal_text_of kind text) slip) a))
 
   pub slip-written : slip_length ≤ length slip → (outcome_of kind no_ports text).answer ≡ Passed
