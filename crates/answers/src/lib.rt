@@ -8,7 +8,7 @@ ghost use Rattle.sheet.specs.Answer.{refusal_number};
 ghost use Rattle.answers.specs.Answers.{error_number, error_input, error_row};
 ghost use Rattle.answers.specs.Values.{reading_values, written_values, decided_values};
 
-use sheet::answer::{Answer, Refusal, TaskError};
+use sheet::answer::{Refusal, RefusedRow, TaskError, of_input};
 
 // The table's number of an answer, its input and row, and the bytes written.
 #[derive(Clone, Copy)]
@@ -96,13 +96,13 @@ fn refused(error: TaskError) -> TaskAnswer
     }
 }
 
-// What a reader answers of the text that is this input of its task.
-pub fn of_reading(answer: Answer, input: u16) -> TaskAnswer
-    ensures { result ≡ reading_values input answer }
+// What a reader hands back of the text that is this input of its task.
+pub fn of_reading<T: Drop>(reading: Result<T, RefusedRow>, input: u16) -> TaskAnswer
+    ensures { result ≡ reading_values input reading }
 {
-    match answer {
-        Answer::Passed => written(0),
-        Answer::Refused(why, row) => refused(TaskError::Refused(input, why, row)),
+    match of_input(input, reading) {
+        Ok(_) => written(0),
+        Err(error) => refused(error),
     }
 }
 
