@@ -16,8 +16,12 @@ use Rattle.reading.specs.NormalSheet.{packed_normal}
 use Rattle.sheet.specs.Reading.{outcome_of, no_ports}
 use Rattle.rows.specs.declared.Sheet as form
 use Rattle.sheet.specs.declared.kind.Kind.TheVariants.{Plain, Figure, Fillings}
-use Rattle.sheet.specs.declared.answer.Refusal.{Refusal}
-use Rattle.sheet.specs.Answer as read
+use Rattle.sheet.specs.Answer.{Passed}
+use Rattle.sheet.specs.TaskAnswer.{input_answer}
+use Rattle.sheet.specs.declared.answer.TaskError.{TaskError}
+use Rattle.sheet.proofs.TaskAnswer.{input-refused}
+use Rattle.reading.specs.Made.{reading_of}
+use Rattle.reading.specs.Readings.{sheet_read}
 use Rattle.sheet.specs.declared.answer.TaskError.TheVariants as error
 use Rattle.placing.specs.Net.{Net, Normal}
 use Rattle.placing.specs.Placing.{Placing}
@@ -43,11 +47,10 @@ use Rattle.claiming.specs.Inputs.{ClaimInputs}
 use Rattle.claiming.proofs.Listed.{listed-atoms}
 
 -- A placing of the filled figure was found, or none.
-pub found-claim : (sheet filled : form.Sheet) (r : Found) (b : Bool) → placed_in sheet filled r ≡ smallest (net_in sheet) (net_in filled) → r.ok ≡ b
-    → pick b (Ok true) (Ok false) ≡ placed_claim (smallest (net_in sheet) (net_in filled))
-found-claim sheet filled r b e h = ap (λ (c : Bool). pick c (Ok true) (Ok false)) (sym h) ∙ go r.ok _ ∙ ap placed_claim e
+pub found-claim : (sheet filled : form.Sheet) (r : Found) → placed_in sheet filled r ≡ smallest (net_in sheet) (net_in filled) → r.ok ≡ placed_claim (smallest (net_in sheet) (net_in filled))
+found-claim sheet filled r e = go r.ok _ ∙ ap placed_claim e
   where
-    go : (ok : Bool) (p : Placing) → pick ok (Ok true) (Ok false) ≡ placed_claim (pick ok (some p) none)
+    go : (ok : Bool) (p : Placing) → ok ≡ placed_claim (pick ok (some p) none)
     go true p = refl
     go false p = refl
 
@@ -80,9 +83,9 @@ module _ (s f list : List ℕ) where
   unfolding claimed_answer
   answer-differing z n e h = rw (nought lack z, ← e, above n h)
 
-  answer-sized : lack ≡ 0 → differ ≡ 0 → (b : Bool) → is_too_large (filled_by f list) ≡ b → pick b (Ok false) (placed_claim (smallest (sheet_net s) (filled_net f list))) ≡ claimed_answer s f list
+  answer-sized : lack ≡ 0 → differ ≡ 0 → (b : Bool) → is_too_large (filled_by f list) ≡ b → pick b (Ok false) (Ok (placed_claim (smallest (sheet_net s) (filled_net f list)))) ≡ claimed_answer s f list
   unfolding claimed_answer
-  answer-sized z y b t = rw (nought lack z, nought differ y) (ap (λ c. pick c (Ok false) (placed_claim (smallest (sheet_net s) (filled_net f list)))) (sym t))
+  answer-sized z y b t = rw (nought lack z, nought differ y) (ap (λ c. pick c (Ok false) (Ok (placed_claim (smallest (sheet_net s) (filled_net f list))))) (sym t))
 
 pub figure-counted : (sheet figure : form.Sheet) (s f : List ℕ) → ClaimInputs sheet figure s f → Counted figure.contexts figure.context_count
 figure-counted sheet figure s f I = low-counted figure (subst Low (sym I.of-figure) (normal-low Figure (figure_held f) (figure-within f) (figure-agrees f)))
@@ -124,27 +127,27 @@ module _ (sheet figure : form.Sheet) (heads : List Context) (n : ℕ) (ports lis
               figure-normal = subst Normal (sym (filled.net few narrow)) (result-sheet (filled_by f list) (listed-atoms f list (sym lacks ∙ z))).normal;
             }
 
-        pub says-placed : placed_claim (smallest (net_in sheet) (net_in r)) ≡ claimed_answer s f list
+        pub says-placed : Ok (placed_claim (smallest (net_in sheet) (net_in r))) ≡ claimed_answer s f list
         says-placed =
-            ap₂ (λ (S F : Net). placed_claim (smallest S F)) (ap net_in I.of-sheet ∙ net-read Plain no_ports s) (filled.net few narrow)
+            ap₂ (λ (S F : Net). Ok (placed_claim (smallest S F))) (ap net_in I.of-sheet ∙ net-read Plain no_ports s) (filled.net few narrow)
             ∙ answer-sized s f list (sym lacks ∙ z) (sym differs ∙ y) false (filled.not-large few narrow)
 
 -- The whole call.
 module _ (sheet figure list : List ℕ) where
-  pub claim-first : (why : Refusal) (row : ℕ) → (outcome_of Plain no_ports sheet).answer ≡ read.Refused why row → Err (error.Refused 1 why row) ≡ claim_answer sheet figure list
+  pub claim-first : (e : TaskError) → input_answer 1 (sheet_read (outcome_of Plain no_ports sheet)) ≡ Err e → Err e ≡ claim_answer sheet figure list
   unfolding claim_answer
-  claim-first why row e = rw e
+  claim-first e h = input-refused 1 (outcome_of Plain no_ports sheet).answer _ e _ h
 
-  module _ (a : (outcome_of Plain no_ports sheet).answer ≡ read.Passed) where
-    pub claim-second : (why : Refusal) (row : ℕ) → (outcome_of Figure no_ports figure).answer ≡ read.Refused why row → Err (error.Refused 2 why row) ≡ claim_answer sheet figure list
+  module _ (a : (outcome_of Plain no_ports sheet).answer ≡ Passed) where
+    pub claim-second : (e : TaskError) → input_answer 2 (sheet_read (outcome_of Figure no_ports figure)) ≡ Err e → Err e ≡ claim_answer sheet figure list
     unfolding claim_answer
-    claim-second why row e = rw (a, e)
+    claim-second e h = rw a (input-refused 2 (outcome_of Figure no_ports figure).answer _ e _ h)
 
-    module _ (b : (outcome_of Figure no_ports figure).answer ≡ read.Passed) where
-      pub claim-third : (why : Refusal) (row : ℕ) → (outcome_of Fillings no_ports list).answer ≡ read.Refused why row → Err (error.Refused 3 why row) ≡ claim_answer sheet figure list
+    module _ (b : (outcome_of Figure no_ports figure).answer ≡ Passed) where
+      pub claim-third : (e : TaskError) → input_answer 3 (reading_of Fillings (outcome_of Fillings no_ports list)) ≡ Err e → Err e ≡ claim_answer sheet figure list
       unfolding claim_answer
-      claim-third why row e = rw (a, b, e)
+      claim-third e h = rw (a, b) (input-refused 3 (outcome_of Fillings no_ports list).answer _ e _ h)
 
-      pub claim-all : (outcome_of Fillings no_ports list).answer ≡ read.Passed → claimed_answer sheet figure list ≡ claim_answer sheet figure list
+      pub claim-all : (outcome_of Fillings no_ports list).answer ≡ Passed → claimed_answer sheet figure list ≡ claim_answer sheet figure list
       unfolding claim_answer
       claim-all e = rw (a, b, e)

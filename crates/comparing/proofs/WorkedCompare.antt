@@ -2,6 +2,7 @@
 use Rattle.std.specs.Prelude.{Result, Err}
 use Prim.Native.Nat.{ℕ}
 use mathlib.Core.Path.{◌≡◌, refl}
+use mathlib.Core.Bool.{Bool}
 use mathlib.Core.List.{List, [], ◌∷◌, ◌++◌, map}
 use Rattle.writing.specs.RowText.{field_bytes, fields_bytes, row_bytes}
 use Rattle.rows.specs.Format.{letter_of, rule_of}

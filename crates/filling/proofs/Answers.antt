@@ -23,12 +23,14 @@ use Rattle.normalising.specs.NormalText.{slip_length}
 use Rattle.normalising.specs.NormalRows.{normal_rows, Writable}
 use Rattle.sheet.specs.Reading.{outcome_of, no_ports}
 use Rattle.rows.specs.declared.Sheet.{Sheet as Normal}
-use Rattle.sheet.specs.declared.answer.Refusal.{Refusal}
 use Rattle.sheet.specs.Answer.{Passed, Refused}
 use Rattle.sheet.specs.declared.kind.Kind.{Kind}
 use Rattle.sheet.specs.declared.kind.Kind.TheVariants.{Figure, Fillings}
 use Rattle.sheet.specs.HeldLimits.{Every, ContextRange}
-use Rattle.sheet.specs.TaskAnswer.{slip_after}
+use Rattle.sheet.specs.TaskAnswer.{input_answer, unless, slip_after}
+use Rattle.sheet.proofs.TaskAnswer.{input-refused}
+use Rattle.reading.specs.Made.{reading_of}
+use Rattle.reading.specs.Readings.{sheet_read}
 use Rattle.sheet.specs.declared.answer.TaskError.{TaskError}
 use Rattle.sheet.specs.declared.answer.TaskError.TheVariants as error
 use Rattle.placing.specs.Net.{net_of}
@@ -179,14 +181,18 @@ module _ (figure list slip : List ℕ) where
   fill-short h = (rw (lt-ltb (length slip) slip_length h), rw (lt-ltb (length slip) slip_length h))
 
   module _ (h : slip_length ≤ length slip) where
-    pub fill-figure : (why : Refusal) (row : ℕ) → (outcome_of Figure no_ports figure).answer ≡ Refused why row → (Err (error.Refused 1 why row) ≡ fill_answer figure list (length slip)) × (slip ≡ fill_slip figure list slip)
+    pub fill-figure : (e : TaskError) → input_answer 1 (sheet_read (outcome_of Figure no_ports figure)) ≡ Err e → (Err e ≡ fill_answer figure list (length slip)) × (slip ≡ fill_slip figure list slip)
     unfolding fill_answer fill_slip
-    fill-figure why row e = (rw (le-ltb (length slip) slip_length h, e), rw (le-ltb (length slip) slip_length h, e))
+    fill-figure e q =
+        let a : Err e ≡ unless (outcome_of Figure no_ports figure).answer 1 (unless (outcome_of Fillings no_ports list).answer 2 (filled_answer figure list)) = input-refused 1 (outcome_of Figure no_ports figure).answer _ e _ q in
+        (rw (le-ltb (length slip) slip_length h) a, rw (le-ltb (length slip) slip_length h) (ap (λ (d : Result ℕ TaskError). slip_after d (filled_text figure list) slip) a))
 
     module _ (p : (outcome_of Figure no_ports figure).answer ≡ Passed) where
-      pub fill-list : (why : Refusal) (row : ℕ) → (outcome_of Fillings no_ports list).answer ≡ Refused why row → (Err (error.Refused 2 why row) ≡ fill_answer figure list (length slip)) × (slip ≡ fill_slip figure list slip)
+      pub fill-list : (e : TaskError) → input_answer 2 (reading_of Fillings (outcome_of Fillings no_ports list)) ≡ Err e → (Err e ≡ fill_answer figure list (length slip)) × (slip ≡ fill_slip figure list slip)
       unfolding fill_answer fill_slip
-      fill-list why row e = (rw (le-ltb (length slip) slip_length h, p, e), rw (le-ltb (length slip) slip_length h, p, e))
+      fill-list e q =
+          let a : Err e ≡ unless (outcome_of Fillings no_ports list).answer 2 (filled_answer figure list) = input-refused 2 (outcome_of Fillings no_ports list).answer _ e _ q in
+          (rw (le-ltb (length slip) slip_length h, p) a, rw (le-ltb (length slip) slip_length h, p) (ap (λ (d : Result ℕ TaskError). slip_after d (filled_text figure list) slip) a))
 
       pub fill-passed : (outcome_of Fillings no_ports list).answer ≡ Passed → (d : Result ℕ TaskError) → d ≡ filled_answer figure list → (out : List ℕ) → out ≡ slip_after d (filled_text figure list) slip
           → (d ≡ fill_answer figure list (length slip)) × (out ≡ fill_slip figure list slip)

@@ -15,10 +15,11 @@ use Rattle.normalising.specs.NormalText.{slip_length}
 use Rattle.sheet.specs.Reading.{outcome_of, no_ports}
 use Rattle.rows.specs.declared.Sheet as form
 use Rattle.sheet.specs.declared.kind.Kind.TheVariants.{Plain, Pattern}
-use Rattle.sheet.specs.declared.answer.Refusal.{Refusal}
-use Rattle.sheet.specs.Answer.{Passed, Refused}
+use Rattle.sheet.specs.Answer.{Passed}
 use Rattle.sheet.proofs.read.HeldLimits.{held-within}
-use Rattle.sheet.specs.TaskAnswer.{slip_after}
+use Rattle.sheet.specs.TaskAnswer.{input_answer, unless, slip_after}
+use Rattle.sheet.proofs.TaskAnswer.{input-refused}
+use Rattle.reading.specs.Readings.{sheet_read}
 use Rattle.sheet.specs.declared.answer.TaskError.{TaskError}
 use Rattle.sheet.specs.declared.answer.TaskError.TheVariants as error
 use Rattle.normalising.proofs.normal_text.NormalWritten.{atom-at, context-at, atom-range, context-range}
@@ -129,14 +130,18 @@ module _ (sheet pattern slip : List ℕ) where
   place_short h = (rw (lt-ltb (length slip) slip_length h), rw (lt-ltb (length slip) slip_length h))
 
   module _ (h : slip_length ≤ length slip) where
-    pub place-first : (why : Refusal) (row : ℕ) → (outcome_of Plain no_ports sheet).answer ≡ Refused why row → (Err (error.Refused 1 why row) ≡ place_answer sheet pattern (length slip)) × (slip ≡ place_slip sheet pattern slip)
+    pub place-first : (e : TaskError) → input_answer 1 (sheet_read (outcome_of Plain no_ports sheet)) ≡ Err e → (Err e ≡ place_answer sheet pattern (length slip)) × (slip ≡ place_slip sheet pattern slip)
     unfolding place_answer place_slip
-    place-first why row e = (rw (le-ltb (length slip) slip_length h, e), rw (le-ltb (length slip) slip_length h, e))
+    place-first e q =
+        let a : Err e ≡ unless (outcome_of Plain no_ports sheet).answer 1 (unless (outcome_of Pattern no_ports pattern).answer 2 (placed_answer (placed_fillings sheet pattern))) = input-refused 1 (outcome_of Plain no_ports sheet).answer _ e _ q in
+        (rw (le-ltb (length slip) slip_length h) a, rw (le-ltb (length slip) slip_length h) (ap (λ (d : Result ℕ TaskError). slip_after d (placed_text (placed_fillings sheet pattern)) slip) a))
 
     module _ (a : (outcome_of Plain no_ports sheet).answer ≡ Passed) where
-      pub place-second : (why : Refusal) (row : ℕ) → (outcome_of Pattern no_ports pattern).answer ≡ Refused why row → (Err (error.Refused 2 why row) ≡ place_answer sheet pattern (length slip)) × (slip ≡ place_slip sheet pattern slip)
+      pub place-second : (e : TaskError) → input_answer 2 (sheet_read (outcome_of Pattern no_ports pattern)) ≡ Err e → (Err e ≡ place_answer sheet pattern (length slip)) × (slip ≡ place_slip sheet pattern slip)
       unfolding place_answer place_slip
-      place-second why row e = (rw (le-ltb (length slip) slip_length h, a, e), rw (le-ltb (length slip) slip_length h, a, e))
+      place-second e q =
+          let b : Err e ≡ unless (outcome_of Pattern no_ports pattern).answer 2 (placed_answer (placed_fillings sheet pattern)) = input-refused 2 (outcome_of Pattern no_ports pattern).answer _ e _ q in
+          (rw (le-ltb (length slip) slip_length h, a) b, rw (le-ltb (length slip) slip_length h, a) (ap (λ (d : Result ℕ TaskError). slip_after d (placed_text (placed_fillings sheet pattern)) slip) b))
 
       pub place-both : (outcome_of Pattern no_ports pattern).answer ≡ Passed → (d : Result ℕ TaskError) → d ≡ placed_answer (placed_fillings sheet pattern) → (out : List ℕ) → out ≡ slip_after d (placed_text (placed_fillings sheet pattern)) slip
           → (d ≡ place_answer sheet pattern (length slip)) × (out ≡ place_slip sheet pattern slip)

@@ -23,10 +23,10 @@ use Rattle.sheet.specs.Reading.{Outcome, outcome_of, no_ports}
 use Rattle.reading.specs.Readings.{sheet_read}
 use Rattle.rows.specs.declared.Sheet as form
 use Rattle.sheet.specs.declared.kind.Kind.TheVariants.{Plain, Pattern, Figure, Replacement}
-use Rattle.sheet.specs.declared.answer.Refusal.{Refusal}
 use Rattle.reading.specs.declared.read.Reading.{Reading}
-use Rattle.sheet.specs.Answer.{Answer, Passed, Refused}
-use Rattle.sheet.specs.TaskAnswer.{slip_after}
+use Rattle.sheet.specs.Answer.{Passed}
+use Rattle.sheet.specs.TaskAnswer.{input_answer, unless, slip_after}
+use Rattle.sheet.proofs.TaskAnswer.{input-passed, input-refused}
 use Rattle.sheet.specs.declared.answer.TaskError.{TaskError}
 use Rattle.sheet.specs.declared.answer.TaskError.TheVariants as error
 use Rattle.placing.specs.Net.{NetCell, Net}
@@ -177,33 +177,29 @@ module _ (sheet pattern replacement : form.Sheet) (s p q : List ℕ) (I : SwapIn
         swap-placing room = record { list = list_text θ; fills = list-fills; answer = swap-done; text = swap-text; parts = parts-given room }
 
 -- The texts as they were read.
-pub record TextsRead (S P T : Reading) (sheet pattern replacement : List ℕ) : Type 0 where
-  pub first-answer : (t : Answer) → S.answer ≡ t → (outcome_of Plain no_ports sheet).answer ≡ t
-  pub second-answer : (t : Answer) → P.answer ≡ t → (outcome_of Pattern no_ports pattern).answer ≡ t
-  pub third-answer : (t : Answer) → T.answer ≡ t → (replacement_read pattern replacement).answer ≡ t
-  pub inputs : S.answer ≡ Passed → P.answer ≡ Passed → T.answer ≡ Passed → SwapInputs S.normal P.normal T.normal sheet pattern replacement
+module _ (sheet pattern replacement : List ℕ) (S P : Reading)
+    (x : input_answer 1 (sheet_read (outcome_of Plain no_ports sheet)) ≡ Ok S) (y : input_answer 2 (sheet_read (outcome_of Pattern no_ports pattern)) ≡ Ok P) where
+  pub first-passed : (outcome_of Plain no_ports sheet).answer ≡ Passed
+  first-passed = (input-passed 1 (outcome_of Plain no_ports sheet).answer _ S x).0
 
-module _ (S P T : Reading) (sheet pattern replacement : List ℕ)
-    (x : S ≡ sheet_read (outcome_of Plain no_ports sheet)) (y : P ≡ sheet_read (outcome_of Pattern no_ports pattern)) (z : T ≡ sheet_read (outcome_of Replacement P.ports replacement)) where
-  third : T ≡ sheet_read (replacement_read pattern replacement)
-  third = z ∙ ap (λ (r : Reading). sheet_read (outcome_of Replacement r.ports replacement)) y
+  pub second-passed : (outcome_of Pattern no_ports pattern).answer ≡ Passed
+  second-passed = (input-passed 2 (outcome_of Pattern no_ports pattern).answer _ P y).0
 
-  pub texts-read : TextsRead S P T sheet pattern replacement
-  texts-read =
+  -- the replacement is read with the ports of the pattern
+  pub third-read : sheet_read (outcome_of Replacement P.ports replacement) ≡ sheet_read (replacement_read pattern replacement)
+  third-read = ap (λ (r : Reading). sheet_read (outcome_of Replacement r.ports replacement)) (input-passed 2 (outcome_of Pattern no_ports pattern).answer _ P y).1
+
+  pub texts-read : (T : Reading) → input_answer 3 (sheet_read (replacement_read pattern replacement)) ≡ Ok T → SwapInputs S.normal P.normal T.normal sheet pattern replacement
+  texts-read T z =
+      let t = input-passed 3 (replacement_read pattern replacement).answer _ T z in
       record {
-        first-answer = λ t e. sym (ap (λ (r : Reading). r.answer) x) ∙ e;
-        second-answer = λ t e. sym (ap (λ (r : Reading). r.answer) y) ∙ e;
-        third-answer = λ t e. sym (ap (λ (r : Reading). r.answer) third) ∙ e;
-        inputs = λ a b c.
-            record {
-              placed = record {
-                passed = record { sheet-passes = sym (ap (λ (r : Reading). r.answer) x) ∙ a; pattern-passes = sym (ap (λ (r : Reading). r.answer) y) ∙ b };
-                of-sheet = ap (λ (r : Reading). r.normal) x;
-                of-pattern = ap (λ (r : Reading). r.normal) y;
-              };
-              replacement-passes = sym (ap (λ (r : Reading). r.answer) third) ∙ c;
-              of-replacement = ap (λ (r : Reading). r.normal) third;
-            };
+        placed = record {
+          passed = record { sheet-passes = first-passed; pattern-passes = second-passed };
+          of-sheet = ap (λ (r : Reading). r.normal) (input-passed 1 (outcome_of Plain no_ports sheet).answer _ S x).1;
+          of-pattern = ap (λ (r : Reading). r.normal) (input-passed 2 (outcome_of Pattern no_ports pattern).answer _ P y).1;
+        };
+        replacement-passes = t.0;
+        of-replacement = ap (λ (r : Reading). r.normal) t.1;
       }
 
 -- The whole call.
@@ -212,20 +208,31 @@ module _ (sheet pattern replacement slip : List ℕ) where
   unfolding swap_answer swap_slip
   swap-short h = (rw (lt-ltb (length slip) slip_length h), rw (lt-ltb (length slip) slip_length h))
 
+  abbrev after : Result ℕ TaskError → List ℕ
+  after d = slip_after d (swap_text sheet pattern replacement) slip
+
   module _ (h : slip_length ≤ length slip) where
-    pub swap-first : (why : Refusal) (row : ℕ) → (outcome_of Plain no_ports sheet).answer ≡ Refused why row → (Err (error.Refused 1 why row) ≡ swap_answer sheet pattern replacement (length slip)) × (slip ≡ swap_slip sheet pattern replacement slip)
+    pub swap-first : (e : TaskError) → input_answer 1 (sheet_read (outcome_of Plain no_ports sheet)) ≡ Err e → (Err e ≡ swap_answer sheet pattern replacement (length slip)) × (slip ≡ swap_slip sheet pattern replacement slip)
     unfolding swap_answer swap_slip
-    swap-first why row e = (rw (le-ltb (length slip) slip_length h, e), rw (le-ltb (length slip) slip_length h, e))
+    swap-first e q =
+        let next = unless (outcome_of Pattern no_ports pattern).answer 2 (unless (replacement_read pattern replacement).answer 3 (swap_read sheet pattern replacement)) in
+        let a : Err e ≡ unless (outcome_of Plain no_ports sheet).answer 1 next = input-refused 1 (outcome_of Plain no_ports sheet).answer _ e next q in
+        (rw (le-ltb (length slip) slip_length h) a, rw (le-ltb (length slip) slip_length h) (ap after a))
 
     module _ (a : (outcome_of Plain no_ports sheet).answer ≡ Passed) where
-      pub swap-second : (why : Refusal) (row : ℕ) → (outcome_of Pattern no_ports pattern).answer ≡ Refused why row → (Err (error.Refused 2 why row) ≡ swap_answer sheet pattern replacement (length slip)) × (slip ≡ swap_slip sheet pattern replacement slip)
+      pub swap-second : (e : TaskError) → input_answer 2 (sheet_read (outcome_of Pattern no_ports pattern)) ≡ Err e → (Err e ≡ swap_answer sheet pattern replacement (length slip)) × (slip ≡ swap_slip sheet pattern replacement slip)
       unfolding swap_answer swap_slip
-      swap-second why row e = (rw (le-ltb (length slip) slip_length h, a, e), rw (le-ltb (length slip) slip_length h, a, e))
+      swap-second e q =
+          let next = unless (replacement_read pattern replacement).answer 3 (swap_read sheet pattern replacement) in
+          let b : Err e ≡ unless (outcome_of Pattern no_ports pattern).answer 2 next = input-refused 2 (outcome_of Pattern no_ports pattern).answer _ e next q in
+          (rw (le-ltb (length slip) slip_length h, a) b, rw (le-ltb (length slip) slip_length h, a) (ap after b))
 
       module _ (b : (outcome_of Pattern no_ports pattern).answer ≡ Passed) where
-        pub swap-third : (why : Refusal) (row : ℕ) → (replacement_read pattern replacement).answer ≡ Refused why row → (Err (error.Refused 3 why row) ≡ swap_answer sheet pattern replacement (length slip)) × (slip ≡ swap_slip sheet pattern replacement slip)
+        pub swap-third : (e : TaskError) → input_answer 3 (sheet_read (replacement_read pattern replacement)) ≡ Err e → (Err e ≡ swap_answer sheet pattern replacement (length slip)) × (slip ≡ swap_slip sheet pattern replacement slip)
         unfolding swap_answer swap_slip
-        swap-third why row e = (rw (le-ltb (length slip) slip_length h, a, b, e), rw (le-ltb (length slip) slip_length h, a, b, e))
+        swap-third e q =
+            let c : Err e ≡ unless (replacement_read pattern replacement).answer 3 (swap_read sheet pattern replacement) = input-refused 3 (replacement_read pattern replacement).answer _ e (swap_read sheet pattern replacement) q in
+            (rw (le-ltb (length slip) slip_length h, a, b) c, rw (le-ltb (length slip) slip_length h, a, b) (ap after c))
 
         pub swap-all : (replacement_read pattern replacement).answer ≡ Passed → (d : Result ℕ TaskError) → d ≡ swap_read sheet pattern replacement → (out : List ℕ) → out ≡ slip_after d (swap_text sheet pattern replacement) slip
             → (d ≡ swap_answer sheet pattern replacement (length slip)) × (out ≡ swap_slip sheet pattern replacement slip)
