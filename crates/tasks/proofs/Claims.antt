@@ -77,14 +77,14 @@ module _ (sheet figure list : List ℕ) (ok : ClaimPassed sheet figure list) whe
       let b = good-links S N s n p g in
       not-large G claim-atoms (omega (arith, a, small.atoms)) (omega (arith, b, small.links))
 
-  answer : claim_answer sheet figure list ≡ pick (is_too_large G) (Ok false) (placed_claim (smallest S N))
+  answer : claim_answer sheet figure list ≡ pick (is_too_large G) (Ok false) (Ok (placed_claim (smallest S N)))
   unfolding claim_answer claimed_answer
   answer = rw (ok.sheet-passes, ok.figure-passes, ok.list-passes, ok.none-lacking, ok.none-differing)
 
   pub claim-ends : (claim_answer sheet figure list ≡ Ok true) ⊎ (claim_answer sheet figure list ≡ Ok false)
   claim-ends = rw answer (go (is_too_large G) (smallest S N))
     where
-      go : (b : Bool) (o : Option Placing) → (pick b (Ok false) (placed_claim o) ≡ Ok true) ⊎ (pick b (Ok false) (placed_claim o) ≡ Ok false)
+      go : (b : Bool) (o : Option Placing) → (pick b (Ok false) (Ok (placed_claim o)) ≡ Ok true) ⊎ (pick b (Ok false) (Ok (placed_claim o)) ≡ Ok false)
       go true o = inr refl
       go false none = inr refl
       go false (some p) = inl refl
@@ -92,11 +92,11 @@ module _ (sheet figure list : List ℕ) (ok : ClaimPassed sheet figure list) whe
   pub claim-congruent : (claim_answer sheet figure list ≡ Ok true) ↔ (holding_term (term_of_text (figure_held figure)) (fillings_read list) ≅ term_of_text (sheet_held sheet))
   claim-congruent = (λ e. onward (is_too_large G) (smallest S N) refl (sym answer ∙ e), λ e. let t = same.1 e in answer ∙ rw (no-larger t.0 t.1) (back t (smallest S N) refl))
     where
-      onward : (b : Bool) (o : Option Placing) → smallest S N ≡ o → pick b (Ok false) (placed_claim o) ≡ Ok true → holding_term (term_of_text (figure_held figure)) (fillings_read list) ≅ term_of_text (sheet_held sheet)
+      onward : (b : Bool) (o : Option Placing) → smallest S N ≡ o → pick b (Ok false) (Ok (placed_claim o)) ≡ Ok true → holding_term (term_of_text (figure_held figure)) (fillings_read list) ≅ term_of_text (sheet_held sheet)
       onward true o q e = absurd (let z : ◌≡◌ {A = ℕ} 0 1 = cc in omega arith)
       onward false none q e = absurd (let z : ◌≡◌ {A = ℕ} 0 1 = cc in omega arith)
       onward false (some p) q e = same.0 (p, smallest-good S N p q)
 
-      back : (p : Placing) × Good S N p → (o : Option Placing) → smallest S N ≡ o → placed_claim o ≡ Ok true
+      back : (p : Placing) × Good S N p → (o : Option Placing) → smallest S N ≡ o → placed_claim o ≡ true
       back t none q = absurd ((smallest-none S N).0 q t.0 t.1)
       back t (some p) q = refl
