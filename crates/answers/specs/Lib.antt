@@ -1,5 +1,3 @@
-pub mod Done
-pub mod Compared
-pub mod Claimed
+pub mod Answers
 pub mod AnswerRow
 pub mod Values

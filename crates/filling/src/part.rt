@@ -7,7 +7,7 @@ ghost use Rattle.placing.specs.Smallest.{same_list, numbers_to};
 ghost use Rattle.filling.specs.Fill.{first_differing};
 ghost use Rattle.filling.specs.Parts.{part_read, part_marks, exact_to, Exacts, first_unported, Counted};
 
-use reading::read::{Reading, read_list};
+use reading::read::read_list;
 use rows::{Context, Sheet};
 use sheet::part::part_for;
 
@@ -17,11 +17,14 @@ pub(crate) fn part_of(
     heads: [Context; Sheet::CONTEXT_ROOM],
     count: usize,
     number: u16,
-) -> Reading
+) -> Sheet
     requires { HeadsRead list.now heads count }
-    ensures { result.normal ≡ part_read list.now number }
+    ensures { result ≡ part_read list.now number }
 {
-    read_list(part_for(list, heads, count, number))
+    match read_list(part_for(list, heads, count, number)) {
+        Ok(part) => part.normal,
+        Err(_) => Sheet::empty(),
+    }
 }
 
 // Whether the first `count` marks, which ascend, are exactly 1 to n.
@@ -72,7 +75,7 @@ fn is_exact(
         return true;
     }
     let part = part_of(list, heads, count, number);
-    marks_exact(&part.normal.marks, part.normal.mark_count, n)
+    marks_exact(&part.marks, part.mark_count, n)
 }
 
 // 8 over whole texts: the row of the first of a figure's contexts without a filling of its number and count, by

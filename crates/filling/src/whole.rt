@@ -80,17 +80,17 @@ pub(crate) fn whole_of(
             i + 1,
             links,
             context.count as usize,
-            &part.normal.marked,
+            &part.marked,
         );
         note_exact(
             &mut *exact,
-            &part.normal.marks,
-            part.normal.mark_count,
+            &part.marks,
+            part.mark_count,
             context.number,
             context.count,
         );
-        let atoms = part.normal.atoms;
-        whole = whole.with_part(i + 1, atoms, part.normal.atom_count);
+        let atoms = part.atoms;
+        whole = whole.with_part(i + 1, atoms, part.atom_count);
     }
     whole
 }

@@ -15,10 +15,8 @@ fn row_numbers(first: u16, count: u16, links: [u16; Sheet::MOST_LINKS]) -> [u16;
     let mut nums = [0; Sheet::FIELDS];
     nums[0] = first;
     nums[1] = count;
-    let mut k = 0;
-    while k < Sheet::MOST_LINKS {
+    for k in 0..Sheet::MOST_LINKS {
         nums[k + 2] = links[k];
-        k += 1;
     }
     nums
 }
@@ -47,14 +45,12 @@ fn put_atoms(atoms: [Atom; Sheet::ATOM_ROOM], count: usize, out: &mut [u8], at: 
     ensures value { result ≡ at + count * row_width }
     ensures out_after { out.new ≡ take at out.old ++ rows_to (atom_row_in atoms) count ++ drop (at + count * row_width) out.old }
 {
-    let mut k = 0;
-    while k < count {
+    for k in 0..count {
         let atom = atoms[k];
         let links = atom.links;
         put_linked(out, at + k * Sheet::ROW, b'S', atom.name, atom.count, links);
-        k += 1;
     }
-    at + k * Sheet::ROW
+    at + count * Sheet::ROW
 }
 
 // The B rows, from byte `at` on; the byte after them.
@@ -69,8 +65,7 @@ fn put_contexts(
     ensures value { result ≡ at + count * row_width }
     ensures out_after { out.new ≡ take at out.old ++ rows_to (context_row_in contexts) count ++ drop (at + count * row_width) out.old }
 {
-    let mut k = 0;
-    while k < count {
+    for k in 0..count {
         let context = contexts[k];
         let links = context.links;
         put_linked(
@@ -81,9 +76,8 @@ fn put_contexts(
             context.count,
             links,
         );
-        k += 1;
     }
-    at + k * Sheet::ROW
+    at + count * Sheet::ROW
 }
 
 // An E row, from byte `at` on.
@@ -111,12 +105,10 @@ fn put_marks(
     ensures value { result ≡ at + count * row_width }
     ensures out_after { out.new ≡ take at out.old ++ rows_to (mark_row_in marked marks) count ++ drop (at + count * row_width) out.old }
 {
-    let mut k = 0;
-    while k < count {
+    for k in 0..count {
         put_mark(out, at + k * Sheet::ROW, marked[k], marks[k]);
-        k += 1;
     }
-    at + k * Sheet::ROW
+    at + count * Sheet::ROW
 }
 
 // All rows from byte 0 on, the S rows first and the E rows last; the number of bytes.

@@ -1,1 +1,2 @@
 pub mod read
+pub mod TaskAnswer

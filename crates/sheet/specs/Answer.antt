@@ -24,15 +24,16 @@ refusal_number Joints = 6
 refusal_number Marks = 7
 refusal_number BlankClash = 8
 
-abbrev pub number_of : Answer → ℕ
-number_of Passed = 0
-number_of (Refused why row) = refusal_number why
+-- of what a reader hands back
+abbrev pub number_of : {A : Type 0} → Result A RefusedRow → ℕ
+number_of (Ok x) = 0
+number_of (Err r) = refusal_number r.why
 
 -- the input that is read is the task's k-th
-abbrev pub input_of : ℕ → Answer → ℕ
-input_of k Passed = 0
-input_of k (Refused why row) = k
+abbrev pub input_of : {A : Type 0} → ℕ → Result A RefusedRow → ℕ
+input_of k (Ok x) = 0
+input_of k (Err r) = k
 
-abbrev pub row_number_of : Answer → ℕ
-row_number_of Passed = 0
-row_number_of (Refused why row) = row
+abbrev pub row_number_of : {A : Type 0} → Result A RefusedRow → ℕ
+row_number_of (Ok x) = 0
+row_number_of (Err r) = r.row

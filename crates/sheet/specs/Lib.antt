@@ -4,3 +4,4 @@ pub mod Reading
 pub mod Steps
 pub mod Answer
 pub mod Filling
+pub mod TaskAnswer

@@ -1,0 +1,15 @@
+-- `normal_text::put_atoms` meets its contract. Invariant: the first k S rows are written over the slip, and the rest of
+-- it is as it was. Assumes nothing.
+use Prim.Native.Nat.{◌≤◌, ◌-◌, ◌*◌}
+use mathlib.Core.Path.{◌≡◌, refl, ◌∙◌}
+use native.Mathlib.Omega.{arith}
+use lib.ListN.{length}
+use Rattle.rows.specs.Format.{row_width}
+use Rattle.writing.proofs.RowBytes.{over, over_none}
+use Rattle.normalising.specs.NormalRows.{rows_to, atom_row_in}
+use Rattle.normalising.proofs.normal_text.NormalRows.{rows-put, atom-width}
+use borrow.Author.Rules.{rules}
+use Rattle.normalising.proofs.normal_text.put_atoms.Given as goal
+
+abbrev pub invariant-loop-k : goal.invariant-loop-k
+invariant-loop-k l = (l.k ≤ l.count) × (length l.out ≡ length l.initial.out) × (l.out ≡ over l.initial.out l.at (rows_to (atom_row_in l.atoms) l.k) (l.k * row_width))
