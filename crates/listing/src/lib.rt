@@ -72,12 +72,10 @@ pub fn write_fillings(
 {
     let contexts = figure.contexts;
     let mut at = 0;
-    let mut i = 0;
-    while i < figure.context_count {
+    for i in 0..figure.context_count {
         let j = context_ranked(contexts, figure.context_count, i);
         let context = contexts[j];
         at = put_filling(sheet, context, &links_to, &given, out, at);
-        i += 1;
     }
     at
 }

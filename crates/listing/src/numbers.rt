@@ -21,10 +21,8 @@ pub fn numbers_of(
     ensures by_index { (later : List ℕ) → result ≡ padded most_links 0 (map (number_in (with_classes (numbering numbers.new numbered.new) later).numbers) (take count links)) }
 {
     let mut more = [0u16; Sheet::MOST_LINKS];
-    let mut k = 0;
-    while k < count {
+    for k in 0..count {
         more[k] = number_class(numbers, numbered, links[k] as usize);
-        k += 1;
     }
     more
 }

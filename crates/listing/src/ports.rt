@@ -31,10 +31,8 @@ pub fn ports_of(
     ensures { result ≡ padded most_links 0 (map (stands_at sheet_links links_to.now) (take count links)) }
 {
     let mut ports = [0u16; Sheet::MOST_LINKS];
-    let mut k = 0;
-    while k < count {
+    for k in 0..count {
         ports[k] = stands_on(sheet_links, links_to, links[k]);
-        k += 1;
     }
     ports
 }

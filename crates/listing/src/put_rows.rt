@@ -41,10 +41,8 @@ fn symbol_numbers(
     let mut nums = [0; Sheet::FIELDS];
     nums[0] = name;
     nums[1] = count;
-    let mut k = 0;
-    while k < count as usize {
+    for k in 0..count as usize {
         nums[k + 2] = number_class(numbers, numbered, links[k] as usize);
-        k += 1;
     }
     nums
 }
@@ -92,11 +90,9 @@ pub(crate) fn put_symbols(
     ensures by_index { (later : List ℕ) → out.new ≡ take at out.old ++ symbols_bytes (number_in (with_classes (numbering numbers.new numbered.new) later).numbers) (given_cells sheet given.now number) ++ drop (at + length (given_cells sheet given.now number) * row_width) out.old }
 {
     let mut end = at;
-    let mut i = 0;
-    while i < sheet.atom_count {
+    for i in 0..sheet.atom_count {
         let atom = sheet.atoms[i];
         end = put_symbol(numbers, numbered, atom, given[i] == number, out, end);
-        i += 1;
     }
     end
 }
@@ -117,11 +113,9 @@ pub(crate) fn put_ports(
     ensures numbered_after { numbering numbers.new numbered.new ≡ with_classes (numbering numbers.old numbered.old) (take count ports) }
     ensures out_after { out.new ≡ take at out.old ++ ports_bytes (number_in numbers.new) 1 (take count ports) ++ drop (at + count * row_width) out.old }
 {
-    let mut k = 0;
-    while k < count {
+    for k in 0..count {
         let x = number_class(numbers, numbered, ports[k] as usize);
         put_pair(out, at + k * Sheet::ROW, b'E', x, k as u16 + 1);
-        k += 1;
     }
-    at + k * Sheet::ROW
+    at + count * Sheet::ROW
 }

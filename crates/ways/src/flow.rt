@@ -1,17 +1,16 @@
 // So many ways, if there are as many, found by augmenting, and laid out. They are a guess, which `trail` checks.
 ghost use Rattle.std.specs.Prelude.{◌≡◌, ◌<◌, ◌≤◌, length};
-ghost use Rattle.rows.specs.Limits.{sheet_atom_limit, sheet_link_limit};
-ghost use Rattle.stepping.specs.Chains.{node_of, Falls};
+ghost use Rattle.rows.specs.Limits.{sheet_link_limit};
 ghost use Rattle.ways.specs.Flow.{place_count, flow_room, state_count};
 ghost use Rattle.ways.specs.Trails.{trail_room};
 
+use crate::TRAILS;
+use crate::look::{Look, START, STATES, VERTICES};
 use crate::row::link_at;
-use crate::search::{ENDED, FLOW, LOOK, OUTWARD, PLACES, START, STATES, USES, VERTICES, search};
+use crate::search::{ENDED, FLOW, Network, OUTWARD, PLACES, USES, search};
 use crate::trail::wide;
-use crate::{SORTED, TRAILS};
 use candidates::LAID;
 use rows::Sheet;
-use stepping::CHAINS;
 
 fn more(flow: &mut [u8; FLOW], at: usize)
     requires { at < flow_room }
@@ -68,13 +67,13 @@ fn before(flow: &mut [u8; FLOW], laid: &[u16; LAID], from: usize, state: usize) 
 }
 
 // The ways with the one that ends at this link.
-fn augment(flow: &mut [u8; FLOW], look: &[u16; LOOK], laid: &[u16; LAID], end: usize)
+fn augment(flow: &mut [u8; FLOW], look: &Look, laid: &[u16; LAID], end: usize)
     requires { end < sheet_link_limit }
 {
     more(flow, ENDED + end);
     let mut state = end;
     for _ in 0..STATES {
-        let from = look[state];
+        let from = look.entry(state);
         if from == START {
             more(flow, USES + state % VERTICES);
             return;
@@ -87,16 +86,16 @@ fn augment(flow: &mut [u8; FLOW], look: &[u16; LOOK], laid: &[u16; LAID], end: u
 }
 
 // The place over which a way leads to link z.
-fn arrival(flow: &[u8; FLOW], chains: &[u16; CHAINS], atoms: usize, z: usize) -> usize
-    requires { (atoms ≤ sheet_atom_limit) × Falls (node_of atoms 0) chains.now × (z < sheet_link_limit) }
+fn arrival(net: &Network<'_>, flow: &[u8; FLOW], z: usize) -> usize
+    requires { z < sheet_link_limit }
     ensures { result < place_count }
 {
-    let mut v = wide(chains[z]);
+    let mut v = wide(net.chains[z]);
     while Sheet::LINKS <= v {
         if OUTWARD <= flow[v - Sheet::LINKS] {
             return v - Sheet::LINKS;
         }
-        v = wide(chains[v]);
+        v = wide(net.chains[v]);
     }
     0
 }
@@ -122,79 +121,53 @@ fn departure(flow: &[u8; FLOW], place: usize) -> usize
 fn lay_way(
     trails: &mut [u16; TRAILS],
     at: usize,
+    net: &Network<'_>,
     flow: &mut [u8; FLOW],
-    laid: &[u16; LAID],
-    chains: &[u16; CHAINS],
-    atoms: usize,
-    sorted: &[u8; SORTED],
     end: usize,
 ) -> usize
-    requires { (at < trail_room) × (atoms ≤ sheet_atom_limit) × Falls (node_of atoms 0) chains.now × (end < sheet_link_limit) × (length trails.old ≡ trail_room) }
+    requires { (at < trail_room) × (end < sheet_link_limit) × (length trails.old ≡ trail_room) }
     ensures { (at < result) × (result ≤ trail_room) × (length trails.new ≡ trail_room) }
 {
     trails[at] = (end + 1) as u16;
     let mut z = end;
     for next in at + 1..TRAILS {
-        if sorted[Sheet::LINKS + z] == 1 {
+        if net.sorted[Sheet::LINKS + z] == 1 {
             return next;
         }
-        let into = arrival(flow, chains, atoms, z);
+        let into = arrival(net, flow, z);
         let from = departure(flow, into);
         more(flow, into);
         less(flow, from);
         trails[next] = (from * Sheet::MOST_LINKS + into % Sheet::MOST_LINKS) as u16;
-        z = link_at(laid, from);
+        z = link_at(net.laid, from);
     }
     TRAILS
 }
 
 // All ways of the flow are laid out, as far as there is room.
-pub(crate) fn lay(
-    trails: &mut [u16; TRAILS],
-    flow: &mut [u8; FLOW],
-    laid: &[u16; LAID],
-    chains: &[u16; CHAINS],
-    atoms: usize,
-    links: usize,
-    sorted: &[u8; SORTED],
-)
-    requires { (atoms ≤ sheet_atom_limit) × Falls (node_of atoms 0) chains.now × (links ≤ sheet_link_limit) × (length trails.old ≡ trail_room) }
+pub(crate) fn lay(trails: &mut [u16; TRAILS], net: &Network<'_>, flow: &mut [u8; FLOW])
+    requires { length trails.old ≡ trail_room }
     ensures { length trails.new ≡ trail_room }
 {
     let mut at = 0;
-    for z in 0..links {
+    for z in 0..net.links {
         for _ in 0..flow[ENDED + z] {
             if at == TRAILS {
                 return;
             }
-            at = lay_way(trails, at, flow, laid, chains, atoms, sorted, z);
+            at = lay_way(trails, at, net, flow, z);
         }
     }
 }
 
 // Are there so many ways? Then they are in the flow.
-pub(crate) fn find_ways(
-    flow: &mut [u8; FLOW],
-    laid: &[u16; LAID],
-    chains: &[u16; CHAINS],
-    atoms: usize,
-    links: usize,
-    taken: &[u8; Sheet::ATOMS],
-    guarded: [u64; 2],
-    sorted: &[u8; SORTED],
-    most: usize,
-) -> bool
-    requires { (atoms ≤ sheet_atom_limit) × Falls (node_of atoms 0) chains.now × (links ≤ sheet_link_limit) }
-{
+pub(crate) fn find_ways(net: &Network<'_>, flow: &mut [u8; FLOW], most: usize) -> bool {
     for _ in 0..most {
-        let mut look = [0u16; LOOK];
-        let end = search(
-            &mut look, flow, laid, chains, atoms, links, taken, guarded, sorted,
-        );
-        if end == 0 {
-            return false;
+        let mut look = Look::new();
+        match search(&mut look, net, flow) {
+            None => return false,
+            Some(end) => augment(flow, &look, net.laid, end),
         }
-        augment(flow, &look, laid, end - 1);
     }
     true
 }

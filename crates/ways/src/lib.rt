@@ -6,6 +6,7 @@ mod flow;
 mod guarded;
 mod guards;
 mod halves;
+mod look;
 pub mod outnumbered;
 mod row;
 mod search;

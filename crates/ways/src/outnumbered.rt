@@ -10,7 +10,7 @@ ghost use Rattle.ways.specs.Agrees.{NoneAgrees};
 use crate::flow::{find_ways, lay};
 use crate::guards::{flag_of, spread};
 use crate::halves::{crossing, sorted};
-use crate::search::FLOW;
+use crate::search::{FLOW, Network};
 use crate::trail::ways;
 use crate::{SORTED, TRAILS};
 use candidates::LAID;
@@ -68,23 +68,22 @@ pub fn outnumbered_by(
     if ends(&table, guarded, links, 2) <= most {
         return false;
     }
-    let mut flow = [0u8; FLOW];
-    if !find_ways(
-        &mut flow,
-        laid,
-        chains,
+    let net = Network {
         atoms,
         links,
+        laid,
+        chains,
         taken,
         guarded,
-        &table,
-        most + 1,
-    ) {
+        sorted: &table,
+    };
+    let mut flow = [0u8; FLOW];
+    if !find_ways(&net, &mut flow, most + 1) {
         return false;
     }
     let guards = spread(guarded, links);
     let mut trails = [0u16; TRAILS];
-    lay(&mut trails, &mut flow, laid, chains, atoms, links, &table);
+    lay(&mut trails, &net, &mut flow);
     most < ways(laid, atoms, links, taken, &guards, &table, &trails)
 }
 

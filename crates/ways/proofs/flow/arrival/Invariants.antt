@@ -4,7 +4,7 @@ use Rattle.stepping.specs.Chains.{node_of}
 use Rattle.ways.proofs.flow.arrival.Given as goal
 
 abbrev pub invariant-loop-v : goal.invariant-loop-v
-invariant-loop-v l = l.v < node_of l.atoms 0
+invariant-loop-v l = l.v < node_of l.net.atoms 0
 
 abbrev pub decreases-loop-v : goal.decreases-loop-v
 decreases-loop-v l = l.v
