@@ -36,12 +36,7 @@ fn claim_filled(sheet: Sheet, filled: Sheet) -> bool
 }
 
 // Texts that passed row by row; of the list what its reader hands back, and its bytes. Too large a filled figure is no sheet.
-fn claim_read(
-    sheet: Sheet,
-    figure: Sheet,
-    heads: Reading,
-    list: &[u8],
-) -> Result<bool, TaskError>
+fn claim_read(sheet: Sheet, figure: Sheet, heads: Reading, list: &[u8]) -> Result<bool, TaskError>
     requires { ((s : List ℕ) × ((f : List ℕ) × ClaimInputs sheet figure s f)) × Headed heads.normal.contexts heads.normal.context_count heads.ports list.now }
     ensures { (s f : List ℕ) → ClaimInputs sheet figure s f → result ≡ claimed_answer s f list.now }
 {

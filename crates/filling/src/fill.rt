@@ -14,12 +14,7 @@ use rows::Sheet;
 use sheet::answer::{TaskError, of_input};
 
 // A figure and a list that passed row by row; of the list what its reader hands back, and its bytes.
-fn fill_read(
-    figure: Sheet,
-    heads: Reading,
-    list: &[u8],
-    out: &mut [u8],
-) -> Result<usize, TaskError>
+fn fill_read(figure: Sheet, heads: Reading, list: &[u8], out: &mut [u8]) -> Result<usize, TaskError>
     requires by_index { ((text : List ℕ) × (figure ≡ packed_normal (figure_held text))) × Headed heads.normal.contexts heads.normal.context_count heads.ports list.now }
     requires slip_length_in_bounds { slip_length ≤ length out.old }
     ensures by_index_2 { (text : List ℕ) → figure ≡ packed_normal (figure_held text) → result ≡ filled_answer text list.now }

@@ -18,10 +18,10 @@ put_linked-requires c = record { row_width_in_bounds = omega (arith, c.loop-k.in
 
 pub loop-k-preserved : goal.loop-k-preserved
 loop-k-preserved c = let p = c.put_linked in (
-      omega arith,
-      p.auto.out ∙ c.loop-k.invariant.1,
-      rows-put (context_row_in c.args.contexts) (context-width c.args.contexts) c.args.out.now p.new.out c.args.at c.loop-k.k (omega (arith, c.requires.row_width_in_bounds)) (rw c.loop-k.invariant.2 at p.ensures),
-    )
+  omega arith,
+  p.auto.out ∙ c.loop-k.invariant.1,
+  rows-put (context_row_in c.args.contexts) (context-width c.args.contexts) c.args.out.now p.new.out c.args.at c.loop-k.k (omega (arith, c.requires.row_width_in_bounds)) (rw c.loop-k.invariant.2 at p.ensures),
+)
 
 pub returns : goal.returns
 returns c = let l = c.loop-k in

@@ -18,10 +18,10 @@ put_mark-requires c = record { row_width_in_bounds = omega (arith, c.loop-k.inva
 
 pub loop-k-preserved : goal.loop-k-preserved
 loop-k-preserved c = let p = c.put_mark in (
-      omega arith,
-      p.auto.out ∙ c.loop-k.invariant.1,
-      rows-put (mark_row_in c.args.marked c.args.marks) (mark-width c.args.marked c.args.marks) c.args.out.now p.new.out c.args.at c.loop-k.k (omega (arith, c.requires.row_width_in_bounds)) (rw c.loop-k.invariant.2 at p.ensures),
-    )
+  omega arith,
+  p.auto.out ∙ c.loop-k.invariant.1,
+  rows-put (mark_row_in c.args.marked c.args.marks) (mark-width c.args.marked c.args.marks) c.args.out.now p.new.out c.args.at c.loop-k.k (omega (arith, c.requires.row_width_in_bounds)) (rw c.loop-k.invariant.2 at p.ensures),
+)
 
 pub returns : goal.returns
 returns c = let l = c.loop-k in
