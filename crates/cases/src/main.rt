@@ -101,12 +101,9 @@ fn run_files<R: Files + Print + Eprint>(
     let other_input = read_named(rt, second, &mut other);
     let mut last = [0u8; Sheet::TEXT];
     let last_input = read_named(rt, third, &mut last);
-    if input.failed || other_input.failed || last_input.failed {
+    let (Some(n), Some(m), Some(p)) = (input, other_input, last_input) else {
         return Ok(());
-    }
-    let n = input.bytes;
-    let m = other_input.bytes;
-    let p = last_input.bytes;
+    };
     run_task(rt, task, &text[..n], &other[..m], &last[..p])
 }
 

@@ -15,12 +15,9 @@ fn main(rt: HostRuntime) -> io::Result<()> {
     let second = task_files::read_input(&rt, 2, b"figure.txt", &mut figure);
     let mut list = [0u8; Sheet::TEXT];
     let third = task_files::read_input(&rt, 3, b"list.txt", &mut list);
-    if first.failed || second.failed || third.failed {
+    let (Some(n), Some(m), Some(p)) = (first, second, third) else {
         return Ok(());
-    }
-    let n = first.bytes;
-    let m = second.bytes;
-    let p = third.bytes;
+    };
     let claimed = claim(&sheet[..n], &figure[..m], &list[..p]);
     rt.write_all(&verdict_row(of_decided(claimed)))
 }

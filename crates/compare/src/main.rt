@@ -13,11 +13,9 @@ fn main(rt: HostRuntime) -> io::Result<()> {
     let first = task_files::read_input(&rt, 1, b"sheet.txt", &mut sheet);
     let mut other = [0u8; Sheet::TEXT];
     let second = task_files::read_input(&rt, 2, b"other.txt", &mut other);
-    if first.failed || second.failed {
+    let (Some(n), Some(m)) = (first, second) else {
         return Ok(());
-    }
-    let n = first.bytes;
-    let m = second.bytes;
+    };
     let compared = compare(&sheet[..n], &other[..m]);
     rt.write_all(&verdict_row(of_decided(compared)))
 }

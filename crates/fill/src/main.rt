@@ -13,11 +13,9 @@ fn main(rt: HostRuntime) -> io::Result<()> {
     let first = task_files::read_input(&rt, 1, b"figure.txt", &mut figure);
     let mut list = [0u8; Sheet::TEXT];
     let second = task_files::read_input(&rt, 2, b"list.txt", &mut list);
-    if first.failed || second.failed {
+    let (Some(n), Some(m)) = (first, second) else {
         return Ok(());
-    }
-    let n = first.bytes;
-    let m = second.bytes;
+    };
     let mut out = [0u8; Sheet::SLIP];
     let done = fill(&figure[..n], &list[..m], &mut out);
     let answer = of_written(done);

@@ -10,11 +10,9 @@ use std::io;
 
 fn main(rt: HostRuntime) -> io::Result<()> {
     let mut figure = [0u8; Sheet::TEXT];
-    let input = task_files::read_input(&rt, 1, b"figure.txt", &mut figure);
-    if input.failed {
+    let Some(n) = task_files::read_input(&rt, 1, b"figure.txt", &mut figure) else {
         return Ok(());
-    }
-    let n = input.bytes;
+    };
     let mut out = [0u8; Sheet::SLIP];
     let done = normalise_figure(&figure[..n], &mut out);
     let answer = of_written(done);

@@ -13,11 +13,9 @@ fn main(rt: HostRuntime) -> io::Result<()> {
     let first = task_files::read_input(&rt, 1, b"sheet.txt", &mut sheet);
     let mut pattern = [0u8; Sheet::TEXT];
     let second = task_files::read_input(&rt, 2, b"figure.txt", &mut pattern);
-    if first.failed || second.failed {
+    let (Some(n), Some(m)) = (first, second) else {
         return Ok(());
-    }
-    let n = first.bytes;
-    let m = second.bytes;
+    };
     let mut out = [0u8; Sheet::SLIP];
     let done = place(&sheet[..n], &pattern[..m], &mut out);
     let answer = of_written(done);

@@ -28,11 +28,7 @@ fn print_answer(rt: &impl Print, reading: Result<Reading, RefusedRow>) -> io::Re
     rt.write_all(b"\n")
 }
 
-fn read_as(
-    kind: u8,
-    ports: [u16; Sheet::NUMBERS],
-    text: &[u8],
-) -> Result<Reading, RefusedRow> {
+fn read_as(kind: u8, ports: [u16; Sheet::NUMBERS], text: &[u8]) -> Result<Reading, RefusedRow> {
     match kind {
         b's' => reading::read::read_sheet(text),
         b'p' => reading::read::read_pattern(text),
@@ -58,11 +54,9 @@ fn read_case<R: Files + Print + Eprint>(
     ports: [u16; Sheet::NUMBERS],
 ) -> io::Result<[u16; Sheet::NUMBERS]> {
     let mut text = [0u8; Sheet::TEXT];
-    let input = task_files::read_file(rt, file.as_bytes(), &mut text);
-    if input.failed {
+    let Some(length) = task_files::read_file(rt, file.as_bytes(), &mut text) else {
         return Ok(ports);
-    }
-    let length = input.bytes;
+    };
     let letter = kind.as_bytes().first().copied().unwrap_or(0);
     let reading = read_as(letter, ports, &text[..length]);
     print_name(rt, file)?;

@@ -15,12 +15,9 @@ fn main(rt: HostRuntime) -> io::Result<()> {
     let second = task_files::read_input(&rt, 2, b"figure.txt", &mut pattern);
     let mut replacement = [0u8; Sheet::TEXT];
     let third = task_files::read_input(&rt, 3, b"replacement.txt", &mut replacement);
-    if first.failed || second.failed || third.failed {
+    let (Some(n), Some(m), Some(p)) = (first, second, third) else {
         return Ok(());
-    }
-    let n = first.bytes;
-    let m = second.bytes;
-    let p = third.bytes;
+    };
     let mut out = [0u8; Sheet::SLIP];
     let done = swap(&sheet[..n], &pattern[..m], &replacement[..p], &mut out);
     let answer = of_written(done);

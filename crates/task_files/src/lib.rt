@@ -1,7 +1,8 @@
 // What the programs share: a text read from a file.
 #![tactic(auto)]
 
-ghost use Rattle.std.specs.Prelude.{◌≡◌, ◌≤◌, length, IfOk};
+ghost use Rattle.std.specs.Option.{IfSome};
+ghost use Rattle.std.specs.Prelude.{◌≤◌, length, IfOk, IsNone};
 
 use std::env::{Env, FillError};
 use std::fmt::Display;
@@ -13,22 +14,12 @@ use std::{io, str};
 // The longest path, with the zero that ends it.
 const PATH: usize = 4096;
 
-// What was read of a file: so many bytes; or its reading failed, which standard error says.
-#[derive(Clone, Copy)]
-pub struct Input {
-    pub bytes: usize,
-    pub failed: bool,
-}
-
-// Says on standard error which file failed, and why.
-fn fail<D: Display + Drop>(rt: &impl Eprint, name: D, error: Error) -> Input
-    ensures { result.bytes ≡ 0 }
+// Says on standard error which file failed, and why. Nothing is read of it.
+fn fail<D: Display + Drop>(rt: &impl Eprint, name: D, error: Error) -> Option<usize>
+    ensures { IsNone result }
 {
     let _ = eprintln!(rt; "{name}: {error}");
-    Input {
-        bytes: 0,
-        failed: true,
-    }
+    None
 }
 
 // Reads the open file until it ends or the text is full.
@@ -54,26 +45,29 @@ fn read_path<R: Files>(rt: &R, path: &str, text: &mut [u8]) -> io::Result<usize>
     read_open(&mut file, text)
 }
 
-// The same, with what failed said on standard error. A path is text, so a name that is not UTF-8 fails.
-pub fn read_file<R: Files + Eprint>(rt: &R, name: &[u8], text: &mut [u8]) -> Input
-    ensures { result.bytes ≤ length text.new }
+// How many bytes of the text were read; none where reading failed, which is said on standard error. A path is text, so a
+// name that is not UTF-8 fails.
+pub fn read_file<R: Files + Eprint>(rt: &R, name: &[u8], text: &mut [u8]) -> Option<usize>
+    ensures { IfSome result (λ bytes. bytes ≤ length text.new) }
 {
     let Ok(path) = str::from_utf8(name) else {
         let error = Error::new(ErrorKind::InvalidFilename, "no UTF-8");
         return fail(rt, name.escape_ascii(), error);
     };
     match read_path(rt, path, text) {
-        Ok(bytes) => Input {
-            bytes,
-            failed: false,
-        },
+        Ok(bytes) => Some(bytes),
         Err(error) => fail(rt, path, error),
     }
 }
 
 // Reads the file that argument k names or, where there are not so many arguments, the file of this name.
-pub fn read_input<R: Files + Env + Eprint>(rt: &R, k: usize, name: &[u8], text: &mut [u8]) -> Input
-    ensures { result.bytes ≤ length text.new }
+pub fn read_input<R: Files + Env + Eprint>(
+    rt: &R,
+    k: usize,
+    name: &[u8],
+    text: &mut [u8],
+) -> Option<usize>
+    ensures { IfSome result (λ bytes. bytes ≤ length text.new) }
 {
     let mut path = [0u8; PATH];
     match rt.arg(k, &mut path) {
@@ -88,14 +82,11 @@ pub fn read_input<R: Files + Env + Eprint>(rt: &R, k: usize, name: &[u8], text: 
 }
 
 // Reads the file of this name; where there is no name, the text is empty.
-pub fn read_named<R: Files + Eprint>(rt: &R, name: &[u8], text: &mut [u8]) -> Input
-    ensures { result.bytes ≤ length text.new }
+pub fn read_named<R: Files + Eprint>(rt: &R, name: &[u8], text: &mut [u8]) -> Option<usize>
+    ensures { IfSome result (λ bytes. bytes ≤ length text.new) }
 {
     if name.len() == 0 {
-        return Input {
-            bytes: 0,
-            failed: false,
-        };
+        return Some(0);
     }
     read_file(rt, name, text)
 }

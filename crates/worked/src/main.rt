@@ -69,12 +69,9 @@ fn run_case<R: Files + Print + Eprint>(
     let second_input = read_named(rt, second_name, &mut second);
     let mut third = [0u8; LONG];
     let third_input = read_named(rt, third_name, &mut third);
-    if input.failed || second_input.failed || third_input.failed {
+    let (Some(n), Some(m), Some(p)) = (input, second_input, third_input) else {
         return Ok(());
-    }
-    let n = input.bytes;
-    let m = second_input.bytes;
-    let p = third_input.bytes;
+    };
     run_texts(rt, task, &first[..n], &second[..m], &third[..p])
 }
 
