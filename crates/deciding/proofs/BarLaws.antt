@@ -47,12 +47,6 @@ module _ (k : List ℕ) (x : ℕ) (y : ℕ) (h : y < sheet_link_limit) where
       (word-other (set k (u * 2) (get_or pair 0 0)) (u * 2 + 1) (x * 2 + y / word_digits) (get_or pair 1 0) (y % word_digits) (λ e. d (omega (arith, e, h))) i)
 
 module _ (kinds : List ℕ) (x y : ℕ) where
-  pub none-barred : (was : List ℕ) → BarredTo kinds x y was was
-  none-barred was z w h g i = inl i
-
-  pub barred-then : (was k r : List ℕ) → BarredTo kinds x y was k → BarredTo kinds x y k r → BarredTo kinds x y was r
-  barred-then was k r f g z w h u i = ⊎_elim (f z w h u) inr (g z w h u i)
-
   -- y put into the set of a link of the kind of x
   pub one-barred : (was : List ℕ) (z : ℕ) → get_or kinds z 0 ≡ get_or kinds x 0 → y < sheet_link_limit → (pair : List ℕ)
       → pair ≡ with_link (get_or was (z * 2) 0 ∷ get_or was (z * 2 + 1) 0 ∷ []) y → BarredTo kinds x y was (stored was z pair)

@@ -1,29 +1,23 @@
 -- What atoms that are laid out say of the figure links, for every sheet and figure whose atoms they are.
 use Prim.Native.Nat.{ℕ, ◌+◌, ◌-◌, ◌<◌}
-use mathlib.Core.Path.{◌≡◌, sym, ◌∙◌, subst}
+use mathlib.Core.Path.{◌≡◌, ◌∙◌, subst}
 use mathlib.Core.Logic.{◌≢◌}
 use mathlib.Core.List.{List}
 use native.Mathlib.Omega.{arith}
 use lib.ListN.{take, get_or}
-use Rattle.rows.specs.Limits.{sheet_link_limit}
 use Rattle.rows.specs.declared.Atom.{Atom}
 use Rattle.rows.specs.declared.Sheet as form
 use Rattle.network.specs.NetIn.{net_in, atom_at}
 use Rattle.network.specs.Ready.{Ready, AtomsIn}
-use Rattle.candidates.specs.Laid.{laid_atom, Rowed, LaidOut}
+use Rattle.candidates.specs.Laid.{laid_atom, LaidOut}
 use Rattle.completing.specs.Leaf.{NoneWith}
-use Rattle.deciding.specs.Links.{Places, PlacesIn, Clash, Told}
+use Rattle.deciding.specs.Links.{PlacesIn, Clash, Told}
 use Rattle.deciding.specs.Agrees.{AtomsAgreeTo}
-use Rattle.deciding.proofs.KindLaws.{places-of}
 use Rattle.deciding.proofs.Telling.{good-name, good-count, told-next, clash-none, agree-next}
 
 -- what the first i atoms say
 abbrev pub Said : List ℕ → List ℕ → ℕ → List ℕ → List ℕ → List ℕ → ℕ → Type 0
 Said laid parts m atoms before to i = (sheet figure : form.Sheet) → LaidOut sheet laid sheet.atom_count → LaidOut figure parts m → AtomsIn sheet figure.atom_count atoms → Told sheet figure atoms before → Told sheet figure atoms to × AtomsAgreeTo sheet figure atoms to i
-
--- links of a row
-pub row-places : (l : List ℕ) (n i : ℕ) (x : Atom) → x ≡ laid_atom l i → Rowed l n → i < n → Places x.count x.links
-row-places l n i x e r h = subst (λ (w : Atom). Places w.count w.links) (sym e) (places-of sheet_link_limit _ _ (omega arith) (r.atoms i h))
 
 -- x is figure atom i, and y the sheet atom it goes to
 module _ (laid parts : List ℕ) (m : ℕ) (atoms : List ℕ) (i : ℕ) (less : i < m) (x y : Atom) (mine : x ≡ laid_atom parts i) (there : y ≡ laid_atom laid (get_or atoms i 0 - 1)) where

@@ -28,9 +28,6 @@ pub record MarksTold (sheet figure : form.Sheet) (atoms to : List ℕ) (i : ℕ)
   pub atoms-agree : AtomsAgree sheet figure atoms to
   pub marks-agree : MarksAgreeTo sheet figure to i
 
-pub marks-start : (sheet figure : form.Sheet) (atoms to : List ℕ) → Told sheet figure atoms to → AtomsAgree sheet figure atoms to → MarksTold sheet figure atoms to 0
-marks-start sheet figure atoms to t w = record { told = t; atoms-agree = w; marks-agree = λ i h. absurd (omega arith) }
-
 module _ (sheet figure : form.Sheet) (ready : Ready sheet figure) (atoms : List ℕ) where
   abbrev S : Net
   S = net_in sheet

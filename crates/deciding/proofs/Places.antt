@@ -9,7 +9,7 @@ use lib.ListN.{length, get_or, length-set}
 use lib.Seq.{get_or-set_same}
 use Rattle.rows.specs.Limits.{sheet_link_limit}
 use Rattle.placing.specs.Placing.{number_at}
-use Rattle.deciding.specs.Links.{Enters, Places, AcrossFrom, PlacesAgree, PlacesIn, Clash}
+use Rattle.deciding.specs.Links.{Enters, Places, AcrossFrom, PlacesAgree, PlacesIn}
 use Rattle.deciding.proofs.Sets.{set_cases, below-cases}
 
 -- What is entered keeps what stood there.
@@ -46,9 +46,6 @@ pub number-some : (y : ℕ) → 1 ≤ y → y ≢ 0
 number-some y h e = omega arith
 
 module _ (to a b : List ℕ) (room : length to ≡ sheet_link_limit) where
-  pub places-start : PlacesIn to a b 0 to
-  places-start = record { room = room; kept = λ x n. refl; each = λ x. inl refl; agree = λ k h. absurd (omega arith) }
-
   module _ (count : ℕ) (pa : Places count a) (pb : Places count b) (k : ℕ) (less : k < count) (next : List ℕ) (p : PlacesIn to a b k next) where
     abbrev x : ℕ
     x = get_or a k 0 - 1
@@ -83,11 +80,3 @@ module _ (to a b : List ℕ) (room : length to ≡ sheet_link_limit) where
         old : (z : ℕ) → (get_or next z 0 ≡ get_or to z 0) ⊎ AcrossFrom a b k z (get_or next z 0) → (get_or next z 0 ≡ get_or to z 0) ⊎ AcrossFrom a b (k + 1) z (get_or next z 0)
         old z (inl f) = inl f
         old z (inr t) = inr (wider z (get_or next z 0) t)
-
-    -- a place that does not agree
-    pub places-clash : get_or next x 0 ≢ 0 → get_or next x 0 ≢ y → Clash to a b count
-    places-clash n d = record { link = x; first = get_or next x 0; second = y; different = d; some = n; first-from = old (p.each x); second_from = (k, less, link, refl) }
-      where
-        old : (get_or next x 0 ≡ get_or to x 0) ⊎ AcrossFrom a b k x (get_or next x 0) → (get_or next x 0 ≡ get_or to x 0) ⊎ AcrossFrom a b count x (get_or next x 0)
-        old (inl f) = inl f
-        old (inr t) = inr (whole x (get_or next x 0) t)

@@ -1,11 +1,10 @@
 -- Which links stand on at most one context row, context by context.
 use Prim.Native.Nat.{ℕ, suc, ◌+◌, ◌-◌, ◌/◌, ◌%◌, ◌<◌}
 use mathlib.Core.Path.{◌≡◌, sym, ◌∙◌, ap, subst}
-use mathlib.Core.Logic.{◌⊎◌}
 use mathlib.Core.List.{List}
 use native.Mathlib.Decide.{dec_lt}
 use native.Mathlib.Omega.{arith}
-use lib.ListN.{length, get_or, set}
+use lib.ListN.{get_or}
 use Rattle.hyperlmntal.specs.Link.{◌∈◌}
 use Rattle.rows.specs.Limits.{sheet_link_limit}
 use Rattle.rows.specs.declared.Sheet as form
@@ -19,8 +18,7 @@ use Rattle.candidates.proofs.Digits.{in-dec, fewer-in}
 use Rattle.candidates.proofs.Halves.{by-half, in_pair, in-fewer-pair, fewer-pair-in}
 use Rattle.candidates.proofs.PortRows.{in-port}
 use Rattle.completing.specs.OneRow.{OneRow}
-use Rattle.deciding.specs.Several.{OnOne, FlagsBeside}
-use Rattle.deciding.proofs.Sets.{set_cases, below_or}
+use Rattle.deciding.specs.Several.{OnOne}
 
 fewer-pair-part : (a b r : List ℕ) (y : ℕ) → y < sheet_link_limit → r ≡ fewer_pair a b → InPair r y → InPair a y
 unfolding fewer_pair
@@ -58,12 +56,6 @@ module _ (sets : List PortSet) (c : ℕ) (fresh : List ℕ) (none : OnNone sets 
       go (yes a) (no b) = absurd (new (here j (omega arith) q) i a p)
       go (no a) (yes b) = absurd (new (here i (omega arith) p) j b q)
       go (no a) (no b) = omega arith
-
--- the flag of one more link
-pub beside-next : (l s r : List ℕ) (x v : ℕ) → x < length r → FlagsBeside l s x r → (v ≡ 1 → get_or l x 0 ≡ 1) × (get_or l x 0 ≡ 1 → (v ≡ 1) ⊎ InPair s x) → FlagsBeside l s (x + 1) (set r x v)
-beside-next l s r x v h f g z k = set_cases (λ (u : ℕ). (u ≡ 1 → get_or l z 0 ≡ 1) × (get_or l z 0 ≡ 1 → (u ≡ 1) ⊎ InPair s z)) r x v z h
-    (λ e. subst (λ (n : ℕ). (v ≡ 1 → get_or l n 0 ≡ 1) × (get_or l n 0 ≡ 1 → (v ≡ 1) ⊎ InPair s n)) (sym e) g)
-    (λ d. f z (below_or z x (omega arith) d))
 
 -- for the rows of the net
 module _ {figure : form.Sheet} {sets : List PortSet} {rows links : ℕ} (o : ContextsIn figure sets rows links) where

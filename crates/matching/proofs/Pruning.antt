@@ -64,9 +64,6 @@ module _ (sheet figure : form.Sheet) where
   pub pruned-after : (a l b m c d : List ℕ) (r : Bool) → Narrowed sheet figure a l b m → Pruned sheet figure b m c d r → Pruned sheet figure a l c d r
   pruned-after a l b m c d r n s = record { stays = λ p g o. s.stays p g (n p g o); none = λ z p g o. s.none z p g (n p g o) }
 
-  pub narrowed-pruned : (a l b m : List ℕ) → Narrowed sheet figure a l b m → Pruned sheet figure a l b m false
-  narrowed-pruned a l b m n = record { stays = n; none = λ z. both_ways z refl }
-
   -- ---- the steps
 
   chosen-sent : (k t : ℕ) (a l b : List ℕ) → b ≡ set a k (bit_and (get_or a k 0) (alone t)) → Sent sheet figure k t a l b l false

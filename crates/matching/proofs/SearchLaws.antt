@@ -94,6 +94,3 @@ module _ (sheet figure : form.Sheet) where
 
     pub leaf-none : (r : Found) → d.ok ≡ false → r.ok ≡ false → found_in sheet figure r ≡ search_from (net_in sheet) (net_in figure) (take figure.atom_count chosen)
     leaf-none r h k = nothing-found r k ∙ ap (behind (take figure.atom_count chosen)) (completed-by false h)
-
-    pub leaf-found : d.ok ≡ true → some (take figure.atom_count chosen ++ completion) ≡ search_from (net_in sheet) (net_in figure) (take figure.atom_count chosen)
-    leaf-found h = ap (behind (take figure.atom_count chosen)) (completed-by true h)

@@ -1,24 +1,20 @@
 -- A failure carried one plain step further.
-use Prim.Native.Nat.{ℕ, suc, ◌+◌, ◌-◌, ◌≤◌, ◌<◌}
+use Prim.Native.Nat.{ℕ, suc, ◌+◌, ◌-◌, ◌<◌}
 use mathlib.Core.Path.{◌≡◌, ap, sym, ◌∙◌, subst}
 use mathlib.Core.Logic.{◌↔◌, ◌≢◌, ⊎_elim}
 use mathlib.Core.List.{List}
 use native.Mathlib.Omega.{arith}
 use lib.ListN.{length, get_or}
-use Rattle.rows.specs.Limits.{sheet_atom_limit, sheet_link_limit}
+use Rattle.rows.specs.Limits.{sheet_link_limit}
 use Rattle.rows.specs.declared.Sheet as form
 use Rattle.placing.specs.Net.{Net}
 use Rattle.placing.specs.Placing.{Placing}
 use Rattle.network.specs.NetIn.{net_in}
 use Rattle.network.specs.Ready.{state_in, TakenIn}
 use Rattle.network.proofs.NetIn.{atoms-length}
-use Rattle.candidates.specs.Laid.{Rowed}
 use Rattle.candidates.specs.Tables.{LinkIn}
-use Rattle.candidates.proofs.Laying.{laid-rowed}
-use Rattle.candidates.proofs.PortRows.{ports-of}
 use Rattle.completing.specs.Neighbours.{PlainStep, OneEach}
 use Rattle.completing.proofs.Neighbours.{neighbour-completable}
-use Rattle.stepping.specs.Chains.{node_of, node_count, Falls}
 use Rattle.stepping.specs.Flags.{SentTo}
 use Rattle.stepping.specs.Plain.{FreeBy, OtherBy}
 use Rattle.stepping.proofs.Reading.{used-read}
@@ -51,25 +47,6 @@ module _ (sheet figure : form.Sheet) (nets : Nets) (laid chains kinds used to : 
 
 -- What the arrays are asked to be.
 module _ (sheet figure : form.Sheet) (nets : Nets) (laid chains kinds used to : List ℕ) (a : Along sheet figure nets laid chains kinds used to) where
-  pub along-rowed : Rowed laid nets.atoms
-  along-rowed = laid-rowed sheet laid nets.atoms a.nets-in.laid_out
-
-  pub along-falls : Falls (node_of nets.atoms 0) chains
-  along-falls = subst (λ (n : ℕ). Falls (node_of n 0) chains) a.nets-in.laid_out.count a.chains-in.nodes
-
-  pub along-links : nets.links ≤ sheet_link_limit
-  along-links = omega (arith, a.nets-in.ready.sheet-fit.class-count, a.nets-in.sheet-links)
-
-  pub along-count : nets.count ≤ sheet_link_limit
-  along-count = (ports-of a.nets-in.contexts-in).links-few
-
-  along-atoms : nets.atoms ≤ sheet_atom_limit
-  along-atoms = omega (arith, a.nets-in.ready.sheet-fit.atom-count, a.nets-in.laid_out.count)
-
-  -- what is asked where another atom is looked for on a link
-  pub along-other : (y t : ℕ) → y < nets.links → t < nets.atoms → (y < sheet_link_limit) × (t < sheet_atom_limit) × Falls node_count chains
-  along-other y t h k = (omega (arith, h, along-links), omega (arith, k, along-atoms), record { within = λ v. omega (arith, along-falls.within v, along-atoms); above = along-falls.above; falls = along-falls.falls })
-
   -- and the one that is found is one of the sheet's
   pub other-within : (y t u : ℕ) → t < nets.atoms → OtherBy chains y t u → u < nets.atoms
   other-within y t u h other =

@@ -66,19 +66,11 @@ described-of standing o s = record {
   links-in = o.links-in;
 }
 
--- another array with the same links but for x
-pub tables-next : {sheet figure : form.Sheet} {nets : Nets} {laid chains kinds standing to : List ℕ} (next : List ℕ) → Tables sheet figure nets laid chains kinds standing to → (x y : ℕ) → x < nets.count → y < nets.links
-    → set next x (y + 1) ≡ set to x (y + 1) → Tables sheet figure nets laid chains kinds standing (set next x (y + 1))
-tables-next {sheet} {figure} {nets} {laid} {chains} {kinds} {standing} {to} next t x y h k e = subst (Tables sheet figure nets laid chains kinds standing) (sym e) (tables-put t x y h k)
-
 -- What is barred stays so from one table to the next.
 module _ (sheet figure : form.Sheet) (taken to flags : List ℕ) where
   -- whatever link was tried
   abbrev pub Keeps : List ℕ → List ℕ → Type 0
   Keeps bars after = (atoms un : List ℕ) → Working sheet figure taken to flags atoms un → BarsIn sheet figure to un atoms bars → BarsIn sheet figure to un atoms after
-
-  pub keeps_same : (bars : List ℕ) → Keeps bars bars
-  keeps_same bars atoms un w b = b
 
   -- a link with a flag was
   pub keeps_then : (a b c : List ℕ) (x : ℕ) → x < figure.class_count → get_or flags x 0 ≡ 1 → Keeps a b → KeepsBars sheet figure taken to flags b x c → Keeps a c
