@@ -1,5 +1,5 @@
 -- Rows of atoms that are laid out, as steps between links.
-use Rattle.std.proofs.Common.{◌≡◌, ℕ, suc, ◌+◌, ◌<◌, ◌≤◌, ◌≢◌, List, get_or, take, sym, refl, ap, ◌∙◌, subst, arith}
+use Rattle.std.proofs.Common.{◌≡◌, ℕ, suc, ◌+◌, ◌-◌, ◌<◌, ◌≤◌, ◌≢◌, List, get_or, take, sym, refl, ap, ◌∙◌, subst, arith}
 use Rattle.hyperlmntal.specs.Link.{◌∈◌}
 use Rattle.rows.specs.Format.{most_links}
 use Rattle.rows.specs.Limits.{sheet_link_limit}
@@ -23,23 +23,28 @@ module _ (laid : List ℕ) (atoms row : ℕ) (rowed : Rowed laid atoms) (h : row
   pub place-range : (k : ℕ) → k < laid_at laid row 1 → Range sheet_link_limit (laid_at laid row (2 + k))
   place-range k l = subst (Range sheet_link_limit) (link-laid laid row k (let f = row-few in omega arith)) ((rowed.atoms row h).numbered k (let e = count-laid laid row in omega arith))
 
-  pub step-tested : (taken : List ℕ) (from into z r : ℕ) → get_or taken row 0 ≢ 1 → from < laid_at laid row 1 → into < laid_at laid row 1 → laid_at laid row (2 + into) ≡ z + 1 → r ≡ laid_at laid row (2 + from)
-      → (r ≤ sheet_link_limit) × (r ≢ 0 → LaidStep laid taken atoms r (suc row) (suc z))
-  step-tested taken from into z r n f i e d = (
-    let t = (place-range from f).1 in omega arith,
-    λ some. record {
-      row = row;
-      atom = refl;
-      atom-in = h;
-      may-pass = n;
-      from = from;
-      into = into;
-      from_in = f;
-      into-in = i;
-      from-link = sym d;
-      into-link = let u : z + 1 ≡ suc z = omega arith in e ∙ u;
-    },
-  )
+  -- r is the link of place `from`.
+  module _ (from r : ℕ) (f : from < laid_at laid row 1) (d : r ≡ laid_at laid row (2 + from)) where
+    pub from-range : Range sheet_link_limit r
+    from-range = subst (Range sheet_link_limit) (sym d) (place-range from f)
+
+    pub step-tested : (taken : List ℕ) (into z : ℕ) → get_or taken row 0 ≢ 1 → into < laid_at laid row 1 → laid_at laid row (2 + into) ≡ z + 1
+        → (r - 1 < sheet_link_limit) × LaidStep laid taken atoms (suc (r - 1)) (suc row) (suc z)
+    step-tested taken into z n i e = (
+      omega (arith, from-range.0, from-range.1),
+      record {
+        row = row;
+        atom = refl;
+        atom-in = h;
+        may-pass = n;
+        from = from;
+        into = into;
+        from_in = f;
+        into-in = i;
+        from-link = let u : r ≡ suc (r - 1) = omega (arith, from-range.0) in sym d ∙ u;
+        into-link = let u : z + 1 ≡ suc z = omega arith in e ∙ u;
+      },
+    )
 
 module _ (net : NormalForm) (laid : List ℕ) (atoms : ℕ) (out : LaidOut net laid atoms) (row : ℕ) (h : row < atoms) where
   inside : row < net.atom_count

@@ -10,10 +10,10 @@ use Rattle.ways.specs.Nodes.{OnlyLink, Tells}
 
 -- Nothing is left of a set without y.
 pub only-without : (sets : List ℕ) (x : ℕ) (pair : List ℕ) → pair ≡ get_or sets (x * 2) 0 ∷ get_or sets (x * 2 + 1) 0 ∷ [] → (y : ℕ) → y < pair_digits
-    → (rest : List ℕ) → rest ≡ without_link pair y → empty_pair rest ≡ true → OnlyLink sets x (y + 1)
+    → (rest : List ℕ) → rest ≡ without_link pair y → empty_pair rest ≡ true → OnlyLink sets x (suc y)
 only-without sets x pair e y small rest f none z h i = go (ℕ_discrete z y)
   where
-    go : Dec (z ≡ y) → suc z ≡ y + 1
+    go : Dec (z ≡ y) → suc z ≡ suc y
     go (yes q) = omega arith
     go (no n) = absurd (none-in-pair rest none z (in_pair h) (in_without pair y small rest f z (in_pair h) (subst (λ (l : List ℕ). InPair l z) (sym e) (pair-in sets x z h i)) n))
 

@@ -1,5 +1,5 @@
 -- The laws of a loop that follows ways back from their ends, and counts them.
-use Rattle.std.proofs.Common.{◌≡◌, ℕ, suc, ◌+◌, ◌-◌, ◌*◌, ◌<◌, ◌≤◌, ◌≢◌, ◌⊎◌, List, [], ◌∷◌, map, length, get_or, set, sym, refl, ap, ◌∙◌, subst, inl, inr, arith, length-set, get_or-set_other, get_or-set_same}
+use Rattle.std.proofs.Common.{◌≡◌, ℕ, suc, ◌+◌, ◌*◌, ◌<◌, ◌≤◌, ◌≢◌, ◌⊎◌, List, [], ◌∷◌, map, length, get_or, set, sym, refl, ap, ◌∙◌, subst, inl, inr, arith, length-set, get_or-set_other, get_or-set_same}
 use mathlib.Core.List.Memᴰ
 use Rattle.hyperlmntal.specs.Link.{◌∈◌}
 use Rattle.rows.specs.Limits.{sheet_atom_limit, sheet_link_limit}
@@ -141,13 +141,12 @@ module _ (laid taken : List ℕ) (atoms : ℕ) (guards : List ℕ) (links : ℕ)
     unflagged = record { place = z; link = refl; place_in = here; no_flag = free }
 
     -- as the loop has it, with links from 0
-    pub laid-again : (after : List ℕ) (y : ℕ) → y ≢ 0 → PassesBack laid taken atoms passed after z y → TrailIn laid taken atoms guards links table was passed₀ (set now z (get_or guards z 0)) after (suc (y - 1))
-    laid-again after y n b = let s = b.step n in
-        subst (TrailIn laid taken atoms guards links table was passed₀ (set now z (get_or guards z 0)) after) (let e : y ≡ suc (y - 1) = omega arith in e) (
-          (s.0, suc z) ∷ t.0,
-          trail_more (Has 1 was) (Has 2 passed₀) (Has 1 now) (Has 2 passed) (Has 1 (set now z (get_or guards z 0))) (suc z) t.0 t.1 unflagged
-              (λ g. has-not 1 1 now z in-room new) stored kept y s.0 (Has 2 after) s.1 s.2 s.3 b.kept,
-        )
+    pub laid-again : (after : List ℕ) (y : ℕ) → PassesBack laid taken atoms passed after z (suc y) → TrailIn laid taken atoms guards links table was passed₀ (set now z (get_or guards z 0)) after (suc y)
+    laid-again after y b = let s = b.step (λ e. absurd (omega arith)) in (
+      (s.0, suc z) ∷ t.0,
+      trail_more (Has 1 was) (Has 2 passed₀) (Has 1 now) (Has 2 passed) (Has 1 (set now z (get_or guards z 0))) (suc z) t.0 t.1 unflagged
+          (λ g. has-not 1 1 now z in-room new) stored kept (suc y) s.0 (Has 2 after) s.1 s.2 s.3 b.kept,
+    )
 
     pub laid-found : (r : ℕ) → r ≤ trail_room → length passed ≡ sheet_atom_limit → get_or table (1 * sheet_link_limit + z) 0 ≡ 1 → Follows laid taken atoms guards links table was passed₀ (set now z (get_or guards z 0)) passed r
     laid-found r small atom-room e = record {

@@ -1,5 +1,5 @@
 -- Ways as they are laid out in arrays, and what a loop keeps that follows them back from their ends and counts them.
-use Rattle.std.specs.Prelude.{◌≡◌, ℕ, suc, ◌+◌, ◌*◌, ◌/◌, ◌<◌, ◌≤◌, ◌≢◌, List, map, length, slice_index, slice_index_or}
+use Rattle.std.specs.Prelude.{Option, Some, None, ◌≡◌, ℕ, suc, ◌+◌, ◌*◌, ◌/◌, ◌<◌, ◌≤◌, ◌≢◌, List, map, length, slice_index, slice_index_or}
 use Rattle.hyperlmntal.specs.Link.{◌∈◌}
 use Rattle.rows.specs.Format.{most_links}
 use Rattle.rows.specs.Limits.{sheet_atom_limit, sheet_link_limit}
@@ -9,6 +9,16 @@ use Rattle.completing.specs.Ways.{afterward, links_of, atoms_of, last_link, Walk
 -- the room for ways that are laid out
 abbrev pub trail_room : ℕ
 trail_room = 512
+
+-- a number from 0, counted from 1; 0 for none
+abbrev pub from_one : Option ℕ → ℕ
+from_one None = 0
+from_one (Some n) = suc n
+
+-- a number; 0 for none
+abbrev pub or_zero : Option ℕ → ℕ
+or_zero None = 0
+or_zero (Some n) = n
 
 -- atom j, from 1, may be passed
 abbrev pub Passable : List ℕ → ℕ → ℕ → Type 0

@@ -5,9 +5,10 @@ ghost use Rattle.ways.specs.Flow.{place_count, flow_room, state_count};
 ghost use Rattle.ways.specs.Trails.{trail_room};
 
 use crate::TRAILS;
+use crate::flow_network::FlowNetwork;
 use crate::look::{Look, START, STATES, VERTICES};
 use crate::row::link_at;
-use crate::search::{ENDED, FLOW, Network, OUTWARD, PLACES, USES, search};
+use crate::search::{ENDED, FLOW, OUTWARD, PLACES, USES, search};
 use crate::trail::wide;
 use candidates::LAID;
 use rows::Sheet;
@@ -86,7 +87,7 @@ fn augment(flow: &mut [u8; FLOW], look: &Look, laid: &[u16; LAID], end: usize)
 }
 
 // The place over which a way leads to link z.
-fn arrival(net: &Network<'_>, flow: &[u8; FLOW], z: usize) -> usize
+fn arrival(net: &FlowNetwork<'_>, flow: &[u8; FLOW], z: usize) -> usize
     requires { z < sheet_link_limit }
     ensures { result < place_count }
 {
@@ -121,7 +122,7 @@ fn departure(flow: &[u8; FLOW], place: usize) -> usize
 fn lay_way(
     trails: &mut [u16; TRAILS],
     at: usize,
-    net: &Network<'_>,
+    net: &FlowNetwork<'_>,
     flow: &mut [u8; FLOW],
     end: usize,
 ) -> usize
@@ -145,7 +146,7 @@ fn lay_way(
 }
 
 // All ways of the flow are laid out, as far as there is room.
-pub(crate) fn lay(trails: &mut [u16; TRAILS], net: &Network<'_>, flow: &mut [u8; FLOW])
+pub(crate) fn lay(trails: &mut [u16; TRAILS], net: &FlowNetwork<'_>, flow: &mut [u8; FLOW])
     requires { length trails.old ≡ trail_room }
     ensures { length trails.new ≡ trail_room }
 {
@@ -161,7 +162,7 @@ pub(crate) fn lay(trails: &mut [u16; TRAILS], net: &Network<'_>, flow: &mut [u8;
 }
 
 // Are there so many ways? Then they are in the flow.
-pub(crate) fn find_ways(net: &Network<'_>, flow: &mut [u8; FLOW], most: usize) -> bool {
+pub(crate) fn find_ways(net: &FlowNetwork<'_>, flow: &mut [u8; FLOW], most: usize) -> bool {
     for _ in 0..most {
         let mut look = Look::new();
         match search(&mut look, net, flow) {

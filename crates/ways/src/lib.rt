@@ -3,6 +3,7 @@
 
 pub mod crowded;
 mod flow;
+mod flow_network;
 mod guarded;
 mod guards;
 mod halves;

@@ -8,9 +8,10 @@ ghost use Rattle.stepping.specs.Standing.{Described, Refuses};
 ghost use Rattle.ways.specs.Agrees.{NoneAgrees};
 
 use crate::flow::{find_ways, lay};
+use crate::flow_network::FlowNetwork;
 use crate::guards::{flag_of, spread};
 use crate::halves::{crossing, sorted};
-use crate::search::{FLOW, Network};
+use crate::search::FLOW;
 use crate::trail::ways;
 use crate::{SORTED, TRAILS};
 use candidates::LAID;
@@ -68,7 +69,7 @@ pub fn outnumbered_by(
     if ends(&table, guarded, links, 2) <= most {
         return false;
     }
-    let net = Network {
+    let net = FlowNetwork {
         atoms,
         links,
         laid,
@@ -84,7 +85,7 @@ pub fn outnumbered_by(
     let guards = spread(guarded, links);
     let mut trails = [0u16; TRAILS];
     lay(&mut trails, &net, &mut flow);
-    most < ways(laid, atoms, links, taken, &guards, &table, &trails)
+    most < ways(&net, &guards, &trails)
 }
 
 // The contexts on which figure links stand, in one word.

@@ -7,17 +7,14 @@
 // where the way came from. That is the second state of the vertex.
 ghost use Rattle.std.specs.Prelude.{◌<◌, ◌≤◌, IfSome};
 ghost use Rattle.rows.specs.Limits.{sheet_atom_limit, sheet_link_limit};
-ghost use Rattle.stepping.specs.Chains.{node_of, Falls};
 ghost use Rattle.ways.specs.Flow.{place_count, state_count};
 
-use crate::SORTED;
+use crate::flow_network::FlowNetwork;
 use crate::guards::flag_of;
 use crate::look::{Look, START, VERTICES, second_state, vertex_of};
 use crate::row::link_at;
 use crate::trail::wide;
-use candidates::LAID;
 use rows::Sheet;
-use stepping::CHAINS;
 
 pub(crate) const PLACES: usize = Sheet::ATOMS * Sheet::MOST_LINKS;
 
@@ -30,24 +27,8 @@ pub(crate) const FLOW: usize = ENDED + Sheet::LINKS;
 // A number from here on stands for ways that lead from the atom to the link.
 pub(crate) const OUTWARD: u8 = 128;
 
-// What ways lead through: the sheet's atoms, laid out, and the chains of its links; which atoms are taken or guarded,
-// which links are guarded, and which figure links go where, by their halves.
-#[derive(Clone, Copy)]
-pub(crate) struct Network<'a> {
-    pub(crate) atoms: usize,
-    pub(crate) links: usize,
-    pub(crate) laid: &'a [u16; LAID],
-    pub(crate) chains: &'a [u16; CHAINS],
-    pub(crate) taken: &'a [u8; Sheet::ATOMS],
-    pub(crate) guarded: [u64; 2],
-    pub(crate) sorted: &'a [u8; SORTED],
-    pub(crate) ghost few_atoms: { atoms ≤ sheet_atom_limit },
-    pub(crate) ghost few_links: { links ≤ sheet_link_limit },
-    pub(crate) ghost falls: { Falls (node_of atoms 0) chains.now },
-}
-
 // Is link y guarded, and on a way?
-fn occupied(net: &Network<'_>, flow: &[u8; FLOW], y: usize) -> bool
+fn occupied(net: &FlowNetwork<'_>, flow: &[u8; FLOW], y: usize) -> bool
     requires { y < sheet_link_limit }
 {
     if flow[USES + y] == 0 {
@@ -57,7 +38,7 @@ fn occupied(net: &Network<'_>, flow: &[u8; FLOW], y: usize) -> bool
 }
 
 // It is to start at y, if y is a start and free.
-fn start(look: &mut Look, net: &Network<'_>, flow: &[u8; FLOW], y: usize)
+fn start(look: &mut Look, net: &FlowNetwork<'_>, flow: &[u8; FLOW], y: usize)
     requires { y < sheet_link_limit }
 {
     if net.sorted[Sheet::LINKS + y] != 1 {
@@ -73,7 +54,7 @@ fn start(look: &mut Look, net: &Network<'_>, flow: &[u8; FLOW], y: usize)
 }
 
 // Over a place from its link, left in this state, to its atom. In the second state only back along a way.
-fn to_atom(look: &mut Look, net: &Network<'_>, flow: &[u8; FLOW], place: usize, second: usize)
+fn to_atom(look: &mut Look, net: &FlowNetwork<'_>, flow: &[u8; FLOW], place: usize, second: usize)
     requires { (place < place_count) × (second < 2) }
 {
     let row = place / Sheet::MOST_LINKS;
@@ -100,7 +81,7 @@ fn to_atom(look: &mut Look, net: &Network<'_>, flow: &[u8; FLOW], place: usize, 
 
 // Over a place from its atom, left in this state, to its link; but to no start, and to no link to which a link on both
 // halves goes. In the second state only back along a way.
-fn to_link(look: &mut Look, net: &Network<'_>, flow: &[u8; FLOW], place: usize, second: usize)
+fn to_link(look: &mut Look, net: &FlowNetwork<'_>, flow: &[u8; FLOW], place: usize, second: usize)
     requires { (place < place_count) × (second < 2) }
 {
     let z = link_at(net.laid, place);
@@ -129,7 +110,7 @@ fn to_link(look: &mut Look, net: &Network<'_>, flow: &[u8; FLOW], place: usize, 
 }
 
 // On from link y in this state.
-fn from_link(look: &mut Look, net: &Network<'_>, flow: &[u8; FLOW], y: usize, second: usize)
+fn from_link(look: &mut Look, net: &FlowNetwork<'_>, flow: &[u8; FLOW], y: usize, second: usize)
     requires { (y < sheet_link_limit) × (second < 2) }
 {
     let mut v = wide(net.chains[y]);
@@ -140,7 +121,7 @@ fn from_link(look: &mut Look, net: &Network<'_>, flow: &[u8; FLOW], y: usize, se
 }
 
 // On from the atom of this row in this state.
-fn from_atom(look: &mut Look, net: &Network<'_>, flow: &[u8; FLOW], row: usize, second: usize)
+fn from_atom(look: &mut Look, net: &FlowNetwork<'_>, flow: &[u8; FLOW], row: usize, second: usize)
     requires { (row < sheet_atom_limit) × (second < 2) }
 {
     let width = wide(net.laid[row * Sheet::FIELDS + 1]);
@@ -153,7 +134,7 @@ fn from_atom(look: &mut Look, net: &Network<'_>, flow: &[u8; FLOW], row: usize, 
 }
 
 // On from this state.
-fn onward(look: &mut Look, net: &Network<'_>, flow: &[u8; FLOW], state: usize)
+fn onward(look: &mut Look, net: &FlowNetwork<'_>, flow: &[u8; FLOW], state: usize)
     requires { state < state_count }
 {
     let second = second_state(state);
@@ -166,7 +147,7 @@ fn onward(look: &mut Look, net: &Network<'_>, flow: &[u8; FLOW], state: usize)
 }
 
 // The first end among the states that were reached from number `from` on.
-fn end_among(look: &Look, net: &Network<'_>, from: usize) -> Option<usize>
+fn end_among(look: &Look, net: &FlowNetwork<'_>, from: usize) -> Option<usize>
     ensures { IfSome result (λ y. y < sheet_link_limit) }
 {
     for n in from..look.count {
@@ -181,7 +162,7 @@ fn end_among(look: &Look, net: &Network<'_>, from: usize) -> Option<usize>
 }
 
 // From the free starts to a free end; none where the search comes to none.
-pub(crate) fn search(look: &mut Look, net: &Network<'_>, flow: &[u8; FLOW]) -> Option<usize>
+pub(crate) fn search(look: &mut Look, net: &FlowNetwork<'_>, flow: &[u8; FLOW]) -> Option<usize>
     ensures { IfSome result (λ y. y < sheet_link_limit) }
 {
     for s in 0..net.links {

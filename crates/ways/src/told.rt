@@ -1,6 +1,6 @@
 // Where figure links surely go at a search node: a link of a figure atom, or with a mark, that has one place only. A link
 // that no figure atom has, and no mark is on, is open: its set says nothing of it.
-ghost use Rattle.std.specs.Prelude.{◌≡◌, ℕ, suc, ◌<◌, ◌≤◌, ◌≢◌, ◌⊎◌, List, length};
+ghost use Rattle.std.specs.Prelude.{◌≡◌, ℕ, suc, ◌<◌, ◌≤◌, ◌⊎◌, List, length, IfSome};
 ghost use Rattle.rows.specs.Limits.{sheet_link_limit};
 ghost use Rattle.candidates.specs.Laid.{Rowed};
 ghost use Rattle.candidates.specs.Marks.{MarkLinks};
@@ -11,21 +11,21 @@ use candidates::pairs::{first_link, is_empty, pair_at, without_link};
 use candidates::{LAID, LINK_SETS};
 use rows::Sheet;
 
-// The only link of the set of link x, from 1; 0 where there is none, or more than one.
-fn only_link(sets: &[u64; LINK_SETS], x: usize) -> usize
+// The only link of the set of link x, if it has just one.
+fn only_link(sets: &[u64; LINK_SETS], x: usize) -> Option<usize>
     requires { x < sheet_link_limit }
-    ensures { result ≢ 0 → OnlyLink sets.now x result }
+    ensures { IfSome result (λ y. OnlyLink sets.now x (suc y)) }
 {
     let set = pair_at(sets, x);
     if is_empty(set) {
-        return 0;
+        return None;
     }
     let y = first_link(set);
     let rest = without_link(set, y);
     if !is_empty(rest) {
-        return 0;
+        return None;
     }
-    y + 1
+    Some(y)
 }
 
 // Link x, of a row or with a mark, is not open; it is told, if it has one place only.
@@ -41,15 +41,12 @@ fn tell(
     ensures { (length to.new ≡ sheet_link_limit) × (length flags.new ≡ sheet_link_limit) × (length opens.new ≡ sheet_link_limit) × ((parts : List ℕ) (n : ℕ) (marked : List ℕ) (m : ℕ) → OnRow parts n x ⊎ OnMark marked m x → Tells parts n marked m sets.now (suc links) to.old flags.old opens.old → Tells parts n marked m sets.now (suc links) to.new flags.new opens.new) }
 {
     opens[x] = 0;
-    let y = only_link(sets, x);
-    if y == 0 {
-        return;
+    if let Some(y) = only_link(sets, x) {
+        if y < links {
+            to[x] = (y + 1) as u16;
+            flags[x] = 0;
+        }
     }
-    if links < y {
-        return;
-    }
-    to[x] = y as u16;
-    flags[x] = 0;
 }
 
 // The links of a row.

@@ -4,13 +4,17 @@ use Rattle.ways.proofs.Trails.{laid_end, laid-found, laid-again}
 use Rattle.ways.proofs.trail.follow.Goals as goal
 
 pub loop-at-init : goal.loop-at-init
-loop-at-init c = (omega arith, c.requires.3, c.requires.4, laid_end c.args.laid.now c.args.taken.now c.args.atoms c.args.guards.now c.args.links c.args.sorted.now c.args.seen.now c.args.passed.now c.args.end c.requires.2 c.requires.5)
+loop-at-init c = (omega arith, c.requires.1, c.requires.2, laid_end c.args.net.now.laid.now c.args.net.now.taken.now c.args.net.now.atoms c.args.guards.now c.args.net.now.links c.args.net.now.sorted.now c.args.seen.now c.args.passed.now c.args.end c.requires.0 c.requires.3)
 
-pub returns-then-sorted-z-eq1-2 : goal.returns-then-sorted-z-eq1-2
-returns-then-sorted-z-eq1-2 c = let l = c.loop-at in
-    laid-found c.args.laid.now c.args.taken.now c.args.atoms c.args.guards.now c.args.links c.args.sorted.now c.args.seen.now c.args.passed.now l.seen l.passed l.invariant.1 l.z c.requires.1 c.if-links-z.false l.invariant.3 c.if-seen-z-eq1.false c.if-sorted-z-eq1.false l.at (let h = c.loop-at-test.true in omega arith) l.invariant.2 c.if-sorted-z-eq1-2.true
+pub returns-then-net-z-eq1-2-clause-follows : goal.returns-then-net-z-eq1-2-clause-follows
+returns-then-net-z-eq1-2-clause-follows c = let l = c.loop-at in
+    laid-found c.args.net.now.laid.now c.args.net.now.taken.now c.args.net.now.atoms c.args.guards.now c.args.net.now.links c.args.net.now.sorted.now c.args.seen.now c.args.passed.now l.seen l.passed l.invariant.1 l.z c.args.net.now.few_links c.if-net-z.false l.invariant.3 c.if-seen-z-eq1.false c.if-net-z-eq1.false l.at (let h = c.loop-at-test.true in omega arith) l.invariant.2 c.if-net-z-eq1-2.true
 
 pub loop-at-preserved : goal.loop-at-preserved
 loop-at-preserved c = let l = c.loop-at in
-    let e = c.pass_back-y.ensures in
-    (let h = e.few in let n = c.if-y-eq0.false in omega arith, simp length-set l.invariant.1, e.room, laid-again c.args.laid.now c.args.taken.now c.args.atoms c.args.guards.now c.args.links c.args.sorted.now c.args.seen.now c.args.passed.now l.seen l.passed l.invariant.1 l.z c.requires.1 c.if-links-z.false l.invariant.3 c.if-seen-z-eq1.false c.if-sorted-z-eq1.false _ c.pass_back-y.result c.if-y-eq0.false e)
+    let e = c.in_ok-z.ensures in (
+      let h = e.few in omega arith,
+      simp length-set l.invariant.1,
+      e.room,
+      laid-again c.args.net.now.laid.now c.args.net.now.taken.now c.args.net.now.atoms c.args.guards.now c.args.net.now.links c.args.net.now.sorted.now c.args.seen.now c.args.passed.now l.seen l.passed l.invariant.1 l.z c.args.net.now.few_links c.if-net-z.false l.invariant.3 c.if-seen-z-eq1.false c.if-net-z-eq1.false _ c.in_ok-z.z e,
+    )

@@ -6,4 +6,4 @@ use Rattle.ways.proofs.trail.follow.Given as goal
 
 abbrev pub invariant-loop-at : goal.invariant-loop-at
 invariant-loop-at l =
-    (l.z < sheet_link_limit) × (length l.seen ≡ sheet_link_limit) × (length l.passed ≡ sheet_atom_limit) × TrailIn l.laid l.taken l.atoms l.guards l.links l.sorted l.initial.seen l.initial.passed l.seen l.passed (suc l.z)
+    (l.z < sheet_link_limit) × (length l.seen ≡ sheet_link_limit) × (length l.passed ≡ sheet_atom_limit) × TrailIn l.net.laid.now l.net.taken.now l.net.atoms l.guards l.net.links l.net.sorted.now l.initial.seen l.initial.passed l.seen l.passed (suc l.z)

@@ -5,4 +5,4 @@ use Rattle.ways.proofs.Trails.{laid_none}
 use Rattle.ways.proofs.trail.ways.Goals as goal
 
 pub loop-at-init : goal.loop-at-init
-loop-at-init c = let a = c.args in (omega arith, omega arith, refl, refl, laid_none a.laid.now a.taken.now a.atoms a.guards.now a.links a.sorted.now (replicate sheet_link_limit 0) (replicate sheet_atom_limit 0))
+loop-at-init c = let a = c.args in (omega arith, omega arith, refl, refl, laid_none a.net.now.laid.now a.net.now.taken.now a.net.now.atoms a.guards.now a.net.now.links a.net.now.sorted.now (replicate sheet_link_limit 0) (replicate sheet_atom_limit 0))
