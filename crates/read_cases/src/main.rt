@@ -28,11 +28,7 @@ fn print_answer(rt: &impl Print, reading: Result<Reading, RefusedRow>) -> io::Re
     rt.write_all(b"\n")
 }
 
-fn read_as(
-    kind: u8,
-    ports: [u16; Sheet::NUMBERS],
-    text: &[u8],
-) -> Result<Reading, RefusedRow> {
+fn read_as(kind: u8, ports: [u16; Sheet::NUMBERS], text: &[u8]) -> Result<Reading, RefusedRow> {
     match kind {
         b's' => reading::read::read_sheet(text),
         b'p' => reading::read::read_pattern(text),
