@@ -169,7 +169,7 @@ pub(crate) fn misplaced(b: u8, filled: bool, last: bool) -> bool
     if b == b' ' {
         return filled;
     }
-    !b.is_ascii_digit() || (b == b'0' && !filled && !last)
+    b < b'0' || b'9' < b || (b == b'0' && !filled && !last)
 }
 
 // The row's letter and numbers. The first bad field ends the reading.
