@@ -20,7 +20,7 @@ pub(crate) struct Look {
     entered: [u16; STATES],
     queue: [u16; STATES],
     pub(crate) count: usize,
-    pub(crate) ghost few: { count ≤ state_count },
+    ghost few: { count ≤ state_count },
     ghost states: { (k : ℕ) → k < count → slice_index queue k < state_count },
 }
 

@@ -161,7 +161,7 @@ fn end_among(look: &Look, net: &FlowNetwork<'_>, from: usize) -> Option<usize>
     None
 }
 
-// From the free starts to a free end; none where the search comes to none.
+// From the free starts to a free end, if the search comes to one.
 pub(crate) fn search(look: &mut Look, net: &FlowNetwork<'_>, flow: &[u8; FLOW]) -> Option<usize>
     ensures { IfSome result (λ y. y < sheet_link_limit) }
 {
