@@ -1,7 +1,6 @@
 -- Steps say whether figure links that go to one sheet link are linked there.
 use Prim.Native.Nat.{ℕ, suc, ◌+◌, ◌-◌, ◌≤◌, ◌<◌}
-use mathlib.Core.Path.{◌≡◌, refl, sym, ◌∙◌, ap, subst}
-use mathlib.Core.Logic.{◌≢◌}
+use mathlib.Core.Path.{◌≡◌, sym, ◌∙◌, ap, subst}
 use mathlib.Core.List.{List}
 use native.Mathlib.Omega.{arith}
 use lib.ListN.{get_or}
@@ -19,7 +18,7 @@ use Rattle.candidates.proofs.PortRows.{port-in, port-range, in-port}
 use Rattle.network.specs.Reach.{Reach, stay, move}
 use Rattle.completing.specs.Fault.{AllLinked, TwoApart}
 use Rattle.stepping.specs.Flags.{Within}
-use Rattle.stepping.specs.Labels.{Tie, Meet, MeetTied, MeetApart}
+use Rattle.stepping.specs.Labels.{Tie, MeetTied, MeetApart}
 use Rattle.stepping.proofs.Reading.{row_in, link_at, goes}
 
 module _ (S : Net) {figure : form.Sheet} {sets : List PortSet} {rows links : ℕ} (o : ContextsIn figure sets rows links) (atoms to : List ℕ) where
