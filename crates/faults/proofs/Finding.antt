@@ -4,7 +4,6 @@ use mathlib.Core.Path.{◌≡◌, sym, ◌∙◌, ap, subst}
 use mathlib.Core.Logic.{◌↔◌, ◌≢◌}
 use mathlib.Core.List.Memᴰ
 use mathlib.Core.List.{List, [], ◌∷◌}
-use mathlib.Core.Bool.{true}
 use native.Mathlib.Omega.{arith}
 use lib.ListN.{length, take, get_or, set, replicate}
 use lib.Seq.{get_or-take, get_or-set_same, length-take-le}
@@ -20,15 +19,15 @@ use Rattle.candidates.specs.PortSets.{ContextsIn}
 use Rattle.candidates.proofs.Laying.{laid-rowed}
 use Rattle.completing.specs.Completion.{Partial}
 use Rattle.completing.specs.Fault as faults
-use Rattle.faults.specs.declared.fault.Fault.{Fault}
+use Rattle.std.specs.Prelude.{Result, Ok, Err}
 use Rattle.stepping.specs.Flags.{Within, SentTo, PortOfNumber}
 use Rattle.stepping.specs.Chains.{node_of, Falls, Chained}
 use Rattle.stepping.specs.Contexts.{number_of}
-use Rattle.stepping.specs.Labels.{Apart}
+use Rattle.stepping.specs.Labels.{MeetTied, MeetApart}
 use Rattle.faults.specs.Grows.{Tables}
 use Rattle.faults.specs.Gives.{GivesAt, TakenFlags, HeldIn}
 use Rattle.faults.specs.declared.nets.Nets.{Nets}
-use Rattle.faults.specs.Finds.{Over, Finds}
+use Rattle.faults.specs.Finds.{Over, FindsSome, Finds}
 use Rattle.stepping.proofs.Reading.{cell-number, used-read, port-read}
 use Rattle.stepping.proofs.Chaining.{laid_in}
 use Rattle.stepping.proofs.Linking.{all-linked, two-apart}
@@ -78,12 +77,11 @@ module _ {sheet figure : form.Sheet} {nets : Nets} {laid chains to : List ℕ} (
     choice-number = cell-number of-figure;
   }
 
-  pub apart-room : (y : ℕ) → y ≢ 0 → Apart nets.contexts nets.rows nets.count to none y → y - 1 < sheet_link_limit
-  apart-room y n w =
-      let t = w.two-apart n in
+  pub apart-room : (y : ℕ) → MeetApart nets.contexts nets.rows nets.count to none y → y < sheet_link_limit
+  apart-room y t =
       let r = to-within t.0 t.2.first-in in
-      let e : get_or to t.0 0 ≡ y = t.2.first-at in
-      let m : y ≢ none = t.2.not_none in
+      let e : get_or to t.0 0 ≡ suc y = t.2.first-at in
+      let m : suc y ≢ none = t.2.not_none in
       let h = none-room in
       omega (arith, r.0, r.1)
 
@@ -91,16 +89,15 @@ module _ {sheet figure : form.Sheet} {nets : Nets} {laid chains to : List ℕ} (
     abbrev q : Placing
     q = state_in figure atoms to
 
-    pub apart-found : (y : ℕ) (given : List ℕ) → y ≢ 0 → Apart nets.contexts nets.rows nets.count to none y → Finds sheet figure q (record { found = true; links = set (replicate sheet_link_limit 0) (y - 1) 1; given = given })
-    apart-found y given n w = record {
-      none_found = λ e. absurd (let z : ◌≡◌ {A = ℕ} 0 1 = cc in omega arith);
-      some-found = λ e. (
-        y ∷ [],
-        faults.apart y (two-apart S of-figure atoms to none last to-within y n w),
-        λ z m.
-            subst (λ (i : ℕ). ◌≡◌ {A = ℕ} (get_or (set (replicate sheet_link_limit 0) (y - 1) 1) (i - 1) 0) 1) (sym (Memᴰ.eq_of_singleton m)) (get_or-set_same (replicate sheet_link_limit 0) (y - 1) 1 0 (apart-room y n w)),
-      );
-    }
+    pub apart-found : (y : ℕ) → MeetApart nets.contexts nets.rows nets.count to none y → FindsSome sheet figure q (set (replicate sheet_link_limit 0) y 1)
+    apart-found y t = (
+      suc y ∷ [],
+      faults.apart (suc y) (two-apart S of-figure atoms to none last to-within y t),
+      λ z m.
+          let i : z ≡ suc y = Memᴰ.eq_of_singleton m in
+          let e : z - 1 ≡ y = omega arith in
+          subst (λ (i : ℕ). ◌≡◌ {A = ℕ} (get_or (set (replicate sheet_link_limit 0) y 1) i 0) 1) (sym e) (get_or-set_same (replicate sheet_link_limit 0) y 1 0 (apart-room y t)),
+    )
 
     pub tables-in : (used ports : List ℕ) → Partial S F q un
         → ((y : ℕ) → (get_or used y 0 ≡ 1) ↔ ((x : ℕ) × (x < nets.count) × SentTo to none x y))
@@ -124,18 +121,16 @@ module _ {sheet figure : form.Sheet} {nets : Nets} {laid chains to : List ℕ} (
         let e : suc j - 1 ≡ j = omega arith in
         ((λ i. w.0 (ap (λ (n : ℕ). get_or taken n 0) e ∙ i)), (λ k. ap (λ (n : ℕ). get_or taken n 0) (sym e) ∙ w.1 k))
 
-    pub served-found : (r : Fault) → Apart nets.contexts nets.rows nets.count to none 0 → GivesAt S F q r → Finds sheet figure q r
-    served-found r w g = record {
-      none_found = λ e. let k = g.none_found e in (
-        record { linked = all-linked S of-figure atoms to none last to-within w; served = λ j o. let l = k.0 j o in (number_at r.given j, l.number, l.allowed) },
-        record {
-          atoms-given = length-take-le sheet.atom_count r.given (let h = ready.sheet-fit.atom-count in let room = g.room in omega arith) ∙ sym (atoms-length sheet ready.sheet-fit);
-          not-given = λ j o t. same j o ∙ k.1 j o t;
-          least-given = λ j o. subst (faults.LeastContext S F q j) (sym (same j o.0)) (k.0 j o);
-        },
-      );
-      some-found = λ e. let k = g.some-found e in (k.1, faults.cut_off k.0 k.1 k.2, k.3);
-    }
+    pub served-found : (r : Result (List ℕ) (List ℕ)) → MeetTied nets.contexts nets.rows nets.count to none → GivesAt S F q r → Finds sheet figure q r
+    served-found (Err links) w k = (k.1, faults.cut_off k.0 k.1 k.2, k.3)
+    served-found (Ok given) w g = (
+      record { linked = all-linked S of-figure atoms to none last to-within w; served = λ j o. let l = g.least j o in (number_at given j, l.number, l.allowed) },
+      record {
+        atoms-given = length-take-le sheet.atom_count given (let h = ready.sheet-fit.atom-count in let room = g.room in omega arith) ∙ sym (atoms-length sheet ready.sheet-fit);
+        not-given = λ j o t. same j o ∙ g.not-given j o t;
+        least-given = λ j o. subst (faults.LeastContext S F q j) (sym (same j o.0)) (g.least j o);
+      },
+    )
       where
-        same : (j : ℕ) → Range (length S.atoms) j → number_at (take sheet.atom_count r.given) j ≡ number_at r.given j
-        same j o = get_or-take sheet.atom_count r.given (j - 1) 0 (let a : 1 ≤ j = o.0 in let b : j ≤ length S.atoms = o.1 in let e = atoms-length sheet ready.sheet-fit in omega arith)
+        same : (j : ℕ) → Range (length S.atoms) j → number_at (take sheet.atom_count given) j ≡ number_at given j
+        same j o = get_or-take sheet.atom_count given (j - 1) 0 (let a : 1 ≤ j = o.0 in let b : j ≤ length S.atoms = o.1 in let e = atoms-length sheet ready.sheet-fit in omega arith)

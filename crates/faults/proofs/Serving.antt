@@ -3,7 +3,6 @@ use Prim.Native.Nat.{ℕ, suc, ◌+◌, ◌-◌, ◌≤◌, ◌<◌}
 use mathlib.Core.Path.{◌≡◌, sym, ◌∙◌, ap, subst}
 use mathlib.Core.Logic.{◌⊎◌, inl, inr, ⊎_elim, ◌≢◌}
 use mathlib.Core.List.{List, []}
-use mathlib.Core.Bool.{true, false}
 use native.Mathlib.Decide.{ℕ_discrete}
 use native.Mathlib.Omega.{arith}
 use lib.ListN.{length, get_or, set, length-set, replicate}
@@ -18,8 +17,7 @@ use Rattle.completing.specs.Growing.{Serves}
 use Rattle.completing.proofs.Growing.{part-other, part-cut-off, grown-least}
 use Rattle.faults.specs.Grows.{Growth, Sized, atoms_of, WholeAt}
 use Rattle.faults.specs.Parts.{CutLinks, Rows}
-use Rattle.faults.specs.declared.fault.Fault.{Fault}
-use Rattle.faults.specs.Gives.{Given, Gave, GivenAt, OneMoreAt, GivesAt, TakenFlags, HeldIn}
+use Rattle.faults.specs.Gives.{Given, Gave, GivenAt, GivenMore, GivenAll, TakenFlags, HeldIn}
 use Rattle.stepping.proofs.Tables.{below_next, store-flag, zeros, zeros-not}
 use Rattle.reading.proofs.normal.Merging.{get_d-in}
 use Rattle.faults.proofs.Growing.{listed_in, listed_of}
@@ -117,18 +115,11 @@ module _ (S F : Net) (laid : List ℕ) (atoms links : ℕ) (number : ℕ → ℕ
             let m : suc j ∈ atoms_of g = subst (λ (i : ℕ). suc i ∈ atoms_of g) t.2 (listed_in g t.0 (let o = s.order-room in let k = s.most in omega arith) t.1) in
             (part-other S F q (suc root) (atoms_of g) seen w.grows.holds.connected (suc j) m, subst (LeastContext S F q (suc j)) (sym t.3) (best-least (suc j) m))
 
-    pub one-given : Sized atoms g → (before after : Given) (links : List ℕ) → Gave before g (number best) g.count after
-        → OneMoreAt S F q root before after (record { fault = false; links = links })
-    one-given s before after links v = record {
-      none_found = λ e. (
-        given-more s before after v,
-        λ j d. done_more g before after (number best) j v (⊎_elim (λ k. inl k) (λ k. inr (subst (λ (i : ℕ). suc i ∈ atoms_of g) (sym k) w.grows.holds.connected.root-member)) d),
-      );
-      some-found = λ e. absurd (let z : ◌≡◌ {A = ℕ} 0 1 = cc in omega arith);
+    pub one-given : Sized atoms g → (before after : Given) → Gave before g (number best) g.count after → GivenMore S F q root before after
+    one-given s before after v = record {
+      least = given-more s before after v;
+      done = λ j d. done_more g before after (number best) j v (⊎_elim (λ k. inl k) (λ k. inr (subst (λ (i : ℕ). suc i ∈ atoms_of g) (sym k) w.grows.holds.connected.root-member)) d);
     }
-
-pub one-cut : (S F : Net) (q : Placing) (root : ℕ) (before after : Given) (links : List ℕ) → CutLinks S F q links → OneMoreAt S F q root before after (record { fault = true; links = links })
-one-cut S F q root before after links c = record { none_found = λ e. absurd (let z : ◌≡◌ {A = ℕ} 0 1 = cc in omega arith); some-found = λ e. c }
 
 -- At the start, and at the end.
 pub given-start : (S F : Net) (q : Placing) → GivenAt S F q (record { contexts = replicate sheet_atom_limit 0; done = replicate sheet_atom_limit 0 })
@@ -138,16 +129,13 @@ module _ (S F : Net) (q : Placing) (atoms : ℕ) (size : length S.atoms ≡ atom
   pub other_at : (j : ℕ) → j < atoms → get_or taken j 0 ≢ 1 → Other S F q (suc j)
   other_at j h n = ((omega arith, omega arith), λ k. n ((t j h).1 k))
 
-  pub all-given : (given : Given) (links : List ℕ) → length given.contexts ≡ sheet_atom_limit → ((j : ℕ) → j < atoms → (get_or taken j 0 ≡ 1) ⊎ (get_or given.done j 0 ≡ 1)) → GivenAt S F q given
-      → GivesAt S F q (record { found = false; links = links; given = given.contexts })
-  all-given given links room d a = record {
+  pub all-given : (given : Given) → length given.contexts ≡ sheet_atom_limit → ((j : ℕ) → j < atoms → (get_or taken j 0 ≡ 1) ⊎ (get_or given.done j 0 ≡ 1)) → GivenAt S F q given
+      → GivenAll S F q given.contexts
+  all-given given room d a = record {
     room = room;
-    none_found = λ e. (
-      (λ j o. let r = place j o.0 in ⊎_elim (λ k. absurd (o.1 (subst (Taken S F q) r.1 ((t (j - 1) r.0).0 k))))
-          (λ k. subst (λ (i : ℕ). LeastContext S F q i (number_at given.contexts j)) r.1 (a.least (j - 1) k).1) (d (j - 1) r.0)),
-      (λ j o k. let r = place j o in go j r k (ℕ_discrete (get_or given.done (j - 1) 0) 1)),
-    );
-    some-found = λ e. absurd (let z : ◌≡◌ {A = ℕ} 0 1 = cc in omega arith);
+    least = λ j o. let r = place j o.0 in ⊎_elim (λ k. absurd (o.1 (subst (Taken S F q) r.1 ((t (j - 1) r.0).0 k))))
+        (λ k. subst (λ (i : ℕ). LeastContext S F q i (number_at given.contexts j)) r.1 (a.least (j - 1) k).1) (d (j - 1) r.0);
+    not-given = λ j o k. let r = place j o in go j r k (ℕ_discrete (get_or given.done (j - 1) 0) 1);
   }
     where
       place : (j : ℕ) → Range (length S.atoms) j → (j - 1 < atoms) × (suc (j - 1) ≡ j)
@@ -156,10 +144,3 @@ module _ (S F : Net) (q : Placing) (atoms : ℕ) (size : length S.atoms ≡ atom
       go : (j : ℕ) → (j - 1 < atoms) × (suc (j - 1) ≡ j) → Taken S F q j → Dec (get_or given.done (j - 1) 0 ≡ 1) → number_at given.contexts j ≡ 0
       go j r k (yes e) = absurd ((a.least (j - 1) e).0.1 (subst (Taken S F q) (sym r.1) k))
       go j r k (no n) = a.not_yet (j - 1) n
-
-pub cut-gives : (S F : Net) (q : Placing) (r : Fault) (links given : List ℕ) → (r.found ≡ true) × (r.links ≡ links) × (r.given ≡ given) → length given ≡ sheet_atom_limit → CutLinks S F q links → GivesAt S F q r
-cut-gives S F q r links given e room c = record {
-  room = ap length e.2 ∙ room;
-  none_found = λ n. absurd (let y = e.0 in let z : ◌≡◌ {A = ℕ} 0 1 = cc in omega arith);
-  some-found = λ n. subst (CutLinks S F q) (sym e.1) c;
-}

@@ -1,5 +1,5 @@
 -- What the fault finder says of a state.
-use Rattle.std.specs.Prelude.{ℕ, ◌≡◌, List, true, false, take}
+use Rattle.std.specs.Prelude.{ℕ, ◌≡◌, List, Result, MatchResult, take}
 use Rattle.hyperlmntal.specs.Link.{◌∈◌}
 use Rattle.rows.specs.declared.Sheet as form
 use Rattle.placing.specs.Placing.{Placing}
@@ -11,7 +11,6 @@ use Rattle.completing.specs.Completion.{Partial}
 use Rattle.completing.specs.Fault as faults
 use Rattle.stepping.specs.Chains.{ChainsIn}
 use Rattle.faults.specs.declared.nets.Nets.{Nets}
-use Rattle.faults.specs.declared.fault.Fault.{Fault}
 
 -- The counts and contexts are those of this sheet and this figure, and the atoms the sheet's.
 pub record NetsIn (sheet figure : form.Sheet) (nets : Nets) (laid : List ℕ) : Type 0 where
@@ -26,12 +25,18 @@ pub record Over (sheet figure : form.Sheet) (nets : Nets) (laid chains to : List
   pub chains-in : ChainsIn sheet chains
   pub links-in : LinksIn sheet figure to
 
--- Nothing stands in the way, and `given` are the least contexts; or there is a fault, and its links are flagged.
-pub record Finds (sheet figure : form.Sheet) (q : Placing) (r : Fault) : Type 0 where
-  pub none_found : r.found ≡ false → faults.NoFault (net_in sheet) (net_in figure) q × faults.LeastGiven (net_in sheet) (net_in figure) q (take sheet.atom_count r.given)
-  pub some-found : r.found ≡ true → (v : List ℕ) × faults.Fault (net_in sheet) (net_in figure) q v × ((y : ℕ) → y ∈ v → Flag r.links y)
+-- nothing stands in the way, and these are the least contexts
+abbrev pub FindsNone : form.Sheet → form.Sheet → Placing → List ℕ → Type 0
+FindsNone sheet figure q contexts = faults.NoFault (net_in sheet) (net_in figure) q × faults.LeastGiven (net_in sheet) (net_in figure) q (take sheet.atom_count contexts)
+
+-- there is a fault, and its links are flagged
+abbrev pub FindsSome : form.Sheet → form.Sheet → Placing → List ℕ → Type 0
+FindsSome sheet figure q links = (v : List ℕ) × faults.Fault (net_in sheet) (net_in figure) q v × ((y : ℕ) → y ∈ v → Flag links y)
+
+abbrev pub Finds : form.Sheet → form.Sheet → Placing → Result (List ℕ) (List ℕ) → Type 0
+Finds sheet figure q r = MatchResult r (FindsNone sheet figure q) (FindsSome sheet figure q)
 
 -- that of every state with these arrays
-abbrev pub FindsAll : form.Sheet → form.Sheet → List ℕ → List ℕ → Fault → Type 0
+abbrev pub FindsAll : form.Sheet → form.Sheet → List ℕ → List ℕ → Result (List ℕ) (List ℕ) → Type 0
 FindsAll sheet figure taken to r =
     (atoms un : List ℕ) → TakenIn sheet figure (state_in figure atoms to) taken → Partial (net_in sheet) (net_in figure) (state_in figure atoms to) un → Finds sheet figure (state_in figure atoms to) r

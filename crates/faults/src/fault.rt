@@ -20,22 +20,6 @@ use stepping::lookup::{port_table, used_links};
 use stepping::steps::apart;
 use stepping::{CHAINS, PORTS};
 
-#[derive(Clone, Copy)]
-pub struct Fault {
-    pub found: bool,
-    // 1 for each sheet link of the fault
-    pub links: [u8; Sheet::LINKS],
-    // where nothing was found: the context of each sheet atom, 0 where a figure atom goes
-    pub given: [u16; Sheet::ATOMS],
-}
-
-// What is found of one component: a fault, and 1 for each of its links.
-#[derive(Clone, Copy)]
-pub(crate) struct Found {
-    pub fault: bool,
-    pub links: [u8; Sheet::LINKS],
-}
-
 // One context for all atoms of a component, with 1 for each that has one.
 fn give(
     contexts: &mut [u16; Sheet::ATOMS],
@@ -54,7 +38,7 @@ fn give(
     }
 }
 
-// The component of an atom gets its least context, or its links are a fault.
+// The component of an atom gets its least context, or its links are a fault: 1 for each.
 fn one_more(
     contexts: &mut [u16; Sheet::ATOMS],
     done: &mut [u8; Sheet::ATOMS],
@@ -67,7 +51,7 @@ fn one_more(
     used: &[u8; Sheet::LINKS],
     ports: &[u8; PORTS],
     root: usize,
-) -> Found
+) -> Result<(), [u8; Sheet::LINKS]>
     requires { Rowed laid.now atoms × (links ≤ sheet_link_limit) × (rows ≤ figure_contexts) × (root < atoms) × (length contexts.old ≡ sheet_atom_limit) × (length done.old ≡ sheet_atom_limit) × Falls (node_of atoms 0) chains.now }
     ensures { OneMore laid.now atoms links numbers.now rows chains.now used.now ports.now root (given contexts.old done.old) (given contexts.new done.new) result }
 {
@@ -80,26 +64,13 @@ fn one_more(
     );
     let c = least(numbers, rows, &cuts);
     if c == rows {
-        let links = part(
+        let cut = part(
             laid, atoms, links, &way, &cuts, seen, used, ports, root, rows,
         );
-        return Found { fault: true, links };
+        return Err(cut);
     }
     give(contexts, done, &order, count, numbers[c]);
-    Found {
-        fault: false,
-        links: seen,
-    }
-}
-
-fn faulty(links: [u8; Sheet::LINKS], given: [u16; Sheet::ATOMS]) -> Fault
-    ensures { (result.found ≡ true) × (result.links ≡ links) × (result.given ≡ given) }
-{
-    Fault {
-        found: true,
-        links,
-        given,
-    }
+    Ok(())
 }
 
 // Component by component: the least of the contexts with these numbers, of which there are `rows`, or the
@@ -114,7 +85,7 @@ fn served(
     used: &[u8; Sheet::LINKS],
     ports: &[u8; PORTS],
     taken: [u8; Sheet::ATOMS],
-) -> Fault
+) -> Result<[u16; Sheet::ATOMS], [u8; Sheet::LINKS]>
     requires { Rowed laid.now atoms × (links ≤ sheet_link_limit) × (rows ≤ figure_contexts) × Falls (node_of atoms 0) chains.now }
     ensures { (choices : List PortSet) → ((c : ℕ) → c < rows → get_or numbers.now c 0 ≡ number_of choices c) → Gives laid.now atoms links choices rows chains.now used.now ports.now taken result }
 {
@@ -123,7 +94,7 @@ fn served(
     for j in 0..atoms {
         if taken[j] != 1 {
             if done[j] != 1 {
-                let one = one_more(
+                one_more(
                     &mut contexts,
                     &mut done,
                     laid,
@@ -135,43 +106,31 @@ fn served(
                     used,
                     ports,
                     j,
-                );
-                if one.fault {
-                    let links = one.links;
-                    return faulty(links, contexts);
-                }
+                )?;
             }
         }
     }
-    Fault {
-        found: false,
-        links: [0; Sheet::LINKS],
-        given: contexts,
-    }
+    Ok(contexts)
 }
 
-// A fault, or the least contexts where there is none. `laid` are the sheet's atoms.
+// The least context of each sheet atom, 0 where a figure atom goes; or a fault: 1 for each of its sheet links. `laid`
+// are the sheet's atoms.
 pub fn find(
     nets: Nets,
     laid: &[u16; LAID],
     chains: &[u16; CHAINS],
     taken: &[u8; Sheet::ATOMS],
     to: &[u16; Sheet::LINKS],
-) -> Fault
+) -> Result<[u16; Sheet::ATOMS], [u8; Sheet::LINKS]>
     requires { (sheet : NormalForm) × (figure : NormalForm) × Over sheet figure nets laid.now chains.now to.now }
     ensures { (sheet figure : NormalForm) → Over sheet figure nets laid.now chains.now to.now → FindsAll sheet figure taken.now to.now result }
 {
     let none = (nets.links + 1) as u16;
     let contexts = nets.contexts;
-    let y = apart(contexts, nets.rows, nets.count, to, none);
-    if y != 0 {
+    if let Some(y) = apart(contexts, nets.rows, nets.count, to, none) {
         let mut links = [0u8; Sheet::LINKS];
-        links[(y - 1) as usize] = 1;
-        return Fault {
-            found: true,
-            links,
-            given: [0; Sheet::ATOMS],
-        };
+        links[y] = 1;
+        return Err(links);
     }
     let used = used_links(nets.count, to, none);
     let mut ports = [0u8; PORTS];

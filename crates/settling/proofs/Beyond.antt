@@ -1,14 +1,12 @@
 -- A failure carried one plain step further.
 use Prim.Native.Nat.{ℕ, suc, ◌+◌, ◌-◌, ◌<◌}
 use mathlib.Core.Path.{◌≡◌, ap, sym, ◌∙◌, subst}
-use mathlib.Core.Logic.{◌↔◌, ◌≢◌, ⊎_elim}
+use mathlib.Core.Logic.{◌↔◌, ⊎_elim}
 use mathlib.Core.List.{List}
 use native.Mathlib.Omega.{arith}
 use lib.ListN.{length, get_or}
 use Rattle.rows.specs.Limits.{sheet_link_limit}
 use Rattle.rows.specs.declared.Sheet as form
-use Rattle.placing.specs.Net.{Net}
-use Rattle.placing.specs.Placing.{Placing}
 use Rattle.network.specs.NetIn.{net_in}
 use Rattle.network.specs.Ready.{state_in, TakenIn}
 use Rattle.network.proofs.NetIn.{atoms-length}
@@ -52,10 +50,6 @@ module _ (sheet figure : form.Sheet) (nets : Nets) (laid chains kinds used to : 
   other-within y t u h other =
       let f = a.nets-in.ready.sheet-fit in
       ⊎_elim (λ e. omega (arith, e, h)) (λ w. omega (arith, w.0, atoms-length sheet f, a.nets-in.laid_out.count)) (other sheet f a.chains-in)
-
--- A link once counted back and forth.
-pub step-at : (S F : Net) (q : Placing) (t y z : ℕ) → z ≢ 0 → (u : ℕ) × PlainStep S F q t u y z → (u : ℕ) × PlainStep S F q t u y (suc (z - 1))
-step-at S F q t y z n (u, s) = let e : z ≡ suc (z - 1) = omega (arith, n) in (u, subst (λ (v : ℕ). PlainStep S F q t u y v) e s)
 
 -- by the tables of the search, and the links to which figure links go
 pub along-of : {sheet figure : form.Sheet} {nets : Nets} {laid chains kinds standing to : List ℕ} → Tables sheet figure nets laid chains kinds standing to → OneEach (net_in figure)

@@ -22,12 +22,12 @@ use Rattle.completing.specs.Completion.{remove}
 use Rattle.completing.proofs.Completing.{no-fault-completable}
 use Rattle.faults.specs.declared.nets.Nets.{Nets}
 use Rattle.faults.specs.Finds.{NetsIn, Over, FindsAll}
-use Rattle.faults.specs.declared.fault.Fault.{Fault}
+use Rattle.std.specs.Prelude.{Ok, Err}
 use Rattle.deciding.specs.Bars.{BarredTo}
 use Rattle.deciding.specs.Kinds.{KindsIn}
 use Rattle.deciding.proofs.Sets.{below-cases}
 use Rattle.deciding.proofs.Flagged.{flagged-out}
-use Rattle.settling.specs.Completes.{unsettled, Tables, Working, CompletableAt, BarsIn, Completes, KeepsBars, CompletesAt, Mends, Hinders, FirstFor}
+use Rattle.settling.specs.Completes.{unsettled, Tables, Working, CompletableAt, BarsIn, Completes, KeepsBars, CompletesAt, Mends, Unhindered, HinderedAt, FirstFor}
 use Rattle.settling.proofs.States.{links-set, of-put, to-put, working-put, put_back, bars-at, barred-at, failed-at, tried-partial, several-in, way_out}
 
 -- what is read of a net, as it stands there
@@ -180,13 +180,13 @@ module _ (sheet figure : form.Sheet) (ready : Ready sheet figure) (taken to flag
     }
 
   -- What stands in the way.
-  pub find-hinders : (r : Fault) → FindsAll sheet figure taken to r → Hinders sheet figure taken to flags r
-  find-hinders r finds = record {
-    free = λ atoms un w e. no-fault-completable (net_in sheet) (net_in figure) ready.sheet-normal ready.figure-normal (state_in figure atoms to) un w.placed.partial
-        ((finds atoms un w.placed.taken_in w.placed.partial).none_found e).0;
-    held = λ atoms un w e. let t = (finds atoms un w.placed.taken_in w.placed.partial).some-found e in
-        way_out sheet figure ready taken to flags atoms un room w t.1 r.links t.2;
-  }
+  pub find-none : (given : List ℕ) → FindsAll sheet figure taken to (Ok given) → Unhindered sheet figure taken to flags
+  find-none given finds atoms un w = no-fault-completable (net_in sheet) (net_in figure) ready.sheet-normal ready.figure-normal (state_in figure atoms to) un w.placed.partial
+      (finds atoms un w.placed.taken_in w.placed.partial).0
+
+  pub find-some : (links : List ℕ) → FindsAll sheet figure taken to (Err links) → HinderedAt sheet figure taken to flags links
+  find-some links finds atoms un w = let t = finds atoms un w.placed.taken_in w.placed.partial in
+      way_out sheet figure ready taken to flags atoms un room w t.1 links t.2
 
   -- the links that are flagged have a flag
   flag-of : (x : ℕ) → suc x ∈ unsettled figure flags → get_or flags x 0 ≡ 1
@@ -195,22 +195,19 @@ module _ (sheet figure : form.Sheet) (ready : Ready sheet figure) (taken to flag
       subst (λ (i : ℕ). get_or flags i 0 ≡ 1) e t.flag
 
   -- where no completion is left, nothing can mend it
-  pub refused-hinders : (b : Bool) → b ≡ true → Refuses sheet figure taken to flags b → (r : Fault) → r.found ≡ true → Hinders sheet figure taken to flags r
-  refused-hinders b e f r g = record {
-    free = λ atoms un w h. both_ways g h;
-    held = λ atoms un w h c. absurd (f e atoms (unsettled figure flags) w.placed.taken_in (tried-partial sheet figure ready taken to flags atoms un room w) flag-of
-        (several-in sheet figure ready taken to flags atoms un room w c));
-  }
+  pub refused-hinders : (b : Bool) → b ≡ true → Refuses sheet figure taken to flags b → (links : List ℕ) → HinderedAt sheet figure taken to flags links
+  refused-hinders b e f links atoms un w c = absurd (f e atoms (unsettled figure flags) w.placed.taken_in (tried-partial sheet figure ready taken to flags atoms un room w) flag-of
+      (several-in sheet figure ready taken to flags atoms un room w c))
 
-  module _ (bars : List ℕ) (r : Fault) (hinders : Hinders sheet figure taken to flags r) where
-    pub found_none : r.found ≡ false → Completes sheet figure taken to flags bars true
-    found_none e = record { can = λ atoms un w g. hinders.free atoms un w e; cannot = λ atoms un w b g. both_ways refl g }
+  module _ (bars : List ℕ) where
+    pub found_none : Unhindered sheet figure taken to flags → Completes sheet figure taken to flags bars true
+    found_none free = record { can = λ atoms un w g. free atoms un w; cannot = λ atoms un w b g. both_ways refl g }
 
-    pub found-tried : (now : List ℕ) (x : ℕ) → x < figure.class_count → get_or flags x 0 ≡ 1 → Mends sheet figure taken to flags now r.links x true → Completes sheet figure taken to flags bars true
-    found-tried now x h f m = record { can = λ atoms un w g. m.can atoms un w (w.several.flag-in x h f) refl; cannot = λ atoms un w b g. both_ways refl g }
+    pub found-tried : (links now : List ℕ) (x : ℕ) → x < figure.class_count → get_or flags x 0 ≡ 1 → Mends sheet figure taken to flags now links x true → Completes sheet figure taken to flags bars true
+    found-tried links now x h f m = record { can = λ atoms un w g. m.can atoms un w (w.several.flag-in x h f) refl; cannot = λ atoms un w b g. both_ways refl g }
 
-    pub found-refused : r.found ≡ true → (x : ℕ) → figure.class_count ≤ x → TriedTo sheet figure taken to flags bars r.links x → Completes sheet figure taken to flags bars false
-    found-refused e x k t = record {
+    pub found-refused : (links : List ℕ) → HinderedAt sheet figure taken to flags links → (x : ℕ) → figure.class_count ≤ x → TriedTo sheet figure taken to flags bars links x → Completes sheet figure taken to flags bars false
+    found-refused links held x k t = record {
       can = λ atoms un w g. both_ways g refl;
-      cannot = λ atoms un w b g c. let o = hinders.held atoms un w e c in t atoms un w b o.link (omega (arith, o.link-in, k)) o.flag o.at o.at_in o.at_flag o.completes;
+      cannot = λ atoms un w b g c. let o = held atoms un w c in t atoms un w b o.link (omega (arith, o.link-in, k)) o.flag o.at o.at_in o.at_flag o.completes;
     }

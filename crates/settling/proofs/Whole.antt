@@ -17,22 +17,21 @@ use Rattle.placing.proofs.FirstLaws.{both_ways, answer-only, first-answer}
 use Rattle.network.specs.NetIn.{net_in}
 use Rattle.network.specs.Ready.{Ready, AtomsIn, LinksIn, state_in}
 use Rattle.network.specs.Begun.{test_after, bounds_after, least_after}
-use Rattle.completing.specs.Fault as fault
-use Rattle.completing.specs.Leaf.{NoneWith, LeastCompletion, rest_bounds}
+use Rattle.completing.specs.Leaf.{NoneWith, Settling, rest_bounds}
 use Rattle.completing.proofs.Completing.{fault-settled}
 use Rattle.completing.proofs.SettlingLoop.{settling-done}
 use Rattle.completing.proofs.Leaf.{leaf-none, leaf-some, not-completable}
 use Rattle.settling.specs.Completed.{completed_in}
-use Rattle.faults.specs.declared.fault.Fault.{Fault}
+use Rattle.std.specs.Prelude.{Ok, Err}
 use Rattle.settling.specs.declared.complete.Completed.{Completed}
 use Rattle.deciding.specs.Flags.{Different, Opens}
 use Rattle.deciding.specs.Agrees.{Agrees}
 use Rattle.deciding.specs.Several.{SeveralIn}
 use Rattle.deciding.proofs.Flagged.{flagged-in, flagged-out}
-use Rattle.settling.specs.Completes.{unsettled, Placed, Several, Working, Completes, Hinders, Settles, LeastIn}
+use Rattle.settling.specs.Completes.{unsettled, Placed, Several, Working, Completes, Settles, LeastIn}
 use Rattle.settling.proofs.States.{taken-in-same}
 use Rattle.faults.specs.Finds.{FindsAll}
-use Rattle.settling.proofs.Trying.{find-hinders, found_none, found-refused}
+use Rattle.settling.proofs.Trying.{find-none, find-some, found_none, found-refused}
 use Rattle.settling.proofs.SettleLaws.{zeros-bar, settled-already}
 use Rattle.settling.proofs.Starting.{size, open-links, state-of, placed}
 
@@ -61,34 +60,39 @@ module _ (sheet figure : form.Sheet) (ready : Ready sheet figure) (taken to flag
   }
 
   -- all links are settled, and there is no fault
-  pub least-some : r ≡ true → (links : List ℕ) → Settles sheet figure taken to flags tried links → (f : Fault) → FindsAll sheet figure taken links f
-      → LeastIn sheet figure taken to flags (record { ok = true; links_to = links; given = f.given })
-  least-some e links s f finds = record { none = λ atoms u g. both_ways refl g; least = λ atoms u g. found atoms u f.found refl }
-    where
-      found : (atoms : List ℕ) → Placed sheet figure taken to atoms (unsettled figure flags) → (b : Bool) → f.found ≡ b
-          → LeastCompletion (net_in sheet) (net_in figure) (state_in figure atoms to) (unsettled figure flags) (fault.completed (state_in figure atoms links) (take sheet.atom_count f.given))
-      found atoms u true h =
-          let t = s.settling atoms (working atoms u) (w.can atoms (unsettled figure flags) (working atoms u) e) in
-          let v = (finds atoms [] (taken-in-same sheet figure to atoms links taken u.taken_in) t.partial).some-found h in
-          absurd (fault-settled (net_in sheet) (net_in figure) ready.sheet-normal ready.figure-normal (state_in figure atoms links) t.partial v.1 t.completable)
-      found atoms u false h =
-          let t = s.settling atoms (working atoms u) (w.can atoms (unsettled figure flags) (working atoms u) e) in
-          let v = (finds atoms [] (taken-in-same sheet figure to atoms links taken u.taken_in) t.partial).none_found h in
-          settling-done (net_in sheet) (net_in figure) ready.sheet-normal ready.figure-normal (state_in figure atoms to) (unsettled figure flags) (state_in figure atoms links) t (take sheet.atom_count f.given) v.1
+  module _ (e : r ≡ true) (links : List ℕ) (s : Settles sheet figure taken to flags tried links) where
+    last : (atoms : List ℕ) → Placed sheet figure taken to atoms (unsettled figure flags)
+        → Settling (net_in sheet) (net_in figure) (state_in figure atoms to) (unsettled figure flags) (state_in figure atoms links) []
+    last atoms u = s.settling atoms (working atoms u) (w.can atoms (unsettled figure flags) (working atoms u) e)
+
+    pub least-some : (given : List ℕ) → FindsAll sheet figure taken links (Ok given) → LeastIn sheet figure taken to flags (record { ok = true; links_to = links; given = given })
+    least-some given finds = record {
+      none = λ atoms u g. both_ways refl g;
+      least = λ atoms u g.
+          let t = last atoms u in
+          let v = finds atoms [] (taken-in-same sheet figure to atoms links taken u.taken_in) t.partial in
+          settling-done (net_in sheet) (net_in figure) ready.sheet-normal ready.figure-normal (state_in figure atoms to) (unsettled figure flags) (state_in figure atoms links) t (take sheet.atom_count given) v.1;
+    }
+
+    -- where there is one, no atoms are placed so
+    pub least-faulty : (cut : List ℕ) → FindsAll sheet figure taken links (Err cut) → (m : Completed) → LeastIn sheet figure taken to flags m
+    least-faulty cut finds m = record { none = λ atoms u g. absurd (never atoms u); least = λ atoms u g. absurd (never atoms u) }
+      where
+        never : (atoms : List ℕ) → ¬ Placed sheet figure taken to atoms (unsettled figure flags)
+        never atoms u =
+            let t = last atoms u in
+            let v = finds atoms [] (taken-in-same sheet figure to atoms links taken u.taken_in) t.partial in
+            fault-settled (net_in sheet) (net_in figure) ready.sheet-normal ready.figure-normal (state_in figure atoms links) t.partial v.1 t.completable
 
 -- No link is open: the finder decides.
-module _ (sheet figure : form.Sheet) (ready : Ready sheet figure) (taken to flags : List ℕ) (room : length flags ≡ sheet_link_limit) (closed : (x : ℕ) → x < figure.class_count → get_or flags x 0 ≢ 1)
-    (f : Fault) (finds : FindsAll sheet figure taken to f) where
-  hinders : Hinders sheet figure taken to flags f
-  hinders = find-hinders sheet figure ready taken to flags room f finds
+module _ (sheet figure : form.Sheet) (ready : Ready sheet figure) (taken to flags : List ℕ) (room : length flags ≡ sheet_link_limit) (closed : (x : ℕ) → x < figure.class_count → get_or flags x 0 ≢ 1) where
+  pub closed_none : (links : List ℕ) → FindsAll sheet figure taken to (Err links) → (n : Completed) → n.ok ≡ false → LeastIn sheet figure taken to flags n
+  closed_none links finds n k = least-none sheet figure ready taken to flags flags (several-all figure flags) [] 0 refl false
+      (found-refused sheet figure ready taken to flags room [] links (find-some sheet figure ready taken to flags room links finds) figure.class_count (omega arith) (λ atoms un w b x h g. absurd (closed x h g))) refl n k
 
-  pub closed_none : f.found ≡ true → (n : Completed) → n.ok ≡ false → LeastIn sheet figure taken to flags n
-  closed_none e n k = least-none sheet figure ready taken to flags flags (several-all figure flags) [] 0 refl false
-      (found-refused sheet figure ready taken to flags room [] f hinders e figure.class_count (omega arith) (λ atoms un w b x h g. absurd (closed x h g))) refl n k
-
-  pub closed_some : f.found ≡ false → LinksIn sheet figure to → LeastIn sheet figure taken to flags (record { ok = true; links_to = to; given = f.given })
-  closed_some e l = least-some sheet figure ready taken to flags flags (several-all figure flags) [] 0 refl true (found_none sheet figure ready taken to flags room [] f hinders e) refl to
-      (settled-already sheet figure ready taken to flags flags l closed) f finds
+  pub closed_some : (given : List ℕ) → FindsAll sheet figure taken to (Ok given) → LinksIn sheet figure to → LeastIn sheet figure taken to flags (record { ok = true; links_to = to; given = given })
+  closed_some given finds l = least-some sheet figure ready taken to flags flags (several-all figure flags) [] 0 refl true (found_none sheet figure ready taken to flags room [] (find-none sheet figure ready taken to flags room given finds)) refl to
+      (settled-already sheet figure ready taken to flags flags l closed) given finds
 
 module _ (sheet figure : form.Sheet) (ready : Ready sheet figure) (atoms : List ℕ) (a : AtomsIn sheet figure.atom_count atoms) where
   abbrev S : Net

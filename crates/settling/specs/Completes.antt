@@ -1,5 +1,5 @@
 -- Whether a state can be completed, and its least completion.
-use Rattle.std.specs.Prelude.{ℕ, suc, ◌≤◌, ◌<◌, ◌≡◌, ◌⊎◌, List, [], Bool, true, false, take, get_or}
+use Rattle.std.specs.Prelude.{ℕ, suc, ◌≤◌, ◌<◌, ◌≡◌, ◌⊎◌, List, [], Bool, Option, MatchOption, true, false, take, get_or}
 use Rattle.hyperlmntal.specs.Link.{◌∈◌}
 use Rattle.rows.specs.declared.Sheet as form
 use Rattle.placing.specs.Net.{Range}
@@ -12,7 +12,6 @@ use Rattle.completing.specs.Known.{Bars}
 use Rattle.completing.specs.Leaf.{LeastCompletion, Settling}
 use Rattle.completing.specs.OneRow.{OneRow}
 use Rattle.stepping.specs.Standing.{Standing}
-use Rattle.faults.specs.declared.fault.Fault.{Fault}
 use Rattle.faults.specs.declared.nets.Nets.{Nets}
 use Rattle.faults.specs.Finds.{Over}
 use Rattle.deciding.specs.Flags.{flagged}
@@ -68,10 +67,17 @@ pub record WayOut (sheet figure : form.Sheet) (to flags un links atoms : List �
   pub completes : CompletableAt sheet figure to un link (suc at) atoms
 
 module _ (sheet figure : form.Sheet) (taken to flags : List ℕ) where
-  -- r says that nothing stands in the way, or which links can mend it
-  pub record Hinders (r : Fault) : Type 0 where
-    pub free : (atoms un : List ℕ) → Working sheet figure taken to flags atoms un → r.found ≡ false → CompletableIn sheet figure to un atoms
-    pub held : (atoms un : List ℕ) → Working sheet figure taken to flags atoms un → r.found ≡ true → CompletableIn sheet figure to un atoms → WayOut sheet figure to flags un r.links atoms
+  -- nothing stands in the way
+  abbrev pub Unhindered : Type 0
+  Unhindered = (atoms un : List ℕ) → Working sheet figure taken to flags atoms un → CompletableIn sheet figure to un atoms
+
+  -- something does, and only the links that are flagged in `links` can mend it
+  abbrev pub HinderedAt : List ℕ → Type 0
+  HinderedAt links = (atoms un : List ℕ) → Working sheet figure taken to flags atoms un → CompletableIn sheet figure to un atoms → WayOut sheet figure to flags un links atoms
+
+  -- r says which of the two it is
+  abbrev pub Hinders : Option (List ℕ) → Type 0
+  Hinders r = MatchOption r Unhindered HinderedAt
 
   module _ (bars : List ℕ) where
     pub record Completes (r : Bool) : Type 0 where

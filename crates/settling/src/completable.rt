@@ -29,11 +29,9 @@ pub(crate) fn completable(
     requires { ((sheet : NormalForm) × (figure : NormalForm) × Tables sheet figure nets laid.now chains.now kinds.now standing.now to.now) × (length flags.now ≡ sheet_link_limit) }
     ensures { (sheet figure : NormalForm) → Tables sheet figure nets laid.now chains.now kinds.now standing.now to.now → Completes sheet figure taken.now to.now flags.now bars.now result }
 {
-    let fault = obstacle(nets, laid, chains, taken, standing, to, flags);
-    if !fault.found {
+    let Some(links) = obstacle(nets, laid, chains, taken, standing, to, flags) else {
         return true;
-    }
-    let links = fault.links;
+    };
     let mut known = *bars;
     for x in 0..nets.count {
         if flags[x] == 1 {

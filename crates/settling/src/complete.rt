@@ -72,11 +72,9 @@ fn least<'a>(
     let mut table = [0u16; CHAINS];
     chains(&mut table, laid, nets.atoms);
     if none_open(flags, nets.count) {
-        let only = find(nets, laid, &table, taken, to);
-        if only.found {
+        let Ok(given) = find(nets, laid, &table, taken, to) else {
             return nothing();
-        }
-        let given = only.given;
+        };
         return Completed {
             ok: true,
             links_to: *to,
@@ -94,8 +92,9 @@ fn least<'a>(
     let links_to = settled(
         nets, laid, &table, taken, &kind, &words, to, flags, &tried, &mut bars,
     );
-    let last = find(nets, laid, &table, taken, &links_to);
-    let given = last.given;
+    let Ok(given) = find(nets, laid, &table, taken, &links_to) else {
+        return nothing();
+    };
     Completed {
         ok: true,
         links_to,

@@ -1,5 +1,5 @@
 // What failed at a sheet link fails along the plain ways that lead from it, and is barred there too.
-ghost use Rattle.std.specs.Prelude.{ℕ, ◌<◌, ◌≤◌, ◌≡◌, List, length};
+ghost use Rattle.std.specs.Prelude.{ℕ, ◌<◌, ◌≡◌, IfSome, List, length};
 ghost use Rattle.rows.specs.Limits.{sheet_link_limit};
 ghost use Rattle.rows.specs.declared.Sheet.{Sheet as NormalForm};
 ghost use Rattle.settling.specs.Beyond.{Along};
@@ -14,8 +14,7 @@ use stepping::CHAINS;
 use stepping::lookup::used_links;
 use stepping::plain::{one_each, other_on, step_over};
 
-// The link to which atom t leads from y is barred to x as y is; it is handed back from 1, 0 where there is none or
-// it was barred before.
+// The link to which atom t leads from y is barred to x as y is. It is handed back, unless it was barred before.
 fn bar_beyond(
     nets: Nets,
     laid: &[u16; LAID],
@@ -27,28 +26,25 @@ fn bar_beyond(
     y: usize,
     t: usize,
     bars: &mut [u64; LINK_SETS],
-) -> usize
+) -> Option<usize>
     requires { ((sheet : NormalForm) × (figure : NormalForm) × (to : List ℕ) × Along sheet figure nets laid.now chains.now kinds.now used.now to) × (x < nets.count) × (y < nets.links) × (t < nets.atoms) }
-    ensures { (result ≤ nets.links) × ((sheet figure : NormalForm) (to flags : List ℕ) → Along sheet figure nets laid.now chains.now kinds.now used.now to → length flags ≡ sheet_link_limit → KeepsBars sheet figure taken.now to flags bars.old x bars.new) }
+    ensures { IfSome result (λ z. z < nets.links) × ((sheet figure : NormalForm) (to flags : List ℕ) → Along sheet figure nets laid.now chains.now kinds.now used.now to → length flags ≡ sheet_link_limit → KeepsBars sheet figure taken.now to flags bars.old x bars.new) }
 {
     if !barred(bars, x, y) {
-        return 0;
+        return None;
     }
     if !stands(laid, nets.atoms, t, y + 1) {
-        return 0;
+        return None;
     }
-    let z = step_over(laid, chains, nets.atoms, taken, used, t, y);
-    if z == 0 {
-        return 0;
+    let z = step_over(laid, chains, nets.atoms, taken, used, t, y)?;
+    if nets.links <= z {
+        return None;
     }
-    if nets.links < z {
-        return 0;
+    if barred(bars, x, z) {
+        return None;
     }
-    if barred(bars, x, z - 1) {
-        return 0;
-    }
-    bar(bars, kinds, nets.count, x, z - 1);
-    z
+    bar(bars, kinds, nets.count, x, z);
+    Some(z)
 }
 
 // Along the way that leads from link y through atom t.
@@ -70,11 +66,10 @@ fn follow(
     let mut at = y;
     let mut atom = t;
     for n in 0..nets.links {
-        let z = bar_beyond(nets, laid, chains, taken, kinds, used, x, at, atom, bars);
-        if z == 0 {
+        let Some(z) = bar_beyond(nets, laid, chains, taken, kinds, used, x, at, atom, bars) else {
             return;
-        }
-        at = z - 1;
+        };
+        at = z;
         atom = other_on(chains, at, atom);
     }
 }

@@ -7,7 +7,7 @@ ghost use Rattle.faults.specs.Finds.{Over};
 ghost use Rattle.settling.specs.Completes.{Hinders};
 
 use candidates::LAID;
-use faults::fault::{Fault, find};
+use faults::fault::find;
 use faults::nets::Nets;
 use remaining::remaining::refused;
 use rows::Sheet;
@@ -38,7 +38,7 @@ fn hopeless(
     )
 }
 
-// A fault, if there is one. It has no links where no unsettled link can mend it.
+// A fault, if there is one: 1 for each of its sheet links, and for none where no unsettled link can mend it.
 pub(crate) fn obstacle(
     nets: Nets,
     laid: &[u16; LAID],
@@ -47,20 +47,15 @@ pub(crate) fn obstacle(
     standing: &[u16; Sheet::LINKS],
     to: &[u16; Sheet::LINKS],
     flags: &[u8; Sheet::LINKS],
-) -> Fault
+) -> Option<[u8; Sheet::LINKS]>
     requires { ((sheet : NormalForm) × (figure : NormalForm) × Over sheet figure nets laid.now chains.now to.now × Standing figure standing.now) × (length flags.now ≡ sheet_link_limit) }
     ensures { (sheet figure : NormalForm) → Over sheet figure nets laid.now chains.now to.now → Standing figure standing.now → Hinders sheet figure taken.now to.now flags.now result }
 {
-    let fault = find(nets, laid, chains, taken, to);
-    if !fault.found {
-        return fault;
-    }
+    let Err(links) = find(nets, laid, chains, taken, to) else {
+        return None;
+    };
     if hopeless(nets, laid, chains, taken, standing, to, flags) {
-        return Fault {
-            found: true,
-            links: [0; Sheet::LINKS],
-            given: [0; Sheet::ATOMS],
-        };
+        return Some([0; Sheet::LINKS]);
     }
-    fault
+    Some(links)
 }

@@ -1,7 +1,6 @@
 -- Steps say whether figure links that go to one sheet link are linked there.
 use Prim.Native.Nat.{ℕ, suc, ◌+◌, ◌-◌, ◌≤◌, ◌<◌}
-use mathlib.Core.Path.{◌≡◌, refl, sym, ◌∙◌, ap, subst}
-use mathlib.Core.Logic.{◌≢◌}
+use mathlib.Core.Path.{◌≡◌, sym, ◌∙◌, ap, subst}
 use mathlib.Core.List.{List}
 use native.Mathlib.Omega.{arith}
 use lib.ListN.{get_or}
@@ -19,7 +18,7 @@ use Rattle.candidates.proofs.PortRows.{port-in, port-range, in-port}
 use Rattle.network.specs.Reach.{Reach, stay, move}
 use Rattle.completing.specs.Fault.{AllLinked, TwoApart}
 use Rattle.stepping.specs.Flags.{Within}
-use Rattle.stepping.specs.Labels.{Tie, Meet, Apart}
+use Rattle.stepping.specs.Labels.{Tie, MeetTied, MeetApart}
 use Rattle.stepping.proofs.Reading.{row_in, link_at, goes}
 
 module _ (S : Net) {figure : form.Sheet} {sets : List PortSet} {rows links : ℕ} (o : ContextsIn figure sets rows links) (atoms to : List ℕ) where
@@ -80,11 +79,11 @@ module _ (S : Net) {figure : form.Sheet} {sets : List PortSet} {rows links : ℕ
     at-index : (x y : ℕ) → At S F q x y → get_or to (x - 1) 0 ≡ y
     at-index x y h = let i = by_index x h.figure-link in sym (goes o S atoms to (x - 1) i.0) ∙ ap (link_target q) i.1 ∙ h.there
 
-    pub all-linked : Apart sets rows links to none 0 → AllLinked S F q
+    pub all-linked : MeetTied sets rows links to none → AllLinked S F q
     all-linked w x z y h k =
         let i = by_index x h.figure-link in
         let j = by_index z k.figure-link in
-        let r = w.all-tied refl (x - 1) (z - 1) y (record {
+        let r = w (x - 1) (z - 1) y (record {
           first-in = i.0;
           second-in = j.0;
           first-at = at-index x y h;
@@ -94,24 +93,21 @@ module _ (S : Net) {figure : form.Sheet} {sets : List PortSet} {rows links : ℕ
         subst (λ (n : ℕ). Linked S F q y n z) i.1 (subst (Linked S F q y (suc (x - 1))) j.1
         (reach-linked y r (subst (λ (n : ℕ). At S F q n y) (sym i.1) h)))
 
-    pub two-apart : (y : ℕ) → y ≢ 0 → Apart sets rows links to none y → TwoApart S F q y
-    two-apart y n w = record {
+    pub two-apart : (y : ℕ) → MeetApart sets rows links to none y → TwoApart S F q (suc y)
+    two-apart y t = record {
       one = suc t.0;
       two = suc t.1;
       one_at = at t.0 t.2.first-in t.2.first-at;
       two_at = at t.1 t.2.second-in t.2.second_at;
-      not-linked = λ l. t.3 (subst (λ (i : ℕ). Reach (Tie sets rows to) i t.1) (down t.0) (subst (Reach (Tie sets rows to) (suc t.0 - 1)) (down t.1) (linked-tied y l)));
+      not-linked = λ l. t.3 (subst (λ (i : ℕ). Reach (Tie sets rows to) i t.1) (down t.0) (subst (Reach (Tie sets rows to) (suc t.0 - 1)) (down t.1) (linked-tied (suc y) l)));
     }
       where
-        t : (x : ℕ) × (z : ℕ) × Meet links to none x z y × ¬ Reach (Tie sets rows to) x z
-        t = w.two-apart n
-
         down : (i : ℕ) → suc i - 1 ≡ i
         down i = omega arith
 
-        ry : Range S.links y
+        ry : Range S.links (suc y)
         ry = let i = within t.0 t.2.first-in in
             (omega (arith, i.0, t.2.first-at), omega (arith, i.1, t.2.first-at, t.2.not_none, last))
 
-        at : (x : ℕ) → x < links → get_or to x 0 ≡ y → At S F q (suc x) y
+        at : (x : ℕ) → x < links → get_or to x 0 ≡ suc y → At S F q (suc x) (suc y)
         at x h e = record { figure-link = (omega arith, omega (arith, h, o.link-count)); sheet-link = ry; there = goes o S atoms to x h ∙ e }

@@ -1,5 +1,5 @@
 -- For each sheet link the first figure link that goes there.
-use Prim.Native.Nat.{ℕ, ◌+◌, ◌-◌, ◌≤◌, ◌<◌}
+use Prim.Native.Nat.{ℕ, suc, ◌+◌, ◌-◌, ◌≤◌, ◌<◌}
 use mathlib.Core.Path.{◌≡◌, refl, sym, ◌∙◌, ap, subst}
 use mathlib.Core.Logic.{◌≢◌}
 use mathlib.Core.List.{List}
@@ -9,7 +9,7 @@ use lib.ListN.{length, get_or, set, replicate}
 use lib.Seq.{get_or-set_same, get_or-set_other}
 use Rattle.candidates.specs.declared.ports.PortSet.{PortSet}
 use Rattle.network.specs.Reach.{Reach, stay, move}
-use Rattle.stepping.specs.Labels.{Tie, Labelled, Apart}
+use Rattle.stepping.specs.Labels.{Tie, Labelled, MeetApart}
 use Rattle.stepping.proofs.Tables.{below_next, zeros}
 
 -- links between which steps lead have one label
@@ -69,22 +69,19 @@ module _ (to labels : List ℕ) (none : ℕ) where
 
     -- the link has another label than the owner of where it goes
     pub owners-apart : (sets : List PortSet) (rows links : ℕ) → Labelled sets rows to labels → x < links → 1 ≤ get_or to x 0 → get_or to x 0 ≢ none
-        → get_or owner (get_or to x 0 - 1) 0 ≢ 0 → get_or labels (get_or owner (get_or to x 0 - 1) 0 - 1) 0 ≢ get_or labels x 0 → Apart sets rows links to none (get_or to x 0)
+        → get_or owner (get_or to x 0 - 1) 0 ≢ 0 → get_or labels (get_or owner (get_or to x 0 - 1) 0 - 1) 0 ≢ get_or labels x 0 → MeetApart sets rows links to none (get_or to x 0 - 1)
     owners-apart sets rows links l h low not_none n e =
         let w = f.0 (get_or to x 0 - 1) n in
         let k : get_or owner (get_or to x 0 - 1) 0 ≤ x = w.1 in
-        record {
-          all-tied = λ i. absurd (omega arith);
-          two-apart = λ i. (
-            get_or owner (get_or to x 0 - 1) 0 - 1,
-            x,
-            record {
-              first-in = omega arith;
-              second-in = h;
-              first-at = w.2 ∙ (let j : get_or to x 0 - 1 + 1 ≡ get_or to x 0 = omega arith in j);
-              second_at = refl;
-              not_none = not_none;
-            },
-            λ r. e (tied-label sets rows to labels l r),
-          );
-        }
+        let i : suc (get_or to x 0 - 1) ≡ get_or to x 0 = omega arith in (
+          get_or owner (get_or to x 0 - 1) 0 - 1,
+          x,
+          record {
+            first-in = omega arith;
+            second-in = h;
+            first-at = w.2 ∙ (omega arith);
+            second_at = sym i;
+            not_none = λ j. not_none (sym i ∙ j);
+          },
+          λ r. e (tied-label sets rows to labels l r),
+        )

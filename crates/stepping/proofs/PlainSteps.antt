@@ -114,28 +114,24 @@ module _ (sheet : form.Sheet) (f : Fit sheet) where
 
 -- The row of atom t as it was read.
 module _ (laid chains : List ℕ) (atoms t : ℕ) (a : Atom) (e : a ≡ laid_atom laid t) (h : t < atoms) where
-  -- link `found`, counted from 1, is in it
-  abbrev Found : ℕ → Type 0
-  Found found = (k : ℕ) × (k < a.count) × (get_or a.links k 0 ≡ found)
+  -- link z is in it
+  abbrev Has : ℕ → Type 0
+  Has z = (k : ℕ) × (k < a.count) × (get_or a.links k 0 ≡ suc z)
 
-  pub found-range : Rowed laid atoms → (found : ℕ) → Found found → Range sheet_link_limit found
-  found-range r found k =
+  pub found-range : Rowed laid atoms → (z : ℕ) → Has z → z < sheet_link_limit
+  found-range r z k =
       let u = subst (λ (b : Atom). Numbers sheet_link_limit b.count b.links) (sym e) (r.atoms t h) in
-      subst (Range sheet_link_limit) k.2 (u.numbered k.0 k.1)
+      (subst (Range sheet_link_limit) k.2 (u.numbered k.0 k.1)).1
 
-  pub step-found : (used taken : List ℕ) (u y found : ℕ) → get_or taken t 0 ≢ 1 → found ≢ 0 → Found found → found - 1 ≢ y → get_or used (found - 1) 0 ≢ 1
-      → OtherBy chains (found - 1) t u → get_or taken u 0 ≢ 1 → OnlyBy chains (found - 1) t u → AllOwn chains used a.links a.count t y (found - 1)
+  pub step-found : (used taken : List ℕ) (u y z : ℕ) → get_or taken t 0 ≢ 1 → Has z → z ≢ y → get_or used z 0 ≢ 1
+      → OtherBy chains z t u → get_or taken u 0 ≢ 1 → OnlyBy chains z t u → AllOwn chains used a.links a.count t y z
       → (sheet figure : form.Sheet) (q : Placing) → LaidOut sheet laid atoms → ChainsIn sheet chains → UsedBy sheet figure q used → FreeBy sheet figure q taken → Touches (net_in sheet) (suc t) (suc y)
-      → (v : ℕ) × PlainStep (net_in sheet) (net_in figure) q (suc t) v (suc y) found
-  step-found used taken u y found free n k differ unused other free-u only own sheet figure q o c by-used by-free from = (
+      → (v : ℕ) × PlainStep (net_in sheet) (net_in figure) q (suc t) v (suc y) (suc z)
+  step-found used taken u y z free k differ unused other free-u only own sheet figure q o c by-used by-free from = (
     suc u,
-    subst (PlainStep (net_in sheet) (net_in figure) q (suc t) (suc u) (suc y)) (sym up)
-        (plain_step sheet o.fit figure q used by-used chains taken a.links a.count c by-free t u y (found - 1) k.0 row (omega (arith, h, o.count)) free k.1 (k.2 ∙ up) differ unused
-        (other sheet o.fit c) free-u (only sheet o.fit c) own from),
+    plain_step sheet o.fit figure q used by-used chains taken a.links a.count c by-free t u y z k.0 row (omega (arith, h, o.count)) free k.1 k.2 differ unused
+        (other sheet o.fit c) free-u (only sheet o.fit c) own from,
   )
     where
-      up : found ≡ suc (found - 1)
-      up = omega (arith, n)
-
       row : RowIn (net_in sheet) t a.links a.count
       row = subst (λ (b : Atom). RowIn (net_in sheet) t b.links b.count) (sym e) (laid_in sheet laid atoms o t h)

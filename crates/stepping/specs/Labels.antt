@@ -1,5 +1,5 @@
 -- Labels of figure links, counted from 0: two links have one label exactly when steps lead from one to the other.
-use Rattle.std.specs.Prelude.{ℕ, ◌+◌, ◌≤◌, ◌<◌, ◌≡◌, ◌≢◌, List, get_or}
+use Rattle.std.specs.Prelude.{ℕ, suc, ◌+◌, ◌≤◌, ◌<◌, ◌≡◌, ◌≢◌, List, Option, MatchOption, get_or}
 use Rattle.rows.specs.Held.{relabelled}
 use Rattle.rows.specs.Limits.{sheet_link_limit}
 use Rattle.candidates.specs.Words.{pair_digits, InPair, PartOf}
@@ -63,7 +63,14 @@ pub record Meet (links : ℕ) (to : List ℕ) (none x z y : ℕ) : Type 0 where
 abbrev pub AllAlone : ℕ → List ℕ → ℕ → Type 0
 AllAlone links to none = (x z y : ℕ) → Meet links to none x z y → x ≡ z
 
--- 0 where steps lead between all links that meet, else where two meet between which none lead
-pub record Apart (sets : List PortSet) (rows links : ℕ) (to : List ℕ) (none y : ℕ) : Type 0 where
-  pub all-tied : y ≡ 0 → (x z w : ℕ) → Meet links to none x z w → Reach (Tie sets rows to) x z
-  pub two-apart : y ≢ 0 → (x : ℕ) × (z : ℕ) × Meet links to none x z y × ¬ Reach (Tie sets rows to) x z
+-- steps lead between all links that meet
+abbrev pub MeetTied : List PortSet → ℕ → ℕ → List ℕ → ℕ → Type 0
+MeetTied sets rows links to none = (x z w : ℕ) → Meet links to none x z w → Reach (Tie sets rows to) x z
+
+-- none lead between two that meet at sheet link y, from 0
+abbrev pub MeetApart : List PortSet → ℕ → ℕ → List ℕ → ℕ → ℕ → Type 0
+MeetApart sets rows links to none y = (x : ℕ) × (z : ℕ) × Meet links to none x z (suc y) × ¬ Reach (Tie sets rows to) x z
+
+-- steps lead between all links that meet, or this is where two meet between which none lead
+abbrev pub Apart : List PortSet → ℕ → ℕ → List ℕ → ℕ → Option ℕ → Type 0
+Apart sets rows links to none at = MatchOption at (MeetTied sets rows links to none) (MeetApart sets rows links to none)

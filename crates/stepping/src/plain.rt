@@ -1,6 +1,6 @@
 // Plain steps: an atom that leads from one sheet link to one other. Atoms and links are counted from 0, but for
 // links in rows of atoms and links that are found, which are counted from 1.
-ghost use Rattle.std.specs.Prelude.{◌≡◌, true, ◌≢◌, ℕ, suc, ◌-◌, ◌<◌, ◌≤◌, get_or};
+ghost use Rattle.std.specs.Prelude.{◌≡◌, true, ◌≢◌, ℕ, suc, ◌-◌, ◌<◌, ◌≤◌, IfSome, get_or};
 ghost use Rattle.rows.specs.Format.{most_links};
 ghost use Rattle.rows.specs.Limits.{sheet_atom_limit, sheet_link_limit, figure_contexts};
 ghost use Rattle.rows.specs.declared.Sheet.{Sheet as NormalForm};
@@ -79,7 +79,7 @@ fn own_link(
     only_on(chains, w, t, t)
 }
 
-// The first of these links of atom t, but y, that is not its own; 0 where there is none.
+// The first of these links of atom t, but y, that is not its own.
 fn leads_to(
     links: [u16; Sheet::MOST_LINKS],
     count: usize,
@@ -87,17 +87,17 @@ fn leads_to(
     used: &[u8; Sheet::LINKS],
     t: usize,
     y: usize,
-) -> usize
+) -> Option<usize>
     requires { (count ≤ most_links) × Within sheet_link_limit count links × Falls node_count chains.now }
-    ensures { result ≢ 0 → ((k : ℕ) × (k < count) × (get_or links k 0 ≡ result)) }
+    ensures { IfSome result (λ w. (k : ℕ) × (k < count) × (get_or links k 0 ≡ suc w)) }
 {
     for k in 0..count {
-        let w = links[k] as usize;
-        if !own_link(chains, used, w - 1, t, y, y) {
-            return w;
+        let w = (links[k] - 1) as usize;
+        if !own_link(chains, used, w, t, y, y) {
+            return Some(w);
         }
     }
-    0
+    None
 }
 
 // All these links of atom t, but y and z, are its own.
@@ -122,8 +122,7 @@ fn all_own(
     true
 }
 
-// Atom t leads from link y to one other link and nowhere else: that link, counted from 1; 0 where there is
-// none.
+// Atom t leads from link y to one other link and nowhere else: that link.
 pub fn step_over(
     laid: &[u16; LAID],
     chains: &[u16; CHAINS],
@@ -132,37 +131,33 @@ pub fn step_over(
     used: &[u8; Sheet::LINKS],
     t: usize,
     y: usize,
-) -> usize
+) -> Option<usize>
     requires { Rowed laid.now atoms × Falls (node_of atoms 0) chains.now × (t < atoms) × (y < sheet_link_limit) }
-    ensures { (result ≤ sheet_link_limit) × (result ≢ 0 → (sheet figure : NormalForm) (q : Placing) → LaidOut sheet laid.now atoms → ChainsIn sheet chains.now → UsedBy sheet figure q used.now → FreeBy sheet figure q taken.now → Touches (net_in sheet) (suc t) (suc y) → (u : ℕ) × PlainStep (net_in sheet) (net_in figure) q (suc t) u (suc y) result) }
+    ensures { IfSome result (λ z. (z < sheet_link_limit) × ((sheet figure : NormalForm) (q : Placing) → LaidOut sheet laid.now atoms → ChainsIn sheet chains.now → UsedBy sheet figure q used.now → FreeBy sheet figure q taken.now → Touches (net_in sheet) (suc t) (suc y) → (u : ℕ) × PlainStep (net_in sheet) (net_in figure) q (suc t) u (suc y) (suc z))) }
 {
     if taken[t] == 1 {
-        return 0;
+        return None;
     }
     let a = laid_atom(laid, t);
     let links = a.links;
-    let found = leads_to(links, a.count as usize, chains, used, t, y);
-    if found == 0 {
-        return 0;
-    }
-    let z = found - 1;
+    let z = leads_to(links, a.count as usize, chains, used, t, y)?;
     if z == y {
-        return 0;
+        return None;
     }
     if used[z] == 1 {
-        return 0;
+        return None;
     }
     let u = other_on(chains, z, t);
     if taken[u] == 1 {
-        return 0;
+        return None;
     }
     if !only_on(chains, z, t, u) {
-        return 0;
+        return None;
     }
     if !all_own(links, a.count as usize, chains, used, t, y, z) {
-        return 0;
+        return None;
     }
-    found
+    Some(z)
 }
 
 // No context before c has its number.

@@ -111,14 +111,14 @@ fn all_alone(count: usize, to: &[u16; Sheet::LINKS], none: u16) -> bool
     true
 }
 
-// A sheet link at which two figure links have different labels, 0 where there is none.
+// A sheet link, from 0, at which two figure links have different labels.
 fn untied(
     contexts: [PortSet; Sheet::CONTEXT_ROOM],
     rows: usize,
     count: usize,
     to: &[u16; Sheet::LINKS],
     none: u16,
-) -> u16
+) -> Option<usize>
     requires { Ports contexts rows count × (none ≤ sheet_link_limit + 1) × Within none count to.now }
     ensures { Apart contexts rows count to.now none result }
 {
@@ -133,27 +133,26 @@ fn untied(
             if first == 0 {
                 owner[at] = (x + 1) as u16;
             } else if labels[(first - 1) as usize] != labels[x] {
-                return y;
+                return Some(at);
             }
         }
     }
-    0
+    None
 }
 
-// A sheet link at which two figure links meet that no steps link, 0 where there is none. Where no two meet, no link needs
-// a label.
+// A sheet link, from 0, at which two figure links meet that no steps link. Where no two meet, no link needs a label.
 pub fn apart(
     contexts: [PortSet; Sheet::CONTEXT_ROOM],
     rows: usize,
     count: usize,
     to: &[u16; Sheet::LINKS],
     none: u16,
-) -> u16
+) -> Option<usize>
     requires { Ports contexts rows count × (none ≤ sheet_link_limit + 1) × Within none count to.now }
     ensures { Apart contexts rows count to.now none result }
 {
     if all_alone(count, to, none) {
-        return 0;
+        return None;
     }
     untied(contexts, rows, count, to, none)
 }

@@ -2,7 +2,6 @@ use Prim.Native.Nat.{◌<◌}
 use mathlib.Core.Path.{◌≡◌, sym, ◌∙◌, subst}
 use native.Mathlib.Omega.{arith}
 use lib.ListN.{get_or, length-set}
-use borrow.Author.Tests.{not-true, not-false}
 use Rattle.candidates.proofs.PortRows.{ports-of}
 use Rattle.deciding.proofs.Flagged.{flagged-fewer}
 use Rattle.settling.specs.Completes.{Mends, KeepsBars}
@@ -10,11 +9,10 @@ use Rattle.settling.proofs.Trying.{Keeps, tables-put, keeps_then, tried_same, tr
 use Rattle.settling.proofs.completable.+completable_mendable_tried_at.Goals as goal
 use Rattle.settling.proofs.completable.+completable_mendable_tried_at.Goals.{completable-then-flags-x-eq1+else-mendable, completable-else-flags-x-eq1, mendable-then-links-y-eq1+else-tried_at, mendable-else-links-y-eq1}
 
-pub completable-returns-then-not-fault : goal.completable-returns-then-not-fault
-completable-returns-then-not-fault t c =
+pub completable-returns-in_default : goal.completable-returns-in_default
+completable-returns-in_default t c =
     let a = c.args in
-    let o = c.obstacle-fault in
-    λ sheet figure u. found_none sheet figure u.over.nets-in.ready a.taken.now a.to.now a.flags.now c.requires.1 a.bars.now o.result (o.ensures sheet figure u.over u.standing-in) (not-true _ c.if-not-fault.true)
+    λ sheet figure u. found_none sheet figure u.over.nets-in.ready a.taken.now a.to.now a.flags.now c.requires.1 a.bars.now (c.in_default.ensures sheet figure u.over u.standing-in)
 
 pub completable-mendable-requires : goal.completable-mendable-requires
 completable-mendable-requires t c =
@@ -23,16 +21,14 @@ completable-mendable-requires t c =
 pub completable-returns-then-mendable : goal.completable-returns-then-mendable
 completable-returns-then-mendable t c =
     let a = c.args in
-    let o = c.obstacle-fault in
     let l = c.loop-x in
     λ sheet figure u. let n = u.over.nets-in in
-    found-tried sheet figure n.ready a.taken.now a.to.now a.flags.now c.requires.1 a.bars.now o.result (o.ensures sheet figure u.over u.standing-in) l.known l.x (omega (arith, c.loop-x-test.true, n.contexts-in.link-count)) c.if-flags-x-eq1.true
-    (subst (Mends sheet figure a.taken.now a.to.now a.flags.now l.known o.result.links l.x) c.if-mendable.true (c.mendable.ensures sheet figure u).0)
+    found-tried sheet figure n.ready a.taken.now a.to.now a.flags.now c.requires.1 a.bars.now c.in-Some.links l.known l.x (omega (arith, c.loop-x-test.true, n.contexts-in.link-count)) c.if-flags-x-eq1.true
+    (subst (Mends sheet figure a.taken.now a.to.now a.flags.now l.known c.in-Some.links l.x) c.if-mendable.true (c.mendable.ensures sheet figure u).0)
 
 pub completable-loop-x-preserved : goal.completable-loop-x-preserved
 completable-loop-x-preserved t c =
     let a = c.args in
-    let o = c.obstacle-fault in
     let l = c.loop-x in
     λ sheet figure u.
     let i = l.invariant sheet figure u in
@@ -40,18 +36,17 @@ completable-loop-x-preserved t c =
     elim c.if-flags-x-eq1.branch [
       | completable-then-flags-x-eq1+else-mendable w ↦ (
         subst (Keeps sheet figure a.taken.now a.to.now a.flags.now a.bars.now) (sym w.known-is) (keeps_then sheet figure a.taken.now a.to.now a.flags.now a.bars.now l.known w.mendable.new.bars l.x h w.if-flags-x-eq1.true i.0 (w.mendable.ensures sheet figure u).1),
-        link-refused sheet figure a.taken.now a.to.now a.flags.now a.bars.now l.known i.0 o.result.links l.x i.1 h w.mendable.result w.if-mendable.false (w.mendable.ensures sheet figure u).0,
+        link-refused sheet figure a.taken.now a.to.now a.flags.now a.bars.now l.known i.0 c.in-Some.links l.x i.1 h w.mendable.result w.if-mendable.false (w.mendable.ensures sheet figure u).0,
       )
-      | completable-else-flags-x-eq1 w ↦ (subst (Keeps sheet figure a.taken.now a.to.now a.flags.now a.bars.now) (sym w.known-is) i.0, link-settled sheet figure a.taken.now a.to.now a.flags.now a.bars.now l.known i.0 o.result.links l.x i.1 w.if-flags-x-eq1.false)
+      | completable-else-flags-x-eq1 w ↦ (subst (Keeps sheet figure a.taken.now a.to.now a.flags.now a.bars.now) (sym w.known-is) i.0, link-settled sheet figure a.taken.now a.to.now a.flags.now a.bars.now l.known i.0 c.in-Some.links l.x i.1 w.if-flags-x-eq1.false)
     ]
 
 pub completable-returns : goal.completable-returns
 completable-returns t c =
     let a = c.args in
-    let o = c.obstacle-fault in
     let l = c.loop-x in
     λ sheet figure u. let n = u.over.nets-in in
-    found-refused sheet figure n.ready a.taken.now a.to.now a.flags.now c.requires.1 a.bars.now o.result (o.ensures sheet figure u.over u.standing-in) (not-false _ c.if-not-fault.false) l.x (omega (arith, c.loop-x-test.false, n.contexts-in.link-count)) (l.invariant sheet figure u).1
+    found-refused sheet figure n.ready a.taken.now a.to.now a.flags.now c.requires.1 a.bars.now c.in-Some.links (c.in-Some.ensures sheet figure u.over u.standing-in) l.x (omega (arith, c.loop-x-test.false, n.contexts-in.link-count)) (l.invariant sheet figure u).1
 
 pub mendable-tried_at-requires : goal.mendable-tried_at-requires
 mendable-tried_at-requires t c =
