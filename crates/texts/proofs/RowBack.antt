@@ -8,7 +8,7 @@ use native.Mathlib.Nat.{eq-or-lt_of_le}
 use native.Mathlib.Numerals.{add-one}
 use native.Mathlib.Omega.{arith}
 use borrow.Author.Tests.{lt-ltb, le-ltb, le-leb, eq-eqb, ltb-true, ltb-false}
-use lib.Dec.{ltb, leb-suc-suc}
+use lib.Dec.{ltb, leb, leb-suc-suc}
 use lib.ListN.{length, get_or, set, take, drop, replicate, length-set, length-append, get_or-eq_default}
 use lib.Seq.{take_at, drop_at, get_or_at, get_or-set_same, get_or-set_other, ext_get_or}
 use Rattle.hyperlmntal.specs.Link.{◌∈◌}
@@ -19,12 +19,19 @@ use Rattle.rows.specs.Packed.{padded}
 use Rattle.rows.specs.declared.row.Rule.{Rule}
 use Rattle.rows.specs.Ranges.{Within}
 use Rattle.rows.proofs.Padding.{get_d-filled, length-padded, get_d-padding}
-use Rattle.rows.proofs.RowLaws.{columns, suits-by, row-fields}
+use Rattle.rows.specs.Pick.{pick, and, not}
+use Rattle.rows.proofs.RowLaws.{columns, row-fields}
 use Rattle.rows.proofs.RowRange.{suited, le-or-lt, early-needed, alike, later}
 use Rattle.writing.proofs.RowBytes.{field_text, field_at, fields-length, row-width}
 use Rattle.sheet.specs.Reading.{ragged}
 use Rattle.reading.proofs.normal.Merging.{get_d-in}
 use Rattle.texts.proofs.FieldBack.{field_back}
+
+-- What a rule asks; `b` is whether it needs a number at the field.
+suits-by : (r : Rule) (f count : ℕ) (filled : Bool) (n : ℕ) (b : Bool) → needed r f count ≡ b
+    → suits r f count filled n ≡ pick b (and filled (and (leb r.low n) (leb n r.high))) (not filled)
+unfolding suits
+suits-by r f count filled n b e = rw e
 
 -- Field f of a row stands where the reader looks for it.
 fields-columns : (g f : ℕ) (nums rest : List ℕ) → f < g → take field_width (drop (f * field_width) (fields_bytes g nums ++ rest)) ≡ field_at nums f
