@@ -1,5 +1,5 @@
 -- A walk over the numbers below n of a set, from each to the next.
-use Rattle.std.proofs.Common.{◌≡◌, ℕ, ◌+◌, ◌-◌, ◌<◌, ◌≤◌, Option, None, Some, IfSome, arith, sym, subst}
+use Rattle.std.proofs.Common.{ℕ, ◌<◌, ◌≤◌, Option, None, Some, IfSome}
 use Rattle.candidates.specs.Words.{In}
 use Rattle.candidates.specs.Forced.{FirstFrom}
 
@@ -21,7 +21,3 @@ module _ (s t n : ℕ) where
   pub next_below : (o : Option ℕ) → FirstFrom s t n o → IfSome o (λ r. r < n)
   next_below None f = tt
   next_below (Some r) f = f.below
-
-  -- the walk is shorter from there
-  pub next_shorter : (was o : Option ℕ) (u : ℕ) → was ≡ Some u → u < n → t ≡ u + 1 → FirstFrom s t n o → n - reached n o < n - reached n was
-  next_shorter was o u e h q f = subst (λ (w : Option ℕ). n - reached n o < n - reached n w) (sym e) (omega (arith, next_after o f (omega arith)))
