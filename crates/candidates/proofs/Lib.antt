@@ -4,6 +4,7 @@ pub mod Halves
 pub mod Members
 pub mod Staying
 mod NextDigit
+pub mod Walking
 mod Forcing
 -- What a good placing does at links and atoms.
 pub mod GoodPlaces

@@ -1,16 +1,16 @@
 -- The first digit from a place on that is 1.
 use Prim.Native.Nat.{ℕ, ◌+◌, ◌-◌, ◌/◌, ◌^◌, ◌≤◌, ◌<◌}
-use mathlib.Core.Path.{◌≡◌, refl, sym, ◌∙◌, ap, subst}
+use mathlib.Core.Path.{◌≡◌, sym, ◌∙◌, ap, subst}
 use native.Mathlib.Decide.{dec_lt}
 use native.Mathlib.Omega.{arith}
 use lib.Count.{count_trailing_zeros}
 use lib.Pow.{shr_lt, shr_le}
 use Rattle.candidates.specs.Words.{word_digits, digit, In}
-use Rattle.candidates.specs.Forced.{FirstFrom}
+use Rattle.candidates.specs.Forced.{FirstAt}
 use Rattle.candidates.proofs.Digits.{none_in, first-in, digit-shifted, below-first}
 
 -- a word has no digits beyond
-within_word : (s u : ℕ) → s < 2 ^ word_digits → In s u → u < word_digits
+pub within_word : (s u : ℕ) → s < 2 ^ word_digits → In s u → u < word_digits
 within_word s u h e = go (dec_lt u word_digits)
   where
     go : Dec (u < word_digits) → u < word_digits
@@ -25,19 +25,20 @@ module _ (s t : ℕ) where
   shifted-there : (u : ℕ) → t ≤ u → In s u → In (s / 2 ^ t) (u - t)
   shifted-there u h e = sym (digit-shifted s t (u - t)) ∙ ap (digit s) (let z : t + (u - t) ≡ u = omega arith in z) ∙ e
 
-  pub none_from : t ≤ word_digits → ((u : ℕ) → t ≤ u → u < word_digits → ¬ In s u) → FirstFrom s t word_digits
-  none_from h f = record { after = h; within = omega arith; passed = f; there = λ n. absurd (n refl) }
-
   pub nothing_left : s / 2 ^ t ≡ 0 → (u : ℕ) → t ≤ u → ¬ In s u
   nothing_left z u h e = none_in (u - t) (subst (λ (w : ℕ). In w (u - t)) z (shifted-there u h e))
 
-  pub next-digit : s < 2 ^ word_digits → 0 < s / 2 ^ t → FirstFrom s t (t + count_trailing_zeros word_digits (s / 2 ^ t))
+  pub next-digit : s < 2 ^ word_digits → 0 < s / 2 ^ t → FirstAt s t word_digits (t + count_trailing_zeros word_digits (s / 2 ^ t))
   next-digit h p = record {
     after = omega arith;
-    within = omega (arith, within_word s (t + count_trailing_zeros word_digits (s / 2 ^ t)) h found);
+    below = inside;
+    within = inside;
     passed = λ u g l e. below-first word_digits (s / 2 ^ t) (u - t) (omega (arith, g, l)) (shifted-there u g e);
-    there = λ n. found;
+    there = found;
   }
     where
       found : In s (t + count_trailing_zeros word_digits (s / 2 ^ t))
       found = digit-shifted s t (count_trailing_zeros word_digits (s / 2 ^ t)) ∙ (first-in word_digits (s / 2 ^ t) p (omega (arith, h, shr_le s t))).1
+
+      inside : t + count_trailing_zeros word_digits (s / 2 ^ t) < word_digits
+      inside = within_word s (t + count_trailing_zeros word_digits (s / 2 ^ t)) h found

@@ -1,5 +1,5 @@
 // The sheet atoms that a figure atom may go to: the first of them, and the only one.
-ghost use Rattle.std.specs.Prelude.{◌≡◌, ◌↔◌, ℕ, suc, ◌<◌, ◌≤◌, get_or};
+ghost use Rattle.std.specs.Prelude.{◌≡◌, ◌↔◌, ℕ, ◌<◌, ◌≤◌, get_or, Some};
 ghost use Rattle.rows.specs.Limits.{sheet_atom_limit};
 ghost use Rattle.candidates.specs.Words.{word_digits};
 ghost use Rattle.candidates.specs.Forced.{FirstFrom, Only};
@@ -7,44 +7,47 @@ ghost use Rattle.candidates.specs.Forced.{FirstFrom, Only};
 use crate::words::{DIGITS, first, minus, one};
 use rows::Sheet;
 
-// The first number from t on that is in the set; `DIGITS` where there is none.
-pub fn first_from(s: u64, t: usize) -> usize
+// The first number from t on that is in the set.
+pub fn first_from(s: u64, t: usize) -> Option<usize>
     requires { t ≤ word_digits }
-    ensures { FirstFrom s t result }
+    ensures { FirstFrom s t word_digits result }
 {
     if t >= DIGITS {
-        return DIGITS;
+        return None;
     }
     let rest = s >> t;
     if rest == 0 {
-        return DIGITS;
+        return None;
     }
-    t + u64::trailing_zeros(rest) as usize
+    Some(t + u64::trailing_zeros(rest) as usize)
 }
 
-// The first sheet atom from t on that figure atom k may go to; `DIGITS` where there is none.
-pub fn next_from(atoms: &[u64; Sheet::ATOMS], k: usize, t: usize) -> usize
+// The first of the sheet atoms from t on and below n that figure atom k may go to.
+pub fn next_from(atoms: &[u64; Sheet::ATOMS], k: usize, t: usize, n: usize) -> Option<usize>
     requires { (k < sheet_atom_limit) × (t ≤ word_digits) }
-    ensures { FirstFrom (get_or atoms.now k 0) t result }
+    ensures { FirstFrom (get_or atoms.now k 0) t n result }
 {
-    first_from(atoms[k], t)
+    match first_from(atoms[k], t) {
+        Some(u) if u < n => Some(u),
+        _ => None,
+    }
 }
 
-// The one sheet atom of the first n, counted from 1, that figure atom k may go to; 0 where there is no such atom.
-pub fn forced(atoms: &[u64; Sheet::ATOMS], k: usize, n: usize) -> usize
+// The one sheet atom of the first n that figure atom k may go to, where there is just one.
+pub fn forced(atoms: &[u64; Sheet::ATOMS], k: usize, n: usize) -> Option<usize>
     requires { k < sheet_atom_limit }
-    ensures { (t : ℕ) → (result ≡ suc t) ↔ Only atoms.now k n t }
+    ensures { (t : ℕ) → (result ≡ Some t) ↔ Only atoms.now k n t }
 {
     let row = atoms[k];
     if row == 0 {
-        return 0;
+        return None;
     }
     let t = first(row);
     if minus(row, one(t)) != 0 {
-        return 0;
+        return None;
     }
     if n <= t {
-        return 0;
+        return None;
     }
-    t + 1
+    Some(t)
 }

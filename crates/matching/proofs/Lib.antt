@@ -3,4 +3,5 @@ pub mod Pruning
 pub mod SearchTurns
 pub mod SearchWhole
 mod Forcing
+mod Searching
 pub mod Leftover

@@ -123,25 +123,28 @@ module _ (sheet figure : form.Sheet) (ready : Ready sheet figure) (chosen : List
         go i l (yes e) = subst (Range sheet.atom_count) (sym (ap (λ (j : ℕ). get_or (set chosen k t) j 0) e ∙ get_or-set_same chosen k t 0 (omega (arith, atoms.room, ready.figure-fit.atom-count)))) q
         go i l (no e) = subst (Range sheet.atom_count) (sym (get_or-set_other chosen k i t 0 e)) (atoms.within i (omega (arith, e)))
 
-    -- A figure atom that has one candidate goes there: t is counted from 1.
-    module _ (a l : List ℕ) (keeps : KeepsIn sheet figure pre a l) (t : ℕ) (only : Only a k sheet.atom_count (t - 1)) (placed : t ≢ 0) where
-      elsewhere : (u : ℕ) → suc u ≢ t → ¬ Begun S F (pre ++ (suc u ∷ []))
-      elsewhere u other b = other (omega (arith, placed, only.2 u (kept a l keeps u b)))
+    -- A figure atom that has one candidate goes there.
+    module _ (a l : List ℕ) (keeps : KeepsIn sheet figure pre a l) (t : ℕ) (only : Only a k sheet.atom_count t) where
+      elsewhere : (u : ℕ) → u ≢ t → ¬ Begun S F (pre ++ (suc u ∷ []))
+      elsewhere u other b = other (only.2 u (kept a l keeps u b))
 
-      same_after : (o : Option (List ℕ)) → least_after S F (pre ++ (t ∷ [])) ≡ o → search_from S F (pre ++ (t ∷ [])) ≡ search_from S F pre
+      same_after : (o : Option (List ℕ)) → least_after S F (pre ++ (suc t ∷ [])) ≡ o → search_from S F (pre ++ (suc t ∷ [])) ≡ search_from S F pre
       same_after (some l) e =
-          tried-found S F pre small t (omega (arith, placed, only.0, sheet-atoms)) (subst (λ (i : ℕ). Tried (test_after S F pre) i (rest_bounds S F pre)) (let q : suc (t - 1) ≡ t = omega (arith, placed) in q) (up_to 0 (t - 1) (omega arith) (tried-start S F pre small) (λ u z h. elsewhere u (λ q. absurd (omega (arith, q)))))) l e
-      same_after none e = ap (behind (pre ++ (t ∷ []))) e ∙ sym (tried-end S F pre small (subst (λ (i : ℕ). Tried (test_after S F pre) (suc i) (rest_bounds S F pre)) (sym sheet-atoms) (up_to 0 sheet.atom_count (omega arith) (tried-start S F pre small) (λ u z h. nowhere u (ℕ_discrete (suc u) t)))))
+          tried-found S F pre small (suc t) (omega (arith, only.0, sheet-atoms)) (up_to 0 t (omega arith) (tried-start S F pre small) (λ u z h. elsewhere u (λ q. absurd (omega (arith, q))))) l e
+      same_after none e = ap (behind (pre ++ (suc t ∷ []))) e ∙ sym (tried-end S F pre small (subst (λ (i : ℕ). Tried (test_after S F pre) (suc i) (rest_bounds S F pre)) (sym sheet-atoms) (up_to 0 sheet.atom_count (omega arith) (tried-start S F pre small) (λ u z h. nowhere u (ℕ_discrete u t)))))
         where
-          nowhere : (u : ℕ) → Dec (suc u ≡ t) → ¬ Begun S F (pre ++ (suc u ∷ []))
-          nowhere u (yes q) = subst (λ (i : ℕ). ¬ Begun S F (pre ++ (i ∷ []))) (sym q) (none-begun S F (pre ++ (t ∷ [])) e)
+          nowhere : (u : ℕ) → Dec (u ≡ t) → ¬ Begun S F (pre ++ (suc u ∷ []))
+          nowhere u (yes q) = subst (λ (i : ℕ). ¬ Begun S F (pre ++ (suc i ∷ []))) (sym q) (none-begun S F (pre ++ (suc t ∷ [])) e)
           nowhere u (no q) = elsewhere u q
 
-      pub forced-onward : Onward sheet figure a l k chosen (k + 1) (set chosen k t)
+      at : take (k + 1) (set chosen k (t + 1)) ≡ pre ++ (suc t ∷ [])
+      at = next-taken (t + 1) ∙ ap (λ (i : ℕ). pre ++ (i ∷ [])) (add-one t)
+
+      pub forced-onward : Onward sheet figure a l k chosen (k + 1) (set chosen k (t + 1))
       forced-onward = record {
-        atoms-in = next-within t (omega (arith, placed), omega (arith, placed, only.0));
-        keeps = λ p g s. keeps p g ((t ∷ s.0), s.1 ∙ ap (λ (m : List ℕ). m ++ s.0) (next-taken t) ∙ append_assoc pre (t ∷ []) s.0);
-        same = ap (search_from S F) (next-taken t) ∙ same_after (least_after S F (pre ++ (t ∷ []))) refl;
+        atoms-in = next-within (t + 1) (omega arith, omega (arith, only.0));
+        keeps = λ p g s. keeps p g ((suc t ∷ s.0), s.1 ∙ ap (λ (m : List ℕ). m ++ s.0) at ∙ append_assoc pre (suc t ∷ []) s.0);
+        same = ap (search_from S F) at ∙ same_after (least_after S F (pre ++ (suc t ∷ []))) refl;
       }
 
     -- Candidates from t on that are skipped.

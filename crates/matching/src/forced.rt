@@ -19,11 +19,10 @@ pub(crate) fn advance(
     ensures { Forward atoms.now n m k chosen.old result chosen.new }
 {
     for i in k..m {
-        let t = forced(atoms, i, n);
-        if t == 0 {
+        let Some(t) = forced(atoms, i, n) else {
             return i;
-        }
-        chosen[i] = t as u16;
+        };
+        chosen[i] = (t + 1) as u16;
     }
     m
 }

@@ -98,17 +98,17 @@ fn try_row<'a>(
     ensures { Pruned (sheet_of state laid.now) (figure_of state parts.now) atoms.old links.old atoms.new links.new result }
 {
     let n = state.sheet.atom_count;
-    if forced(atoms, k, n) != 0 {
+    if forced(atoms, k, n).is_some() {
         return false;
     }
-    let mut t = next_from(atoms, k, 0);
-    while t < n {
+    let mut next = next_from(atoms, k, 0, n);
+    while let Some(t) = next {
         if try_candidate(
             state, users, owners, kin, laid, parts, k, t, atoms, links, lost, gone,
         ) {
             return true;
         }
-        t = next_from(atoms, k, t + 1);
+        next = next_from(atoms, k, t + 1, n);
     }
     false
 }

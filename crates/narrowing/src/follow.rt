@@ -1,5 +1,5 @@
 // Losses of figure atoms and figure links, and what follows from them.
-ghost use Rattle.std.specs.Prelude.{◌≡◌, true, List, ℕ, ◌<◌};
+ghost use Rattle.std.specs.Prelude.{◌≡◌, true, List, ℕ, ◌<◌, IfSome};
 ghost use Rattle.rows.specs.Limits.{sheet_link_limit};
 ghost use Rattle.candidates.specs.Laid.{laid_atom, Rowed};
 ghost use Rattle.candidates.specs.Tables.{AtomsStay, NoAtom};
@@ -61,15 +61,20 @@ fn atom_turn<'a>(
     alone(i, m, atoms, lost)
 }
 
-// The next pending link, counted from 0; none where it is no link of a sheet.
-fn next_link(pending: &[u64; 2]) -> usize {
+// The next pending link, counted from 0, where it is one of a sheet.
+fn next_link(pending: &[u64; 2]) -> Option<usize>
+    ensures { IfSome result (λ x. x < sheet_link_limit) }
+{
     if pending[0] != 0 {
-        return first(pending[0]);
+        return Some(first(pending[0]));
     }
     if pending[1] != 0 {
-        return DIGITS + first(pending[1]);
+        let x = DIGITS + first(pending[1]);
+        if x < Sheet::LINKS {
+            return Some(x);
+        }
     }
-    Sheet::LINKS
+    None
 }
 
 // Link x is no longer pending.
@@ -102,8 +107,7 @@ pub(crate) fn follow<'a>(
 {
     let mut due = first_due;
     for _ in 0..TURNS {
-        let x = next_link(pending);
-        if x < Sheet::LINKS {
+        if let Some(x) = next_link(pending) {
             done_link(pending, x);
             due = due | link_turn(users, owners, x, links, atoms, lost, gone);
         } else {

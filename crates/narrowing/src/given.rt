@@ -1,5 +1,5 @@
 // Sheet links that no sheet atom left for a figure atom has.
-ghost use Rattle.std.specs.Prelude.{◌≡◌, ℕ, ◌+◌, ◌*◌, ◌<◌, ◌≤◌, get_or};
+ghost use Rattle.std.specs.Prelude.{◌≡◌, ℕ, ◌+◌, ◌*◌, ◌<◌, ◌≤◌, get_or, MatchOption};
 ghost use Rattle.rows.specs.Format.{most_links};
 ghost use Rattle.rows.specs.Limits.{sheet_atom_limit, sheet_link_limit};
 ghost use Rattle.network.specs.NetIn.{Used};
@@ -15,16 +15,16 @@ use candidates::words::{first, minus, one};
 use candidates::{LAID, LINK_SETS};
 use rows::{Atom, Sheet};
 
-// The link of atom t at place k, or 0 where it has none there.
-fn link_at(laid: &[u16; LAID], t: usize, k: usize) -> usize
+// The link of atom t at place k, counted from 0, where it has one there.
+fn link_at(laid: &[u16; LAID], t: usize, k: usize) -> Option<usize>
     requires { (t < sheet_atom_limit) × (k < most_links) × Used sheet_link_limit (laid_atom laid.now t).count (laid_atom laid.now t).links }
-    ensures { (k < (laid_atom laid.now t).count → result ≡ link_of (laid_atom laid.now t) k) × ((laid_atom laid.now t).count ≤ k → result ≡ 0) × (result ≤ sheet_link_limit) }
+    ensures { MatchOption result ((laid_atom laid.now t).count ≤ k) (λ y. (k < (laid_atom laid.now t).count) × (link_of (laid_atom laid.now t) k ≡ y + 1) × (y < sheet_link_limit)) }
 {
     let at = t * Sheet::FIELDS;
     if laid[at + 1] as usize <= k {
-        return 0;
+        return None;
     }
-    laid[at + (2 + k)] as usize
+    Some(laid[at + (2 + k)] as usize - 1)
 }
 
 // The links that the atoms of a set have at place k, of the first n.
@@ -38,9 +38,8 @@ pub(crate) fn given(laid: &[u16; LAID], n: usize, row: u64, k: usize) -> [u64; 2
         let t = first(rest);
         rest = minus(rest, one(t));
         if t < n {
-            let y = link_at(laid, t, k);
-            if y != 0 {
-                let more = with(pair, y - 1);
+            if let Some(y) = link_at(laid, t, k) {
+                let more = with(pair, y);
                 pair = more;
             }
         }
@@ -66,10 +65,9 @@ fn missing<'a>(
         let t = first(rest);
         rest = minus(rest, one(t));
         if t < n {
-            let y = link_at(laid, t, k);
-            if y != 0 {
-                if users[k * Sheet::LINKS + (y - 1)] & row == 0 {
-                    let more = with(pair, y - 1);
+            if let Some(y) = link_at(laid, t, k) {
+                if users[k * Sheet::LINKS + y] & row == 0 {
+                    let more = with(pair, y);
                     pair = more;
                 }
             }

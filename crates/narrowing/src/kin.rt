@@ -1,15 +1,15 @@
 // A figure link that has one place to go.
-ghost use Rattle.std.specs.Prelude.{◌≡◌, ℕ, ◌+◌, ◌*◌, ◌<◌, ◌≤◌, get_or};
+ghost use Rattle.std.specs.Prelude.{◌≡◌, ℕ, ◌+◌, ◌*◌, ◌<◌, ◌≤◌, get_or, IfSome};
 ghost use Rattle.rows.specs.Format.{most_links};
 ghost use Rattle.rows.specs.Limits.{sheet_link_limit};
-ghost use Rattle.candidates.specs.Words.{word_digits, In, InPair};
+ghost use Rattle.candidates.specs.Words.{In, InPair};
 ghost use Rattle.candidates.specs.Tables.{LinksStay};
 ghost use Rattle.narrowing.specs.Steps.{AloneLink, KinNarrowed};
 
 use crate::PLACES;
 use crate::given::note_loss;
 use candidates::pairs::{common, first_link, is_empty, pair_at, set_pair, without, without_link};
-use candidates::words::{DIGITS, first};
+use candidates::words::first;
 use candidates::{KIN, LINK_SETS};
 use rows::Sheet;
 
@@ -89,18 +89,18 @@ fn alone_link(
     }
 }
 
-// A figure atom that has link x; `DIGITS` where there is none.
-fn owner_of(owners: &[u64; PLACES], x: usize) -> usize
+// A figure atom that has link x.
+fn owner_of(owners: &[u64; PLACES], x: usize) -> Option<usize>
     requires { x < sheet_link_limit }
-    ensures { result < word_digits → (k : ℕ) × (k < most_links) × In (get_or owners.now (k * sheet_link_limit + x) 0) result }
+    ensures { IfSome result (λ i. (k : ℕ) × (k < most_links) × In (get_or owners.now (k * sheet_link_limit + x) 0) i) }
 {
     for k in 0..Sheet::MOST_LINKS {
         let some = owners[k * Sheet::LINKS + x];
         if some != 0 {
-            return first(some);
+            return Some(first(some));
         }
     }
-    DIGITS
+    None
 }
 
 // The turn of figure link x: where others may go to its places too and a figure atom has it, only its kin keep its one
@@ -121,7 +121,7 @@ fn kin_turn<'a>(
     if is_empty(common(pair_at(links, x), others)) {
         return;
     }
-    if owner_of(owners, x) < DIGITS {
+    if owner_of(owners, x).is_some() {
         alone_link(kin, x, n, links, lost, pending);
     }
 }

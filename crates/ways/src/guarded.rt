@@ -46,10 +46,10 @@ fn guard(taken: &mut [u8; Sheet::ATOMS], atoms: &[u64; Sheet::ATOMS], n: usize, 
     requires { (row < sheet_atom_limit) × (n ≤ sheet_atom_limit) × (length taken.old ≡ sheet_atom_limit) }
     ensures { (length taken.new ≡ sheet_atom_limit) × StaysGuarded taken.old taken.new × GuardedTo atoms.now row taken.new n }
 {
-    let mut t = next_from(atoms, row, 0);
-    while t < n {
+    let mut next = next_from(atoms, row, 0, n);
+    while let Some(t) = next {
         taken[t] = guarded(taken[t]);
-        t = next_from(atoms, row, t + 1);
+        next = next_from(atoms, row, t + 1, n);
     }
 }
 
@@ -68,9 +68,8 @@ fn guard_row(
     requires { Rowed parts.now rows × (row < rows) × (n ≤ sheet_atom_limit) × (breaking ≤ row) × GuardsTo parts.now standing.now atoms.now n side row taken.old breaking }
     ensures { (result ≤ row + 1) × GuardsTo parts.now standing.now atoms.now n side (row + 1) taken.new result }
 {
-    let t = forced(atoms, row, n);
-    if t != 0 {
-        taken[t - 1] = 1;
+    if let Some(t) = forced(atoms, row, n) {
+        taken[t] = 1;
         return breaking;
     }
     if on_one_half(parts, rows, row, standing, side) {

@@ -1,9 +1,8 @@
-use Prim.Native.Nat.{ℕ, ◌-◌, ◌<◌}
+use Prim.Native.Nat.{ℕ}
 use mathlib.Core.Path.{◌≡◌, subst}
 use mathlib.Core.Logic.{◌⊎◌, inl, inr, ⊎_elim}
 use native.Mathlib.Decide.{ℕ_discrete}
 use native.Mathlib.Omega.{arith}
-use Rattle.rows.specs.Limits.{sheet_link_limit}
 use Rattle.rows.specs.declared.Atom.{Atom}
 use Rattle.candidates.specs.Laid.{laid_atom}
 use Rattle.candidates.specs.Words.{InPair, alone, fewer}
@@ -20,29 +19,27 @@ taken at n k rest t w less e f y g = go (ℕ_discrete g.0 t)
     go (yes q) = inl (subst (GivenBy at n rest k y) q g.1)
     go (no d) = let b = g.1 in inr (g.0, record { sheet-atom = b.sheet-atom; may = in-fewer _ _ _ f g.0 b.may (λ q. d (alone-only _ _ e g.0 q)); place = b.place; there = b.there })
 
-pub loop-rest-smaller-then-y-ne0 : goal.loop-rest-smaller-then-y-ne0
-loop-rest-smaller-then-y-ne0 c = fewer-smaller _ _ _ c.minus-rest.ensures c.first-t.result c.first-t.ensures.1 (alone-in _ _ c.one.ensures)
+pub loop-rest-smaller-in-Some : goal.loop-rest-smaller-in-Some
+loop-rest-smaller-in-Some c = fewer-smaller _ _ _ c.minus-rest.ensures c.first-t.result c.first-t.ensures.1 (alone-in _ _ c.one.ensures)
 
-pub loop-rest-preserved-then-y-ne0 : goal.loop-rest-preserved-then-y-ne0
-loop-rest-preserved-then-y-ne0 c =
+pub loop-rest-preserved-in-Some : goal.loop-rest-preserved-in-Some
+loop-rest-preserved-in-Some c =
     let s = c.args in
-    let a = c.link_at-y in
-    let small : a.result - 1 < sheet_link_limit = omega (arith, a.ensures.2) in
+    let a = c.in-Some in
     let e = c.with-more.ensures in
-    λ y h g. ⊎_elim (λ p. inl (with-kept _ _ small _ e y (in_pair h) p))
-    (λ q. ⊎_elim (λ b. inl (subst (InPair c.with-more.result) (let z : a.result - 1 ≡ y = omega (arith, a.ensures.0 b.place, b.there) in z) (with-there _ _ small _ e))) inr
+    λ y h g. ⊎_elim (λ p. inl (with-kept _ _ a.ensures.2 _ e y (in_pair h) p))
+    (λ q. ⊎_elim (λ b. inl (subst (InPair c.with-more.result) (let z : a.y ≡ y = omega (arith, a.ensures.1, b.there) in z) (with-there _ _ a.ensures.2 _ e))) inr
     (taken (laid_atom s.laid.now) s.n s.k c.loop-rest.rest c.first-t.result c.one.result c.minus-rest.result c.one.ensures c.minus-rest.ensures y q))
     (c.loop-rest.invariant y h g)
 
-pub loop-rest-smaller-else-y-ne0 : goal.loop-rest-smaller-else-y-ne0
-loop-rest-smaller-else-y-ne0 c = fewer-smaller _ _ _ c.minus-rest.ensures c.first-t.result c.first-t.ensures.1 (alone-in _ _ c.one.ensures)
+pub loop-rest-smaller-in_default : goal.loop-rest-smaller-in_default
+loop-rest-smaller-in_default c = fewer-smaller _ _ _ c.minus-rest.ensures c.first-t.result c.first-t.ensures.1 (alone-in _ _ c.one.ensures)
 
-pub loop-rest-preserved-else-y-ne0 : goal.loop-rest-preserved-else-y-ne0
-loop-rest-preserved-else-y-ne0 c =
+pub loop-rest-preserved-in_default : goal.loop-rest-preserved-in_default
+loop-rest-preserved-in_default c =
     let s = c.args in
-    let a = c.link_at-y in
     λ y h g. ⊎_elim inl
-    (λ q. ⊎_elim (λ b. absurd (omega (arith, c.if-y-ne0.false, a.ensures.0 b.place, b.there))) inr
+    (λ q. ⊎_elim (λ b. absurd (omega (arith, c.in_default.ensures, b.place))) inr
     (taken (laid_atom s.laid.now) s.n s.k c.loop-rest.rest c.first-t.result c.one.result c.minus-rest.result c.one.ensures c.minus-rest.ensures y q))
     (c.loop-rest.invariant y h g)
 

@@ -1,15 +1,15 @@
 -- A row with one place, a row on one half, a breaking row.
-use Rattle.std.proofs.Common.{◌-◌, arith}
+use Rattle.std.proofs.Common.{arith}
 use Rattle.ways.proofs.Guarding.{guards-taken, guards-half, guards-breaking}
 use Rattle.ways.proofs.guarded.guard_row.Goals as goal
 
 pub bounds-taken-t : goal.bounds-taken-t
-bounds-taken-t c = let only = (c.forced-t.ensures (c.forced-t.result - 1)).0 (let n = c.if-t-ne0.true in omega arith) in omega (arith, only.0, c.requires.2)
+bounds-taken-t c = let only = (c.forced.ensures c.in-Some.t).0 c.in-Some.is in omega (arith, only.0, c.requires.2)
 
-pub returns-then-t-ne0 : goal.returns-then-t-ne0
-returns-then-t-ne0 c = let a = c.args in
-    let only = (c.forced-t.ensures (c.forced-t.result - 1)).0 (let n = c.if-t-ne0.true in omega arith) in
-    (let h = c.requires.3 in omega arith, guards-taken a.parts.now a.standing.now a.atoms.now a.n a.side a.row a.taken.now a.breaking c.requires.4 (c.forced-t.result - 1) (omega (arith, only.0, c.requires.2)) only)
+pub returns-in-Some : goal.returns-in-Some
+returns-in-Some c = let a = c.args in
+    let only = (c.forced.ensures c.in-Some.t).0 c.in-Some.is in
+    (let h = c.requires.3 in omega arith, guards-taken a.parts.now a.standing.now a.atoms.now a.n a.side a.row a.taken.now a.breaking c.requires.4 c.in-Some.t (omega (arith, only.0, c.requires.2)) only)
 
 pub returns-then-on_one_half : goal.returns-then-on_one_half
 returns-then-on_one_half c = let a = c.args in
