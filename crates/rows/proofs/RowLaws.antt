@@ -7,13 +7,13 @@ use mathlib.Core.Bool.{Bool, true, false}
 use native.Mathlib.Numerals.{add-one}
 use native.Mathlib.Nat.{pow-suc, pow-le-pow_right}
 use native.Mathlib.Omega.{arith}
-use lib.Dec.{ltb, eqb}
+use lib.Dec.{ltb, leb, eqb}
 use lib.ListN.{length, get_or, drop, take, set, replicate, drop_of_length-le, length-take, length-drop}
 use lib.Seq.{drop-cons, get_or-take, get_or-drop, length-take-le}
 use borrow.Author.Tests.{eq-eqb, ne_eqb, ltb-false, eqb-true, eqb-false}
 use Rattle.rows.specs.Pick.{pick, and, or, not}
 use Rattle.rows.specs.Format.{field_width, field_count, blank, rules, letter_of, rule_of}
-use Rattle.rows.specs.Row.{Field, malformed, holds, misplaced_in, is_nil, field_of, suits, row_with, no_row, judged, fields_of, row_of}
+use Rattle.rows.specs.Row.{Field, malformed, holds, misplaced_in, is_nil, field_of, needed, suits, row_with, no_row, judged, fields_of, row_of}
 use Rattle.rows.specs.declared.row.Rule.{Rule}
 
 -- A number of i digits stays below ten to the i.
@@ -51,6 +51,12 @@ misplaced-digit b filled last e h =
     go true high l k q = absurd (bool.true≢false q)
     go false true l k q = absurd (bool.true≢false q)
     go false false l k q = (ltb-false _ _ l, ltb-false _ _ k)
+
+-- What a rule asks; `b` is whether it needs a number at the field.
+pub suits-by : (r : Rule) (f count : ℕ) (filled : Bool) (n : ℕ) (b : Bool) → needed r f count ≡ b
+    → suits r f count filled n ≡ pick b (and filled (and (leb r.low n) (leb n r.high))) (not filled)
+unfolding suits
+suits-by r f count filled n b e = rw e
 
 -- The four columns of a field that starts at `at`.
 abbrev pub columns : List ℕ → ℕ → List ℕ
