@@ -9,7 +9,7 @@ pub returns-then-only : goal.returns-then-only
 returns-then-only c =
     let a = c.args in
     let f = c.find-only in
-    λ sheet figure n l. closed_none sheet figure n.ready a.taken.now a.to.now a.flags.now c.requires.1 (λ x h. c.none_open.ensures.0 c.if-none_open.true x (omega (arith, h, n.contexts-in.link-count))) f.result (f.ensures sheet figure (over-of c.chains.new.table c.chains.ensures n l)) c.if-only.true c.nothing.result c.nothing.ensures
+    λ sheet figure n l. closed_none sheet figure n.ready a.taken.now a.to.now a.flags.now c.requires.1 (λ x h. c.none_open.ensures.0 c.if-none_open.true x (omega (arith, h, n.contexts-in.link-count))) f.result (f.ensures sheet figure (over-of c.chains.new.table c.chains.ensures n l)) c.if-only.true
 
 pub returns-then-none_open : goal.returns-then-none_open
 returns-then-none_open c =
@@ -36,7 +36,7 @@ returns-then-not-completable c =
     let a = c.args in
     let d = c.completable in
     λ sheet figure n l. let t = tables-of c.kinds-kind.result c.standing-words.result c.kinds-kind.ensures c.standing-words.ensures (over-of c.chains.new.table c.chains.ensures n l) in
-    least-none sheet figure n.ready a.taken.now a.to.now a.flags.now c.several-tried.result (several-of figure a.nets.count a.flags.now c.several-tried.result n.contexts-in.link-count (c.several-tried.ensures.1 figure n.contexts-in)) _ 192 refl d.result (d.ensures sheet figure t) c.if-not-completable.true c.nothing-then-not-completable.result c.nothing-then-not-completable.ensures
+    least-none sheet figure n.ready a.taken.now a.to.now a.flags.now c.several-tried.result (several-of figure a.nets.count a.flags.now c.several-tried.result n.contexts-in.link-count (c.several-tried.ensures.1 figure n.contexts-in)) _ 192 refl d.result (d.ensures sheet figure t) c.if-not-completable.true
 
 pub settled-links_to-requires : goal.settled-links_to-requires
 settled-links_to-requires c =
