@@ -1,12 +1,11 @@
 -- The atoms and marks of the figure agree with those of the sheet where `to` sends the links.
-use Rattle.std.specs.Prelude.{ℕ, ◌-◌, ◌≤◌, ◌<◌, ◌≡◌, ◌≢◌, List, Bool, true, false, take, get_or}
+use Rattle.std.specs.Prelude.{ℕ, ◌-◌, ◌≤◌, ◌<◌, ◌≡◌, ◌≢◌, List, Bool, true, false, take, get_or, Option, MatchOption}
 use Rattle.rows.specs.declared.Sheet as form
 use Rattle.placing.specs.Placing.{number_at}
 use Rattle.network.specs.NetIn.{net_in, atom_at}
 use Rattle.completing.specs.Leaf.{NoneWith}
 use Rattle.deciding.specs.Flags.{Among}
 use Rattle.deciding.specs.Links.{PlacesAgree, Told}
-use Rattle.deciding.specs.declared.links.Links.{Links}
 
 -- the place of m among the first n, or n where it is not there
 pub record PlaceOf (l : List ℕ) (n m r : ℕ) : Type 0 where
@@ -71,5 +70,6 @@ pub record Agrees (sheet figure : form.Sheet) (atoms to : List ℕ) : Type 0 whe
   pub marks-agree : MarksAgree sheet figure to
   pub marks-back : MarksBack sheet figure
 
-abbrev pub AllPut : form.Sheet → form.Sheet → List ℕ → Links → Type 0
-AllPut sheet figure atoms r = Judges sheet figure atoms (Agrees sheet figure atoms r.to) r.ok
+-- r is where the links go; where there is none, no good placing has these atoms
+abbrev pub AllPut : form.Sheet → form.Sheet → List ℕ → Option (List ℕ) → Type 0
+AllPut sheet figure atoms r = MatchOption r (NoneWith (net_in sheet) (net_in figure) (take figure.atom_count atoms)) (λ to. Agrees sheet figure atoms to)

@@ -1,9 +1,8 @@
 -- Flags for numbers from 1: which atoms are taken, which links are open.
-use Rattle.std.specs.Prelude.{ℕ, suc, ◌<◌, ◌≡◌, ◌≢◌, List, true, false, length, take, get_or}
+use Rattle.std.specs.Prelude.{ℕ, suc, ◌<◌, ◌≡◌, ◌≢◌, List, length, take, get_or, Option, MatchOption}
 use Rattle.rows.specs.Limits.{sheet_atom_limit, sheet_link_limit}
 use Rattle.placing.specs.Fillings.{places_of}
 use Rattle.network.specs.Ready.{Flag}
-use Rattle.deciding.specs.declared.taken.Taken.{Taken}
 use Rattle.deciding.specs.declared.opening.Opened.{Opened}
 
 -- the numbers up to n that have a flag, in ascending order
@@ -30,9 +29,9 @@ pub record Different (l : List ℕ) (n : ℕ) (flags : List ℕ) : Type 0 where
   pub flag-of : (i : ℕ) → i < n → Flag flags (get_or l i 0)
   pub of-flag : (j : ℕ) → get_or flags j 0 ≡ 1 → Among l n (suc j)
 
-pub record TakenBy (l : List ℕ) (n : ℕ) (r : Taken) : Type 0 where
-  pub different : r.ok ≡ true → Different l n r.flags
-  pub twice : r.ok ≡ false → Twice l n
+-- r are the flags of the first n, or none where two are the same
+abbrev pub TakenBy : List ℕ → ℕ → Option (List ℕ) → Type 0
+TakenBy l n r = MatchOption r (Twice l n) (λ flags. Different l n flags)
 
 -- Where the first n of a list are 0 there is a flag, and `none` instead.
 pub record Opens (l : List ℕ) (none n : ℕ) (to flags : List ℕ) : Type 0 where

@@ -12,13 +12,6 @@ use candidates::LAID;
 use candidates::laid::laid_atom;
 use rows::Sheet;
 
-// Where the figure links go, 0 while nothing decides it; `ok` is false where two places disagree.
-#[derive(Clone, Copy)]
-pub struct Links {
-    pub ok: bool,
-    pub to: [u16; Sheet::LINKS],
-}
-
 // Link x, from 0, at y; false where it is elsewhere.
 pub(crate) fn enter(to: &mut [u16; Sheet::LINKS], x: usize, y: u16) -> bool
     requires { x < sheet_link_limit }

@@ -6,14 +6,8 @@ ghost use Rattle.deciding.specs.Flags.{TakenBy};
 
 use rows::Sheet;
 
-// For each sheet atom 1 where a figure atom goes; `ok` is false where two go to one.
-#[derive(Clone, Copy)]
-pub struct Taken {
-    pub ok: bool,
-    pub flags: [u8; Sheet::ATOMS],
-}
-
-pub fn taken_by(count: usize, atoms_to: [u16; Sheet::ATOMS]) -> Taken
+// For each sheet atom 1 where a figure atom goes, or none where two go to one.
+pub fn taken_by(count: usize, atoms_to: [u16; Sheet::ATOMS]) -> Option<[u8; Sheet::ATOMS]>
     requires { (count ≤ sheet_atom_limit) × ((i : ℕ) → i < count → Range sheet_atom_limit (get_or atoms_to i 0)) }
     ensures { TakenBy atoms_to count result }
 {
@@ -21,9 +15,9 @@ pub fn taken_by(count: usize, atoms_to: [u16; Sheet::ATOMS]) -> Taken
     for i in 0..count {
         let t = (atoms_to[i] - 1) as usize;
         if flags[t] == 1 {
-            return Taken { ok: false, flags };
+            return None;
         }
         flags[t] = 1;
     }
-    Taken { ok: true, flags }
+    Some(flags)
 }

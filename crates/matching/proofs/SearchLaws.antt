@@ -5,18 +5,15 @@ use mathlib.Core.List.{List, [], ◌∷◌, ◌++◌, append_assoc}
 use mathlib.Core.Bool.{Bool, true, false}
 use mathlib.Core.Option.{Option, none, some}
 use native.Mathlib.Omega.{arith}
-use lib.ListN.{length, take, length-append}
+use lib.ListN.{length, length-append}
 use Rattle.rows.specs.Pick.{pick}
 use Rattle.rows.specs.declared.Sheet as form
 use Rattle.placing.specs.Net.{Net}
 use Rattle.placing.specs.First.{Least, Answer, after}
 use Rattle.placing.proofs.FirstLaws.{answer-only, first-answer, Tried, tried-none, tried-hit, tried-all}
-use Rattle.network.specs.NetIn.{net_in}
 use Rattle.network.specs.Begun.{Begun, test_after, bounds_after, least_after}
 use Rattle.network.proofs.Nowhere.{bounds-next, not-begun-nowhere, nowhere-not-begun, answer-after, tried-choice, zero-not-begun}
-use Rattle.settling.specs.Completed.{completed_in}
 use Rattle.matching.specs.Search.{behind, search_from, found_list, found_in}
-use Rattle.settling.specs.declared.complete.Completed.{Completed}
 use Rattle.matching.specs.declared.search.Found.{Found}
 
 by-ok : (l : List ℕ) (ok c : Bool) → ok ≡ c → pick ok (some l) none ≡ pick c (some l) none
@@ -80,17 +77,7 @@ module _ (S F : Net) (pre : List ℕ) (small : length pre < length F.atoms) wher
       whole : Answer (test_after S F pre) (bounds_after S F (length pre)) (some (t ∷ l))
       whole = subst (λ (bs : List ℕ). Least (test_after S F pre) bs (t ∷ l)) (sym (bounds-next S F (length pre) small)) (tried-hit (test_after S F pre) (length S.atoms) rest t l h u after-choice)
 
--- All figure atoms are placed: what completing gives, and nothing found.
+-- Nothing found.
 module _ (sheet figure : form.Sheet) where
   pub nothing-found : (r : Found) → r.ok ≡ false → found_in sheet figure r ≡ none
   nothing-found r h = by-ok (found_list sheet figure r) r.ok false h
-
-  module _ (chosen : List ℕ) (d : Completed) (e : completed_in sheet figure d ≡ least_after (net_in sheet) (net_in figure) (take figure.atom_count chosen)) where
-    abbrev completion : List ℕ
-    completion = take figure.class_count d.links_to ++ take sheet.atom_count d.given
-
-    completed-by : (c : Bool) → d.ok ≡ c → pick c (some completion) none ≡ least_after (net_in sheet) (net_in figure) (take figure.atom_count chosen)
-    completed-by c h = sym (by-ok completion d.ok c h) ∙ e
-
-    pub leaf-none : (r : Found) → d.ok ≡ false → r.ok ≡ false → found_in sheet figure r ≡ search_from (net_in sheet) (net_in figure) (take figure.atom_count chosen)
-    leaf-none r h k = nothing-found r k ∙ ap (behind (take figure.atom_count chosen)) (completed-by false h)

@@ -1,19 +1,19 @@
 -- The least completion, and what completing gives.
 use Prim.Native.Nat.{ℕ, suc, ◌+◌, ◌<◌}
-use mathlib.Core.Path.{◌≡◌, refl, sym, ◌∙◌, ap, subst}
+use mathlib.Core.Path.{◌≡◌, refl, sym, ◌∙◌, subst}
 use mathlib.Core.Logic.{inl, ◌≢◌}
-use mathlib.Core.List.{List, [], ◌++◌}
+use mathlib.Core.List.{List, []}
 use mathlib.Core.Bool.{Bool, true, false}
-use mathlib.Core.Option.{Option, none, some}
+use mathlib.Core.Option.{Option as Maybe, none}
 use native.Mathlib.Omega.{arith}
 use lib.ListN.{length, take, get_or, replicate, length-replicate}
 use lib.Seq.{drop_at}
-use Rattle.rows.specs.Pick.{pick}
+use Rattle.std.specs.Prelude.{Option, Some, None}
 use Rattle.rows.specs.Limits.{sheet_link_limit}
 use Rattle.rows.specs.declared.Sheet as form
 use Rattle.placing.specs.Net.{Net}
 use Rattle.placing.specs.First.{Answer}
-use Rattle.placing.proofs.FirstLaws.{both_ways, answer-only, first-answer}
+use Rattle.placing.proofs.FirstLaws.{answer-only, first-answer}
 use Rattle.network.specs.NetIn.{net_in}
 use Rattle.network.specs.Ready.{Ready, AtomsIn, LinksIn, state_in}
 use Rattle.network.specs.Begun.{test_after, bounds_after, least_after}
@@ -53,11 +53,8 @@ module _ (sheet figure : form.Sheet) (ready : Ready sheet figure) (taken to flag
   working : (atoms : List ℕ) → Placed sheet figure taken to atoms (unsettled figure flags) → Working sheet figure taken to tried atoms (unsettled figure flags)
   working atoms u = record { placed = u; several = several }
 
-  pub least-none : r ≡ false → (m : Completed) → m.ok ≡ false → LeastIn sheet figure taken to flags m
-  least-none e m f = record {
-    none = λ atoms u g. w.cannot atoms (unsettled figure flags) (working atoms u) (zeros-bar sheet figure to (unsettled figure flags) atoms bars n zeros) e;
-    least = λ atoms u g. both_ways g f;
-  }
+  pub least-none : r ≡ false → LeastIn sheet figure taken to flags None
+  least-none e atoms u = w.cannot atoms (unsettled figure flags) (working atoms u) (zeros-bar sheet figure to (unsettled figure flags) atoms bars n zeros) e
 
   -- all links are settled, and there is no fault
   module _ (e : r ≡ true) (links : List ℕ) (s : Settles sheet figure taken to flags tried links) where
@@ -65,32 +62,26 @@ module _ (sheet figure : form.Sheet) (ready : Ready sheet figure) (taken to flag
         → Settling (net_in sheet) (net_in figure) (state_in figure atoms to) (unsettled figure flags) (state_in figure atoms links) []
     last atoms u = s.settling atoms (working atoms u) (w.can atoms (unsettled figure flags) (working atoms u) e)
 
-    pub least-some : (given : List ℕ) → FindsAll sheet figure taken links (Ok given) → LeastIn sheet figure taken to flags (record { ok = true; links_to = links; given = given })
-    least-some given finds = record {
-      none = λ atoms u g. both_ways refl g;
-      least = λ atoms u g.
-          let t = last atoms u in
-          let v = finds atoms [] (taken-in-same sheet figure to atoms links taken u.taken_in) t.partial in
-          settling-done (net_in sheet) (net_in figure) ready.sheet-normal ready.figure-normal (state_in figure atoms to) (unsettled figure flags) (state_in figure atoms links) t (take sheet.atom_count given) v.1;
-    }
+    pub least-some : (given : List ℕ) → FindsAll sheet figure taken links (Ok given) → LeastIn sheet figure taken to flags (Some (record { links_to = links; given = given }))
+    least-some given finds atoms u =
+        let t = last atoms u in
+        let v = finds atoms [] (taken-in-same sheet figure to atoms links taken u.taken_in) t.partial in
+        settling-done (net_in sheet) (net_in figure) ready.sheet-normal ready.figure-normal (state_in figure atoms to) (unsettled figure flags) (state_in figure atoms links) t (take sheet.atom_count given) v.1
 
     -- where there is one, no atoms are placed so
-    pub least-faulty : (cut : List ℕ) → FindsAll sheet figure taken links (Err cut) → (m : Completed) → LeastIn sheet figure taken to flags m
-    least-faulty cut finds m = record { none = λ atoms u g. absurd (never atoms u); least = λ atoms u g. absurd (never atoms u) }
-      where
-        never : (atoms : List ℕ) → ¬ Placed sheet figure taken to atoms (unsettled figure flags)
-        never atoms u =
-            let t = last atoms u in
-            let v = finds atoms [] (taken-in-same sheet figure to atoms links taken u.taken_in) t.partial in
-            fault-settled (net_in sheet) (net_in figure) ready.sheet-normal ready.figure-normal (state_in figure atoms links) t.partial v.1 t.completable
+    pub least-faulty : (cut : List ℕ) → FindsAll sheet figure taken links (Err cut) → LeastIn sheet figure taken to flags None
+    least-faulty cut finds atoms u =
+        let t = last atoms u in
+        let v = finds atoms [] (taken-in-same sheet figure to atoms links taken u.taken_in) t.partial in
+        absurd (fault-settled (net_in sheet) (net_in figure) ready.sheet-normal ready.figure-normal (state_in figure atoms links) t.partial v.1 t.completable)
 
 -- No link is open: the finder decides.
 module _ (sheet figure : form.Sheet) (ready : Ready sheet figure) (taken to flags : List ℕ) (room : length flags ≡ sheet_link_limit) (closed : (x : ℕ) → x < figure.class_count → get_or flags x 0 ≢ 1) where
-  pub closed_none : (links : List ℕ) → FindsAll sheet figure taken to (Err links) → (n : Completed) → n.ok ≡ false → LeastIn sheet figure taken to flags n
-  closed_none links finds n k = least-none sheet figure ready taken to flags flags (several-all figure flags) [] 0 refl false
-      (found-refused sheet figure ready taken to flags room [] links (find-some sheet figure ready taken to flags room links finds) figure.class_count (omega arith) (λ atoms un w b x h g. absurd (closed x h g))) refl n k
+  pub closed_none : (links : List ℕ) → FindsAll sheet figure taken to (Err links) → LeastIn sheet figure taken to flags None
+  closed_none links finds = least-none sheet figure ready taken to flags flags (several-all figure flags) [] 0 refl false
+      (found-refused sheet figure ready taken to flags room [] links (find-some sheet figure ready taken to flags room links finds) figure.class_count (omega arith) (λ atoms un w b x h g. absurd (closed x h g))) refl
 
-  pub closed_some : (given : List ℕ) → FindsAll sheet figure taken to (Ok given) → LinksIn sheet figure to → LeastIn sheet figure taken to flags (record { ok = true; links_to = to; given = given })
+  pub closed_some : (given : List ℕ) → FindsAll sheet figure taken to (Ok given) → LinksIn sheet figure to → LeastIn sheet figure taken to flags (Some (record { links_to = to; given = given }))
   closed_some given finds l = least-some sheet figure ready taken to flags flags (several-all figure flags) [] 0 refl true (found_none sheet figure ready taken to flags room [] (find-none sheet figure ready taken to flags room given finds)) refl to
       (settled-already sheet figure ready taken to flags flags l closed) given finds
 
@@ -108,25 +99,16 @@ module _ (sheet figure : form.Sheet) (ready : Ready sheet figure) (atoms : List 
   bounds : bounds_after S F (length l) ≡ rest_bounds S F
   bounds = drop_at (replicate (length F.atoms) (length S.atoms)) (rest_bounds S F) (length l) (length-replicate (length F.atoms) (length S.atoms) ∙ sym (size sheet figure ready atoms a))
 
-  given : (o : Option (List ℕ)) → Answer (test_after S F l) (rest_bounds S F) o → o ≡ least_after S F l
+  given : (o : Maybe (List ℕ)) → Answer (test_after S F l) (rest_bounds S F) o → o ≡ least_after S F l
   given o b = answer-only (test_after S F l) (bounds_after S F (length l)) o (least_after S F l) (subst (λ (k : List ℕ). Answer (test_after S F l) k o) (sym bounds) b) (first-answer (test_after S F l) (bounds_after S F (length l)))
 
-  nothing : (r : Completed) → r.ok ≡ false → completed_in sheet figure r ≡ none
-  nothing r e = ap (λ (b : Bool). pick b (some (take figure.class_count r.links_to ++ take sheet.atom_count r.given)) none) e
-
-  something : (r : Completed) → r.ok ≡ true → completed_in sheet figure r ≡ some (take figure.class_count r.links_to ++ take sheet.atom_count r.given)
-  something r e = ap (λ (b : Bool). pick b (some (take figure.class_count r.links_to ++ take sheet.atom_count r.given)) none) e
-
   -- no good placing has these atoms
-  pub complete-none : NoneWith S F l → (r : Completed) → r.ok ≡ false → completed_in sheet figure r ≡ least_after S F l
-  complete-none n r e = nothing r e ∙ given none (leaf-none S F l (size sheet figure ready atoms a) n)
+  pub complete-none : NoneWith S F l → completed_in sheet figure None ≡ least_after S F l
+  complete-none n = given none (leaf-none S F l (size sheet figure ready atoms a) n)
 
   pub complete-least : (told : List ℕ) → (w : Agrees sheet figure atoms told) → (to flags : List ℕ) → (o : Opens told (sheet.class_count + 1) figure.class_count to flags)
-      → (taken : List ℕ) → Different atoms figure.atom_count taken → (r : Completed) → LeastIn sheet figure taken to flags r → completed_in sheet figure r ≡ least_after S F l
-  complete-least told w to flags o taken d r b = go r.ok refl
-    where
-      go : (k : Bool) → r.ok ≡ k → completed_in sheet figure r ≡ least_after S F l
-      go true e = something r e ∙ given _ (leaf-some S F l (size sheet figure ready atoms a) ready.figure-normal (state_in figure atoms to) (unsettled figure flags)
-          (state-of sheet figure ready atoms a told w to flags o) (open-links sheet figure ready atoms a told w to flags o) _ (b.least atoms (placed sheet figure ready atoms a told w to flags o taken d) e))
-      go false e = complete-none (not-completable S F l ready.figure-normal (state_in figure atoms to) (unsettled figure flags)
-          (state-of sheet figure ready atoms a told w to flags o) (open-links sheet figure ready atoms a told w to flags o) (b.none atoms (placed sheet figure ready atoms a told w to flags o taken d) e)) r e
+      → (taken : List ℕ) → Different atoms figure.atom_count taken → (r : Option Completed) → LeastIn sheet figure taken to flags r → completed_in sheet figure r ≡ least_after S F l
+  complete-least told w to flags o taken d None b = complete-none (not-completable S F l ready.figure-normal (state_in figure atoms to) (unsettled figure flags)
+      (state-of sheet figure ready atoms a told w to flags o) (open-links sheet figure ready atoms a told w to flags o) (b atoms (placed sheet figure ready atoms a told w to flags o taken d)))
+  complete-least told w to flags o taken d (Some r) b = given _ (leaf-some S F l (size sheet figure ready atoms a) ready.figure-normal (state_in figure atoms to) (unsettled figure flags)
+      (state-of sheet figure ready atoms a told w to flags o) (open-links sheet figure ready atoms a told w to flags o) _ (b atoms (placed sheet figure ready atoms a told w to flags o taken d)))

@@ -111,7 +111,8 @@ pub record Settles (sheet figure : form.Sheet) (taken to opened flags r : List �
   pub settling : (atoms : List ℕ) → Working sheet figure taken to flags atoms (unsettled figure opened) → CompletableIn sheet figure to (unsettled figure opened) atoms
       → Settling (net_in sheet) (net_in figure) (state_in figure atoms to) (unsettled figure opened) (state_in figure atoms r) []
 
-pub record LeastIn (sheet figure : form.Sheet) (taken to flags : List ℕ) (r : Completed) : Type 0 where
-  pub none : (atoms : List ℕ) → Placed sheet figure taken to atoms (unsettled figure flags) → r.ok ≡ false → ¬ CompletableIn sheet figure to (unsettled figure flags) atoms
-  pub least : (atoms : List ℕ) → Placed sheet figure taken to atoms (unsettled figure flags) → r.ok ≡ true
-      → LeastCompletion (net_in sheet) (net_in figure) (state_in figure atoms to) (unsettled figure flags) (completed (state_in figure atoms r.links_to) (take sheet.atom_count r.given))
+-- r is the least completion, or none where there is no completion
+abbrev pub LeastIn : form.Sheet → form.Sheet → List ℕ → List ℕ → List ℕ → Option Completed → Type 0
+LeastIn sheet figure taken to flags r = (atoms : List ℕ) → Placed sheet figure taken to atoms (unsettled figure flags)
+    → MatchOption r (¬ CompletableIn sheet figure to (unsettled figure flags) atoms)
+    (λ d. LeastCompletion (net_in sheet) (net_in figure) (state_in figure atoms to) (unsettled figure flags) (completed (state_in figure atoms d.links_to) (take sheet.atom_count d.given)))

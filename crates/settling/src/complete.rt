@@ -1,5 +1,5 @@
 // The least completion of placed atoms.
-ghost use Rattle.std.specs.Prelude.{◌≡◌, true, false, ◌↔◌, ◌≢◌, ℕ, ◌<◌, ◌≤◌, length, take, get_or};
+ghost use Rattle.std.specs.Prelude.{◌≡◌, true, ◌↔◌, ◌≢◌, ℕ, ◌<◌, ◌≤◌, length, take, get_or};
 ghost use Rattle.rows.specs.Limits.{sheet_link_limit};
 ghost use Rattle.rows.specs.declared.Sheet.{Sheet as NormalForm};
 ghost use Rattle.network.specs.NetIn.{net_in};
@@ -30,19 +30,8 @@ use stepping::standing::standing;
 // Where the figure links go, and the context of each sheet atom, 0 where a figure atom goes.
 #[derive(Clone, Copy)]
 pub struct Completed {
-    pub ok: bool,
     pub links_to: [u16; Sheet::LINKS],
     pub given: [u16; Sheet::ATOMS],
-}
-
-fn nothing() -> Completed
-    ensures { result.ok ≡ false }
-{
-    Completed {
-        ok: false,
-        links_to: [0; Sheet::LINKS],
-        given: [0; Sheet::ATOMS],
-    }
 }
 
 // None of the first `count` links has a flag.
@@ -58,14 +47,15 @@ fn none_open(flags: &[u8; Sheet::LINKS], count: usize) -> bool
     true
 }
 
-// The least completion where the links with a flag are open. Where none is, one look for a fault decides.
+// The least completion, if there is one, where the links with a flag are open. Where none is, one look for a fault
+// decides.
 fn least<'a>(
     nets: Nets,
     laid: &'a [u16; LAID],
     taken: &'a [u8; Sheet::ATOMS],
     to: &'a [u16; Sheet::LINKS],
     flags: &'a [u8; Sheet::LINKS],
-) -> Completed
+) -> Option<Completed>
     requires { ((sheet : NormalForm) × (figure : NormalForm) × NetsIn sheet figure nets laid.now × LinksIn sheet figure to.now) × (length flags.now ≡ sheet_link_limit) }
     ensures { (sheet figure : NormalForm) → NetsIn sheet figure nets laid.now → LinksIn sheet figure to.now → LeastIn sheet figure taken.now to.now flags.now result }
 {
@@ -73,13 +63,12 @@ fn least<'a>(
     chains(&mut table, laid, nets.atoms);
     if none_open(flags, nets.count) {
         let Ok(given) = find(nets, laid, &table, taken, to) else {
-            return nothing();
+            return None;
         };
-        return Completed {
-            ok: true,
+        return Some(Completed {
             links_to: *to,
             given,
-        };
+        });
     }
     let contexts = nets.contexts;
     let kind = kinds(contexts, nets.rows);
@@ -87,42 +76,31 @@ fn least<'a>(
     let tried = several(contexts, nets.rows, nets.count, flags);
     let mut bars = [0u64; LINK_SETS];
     if !completable(nets, laid, &table, taken, &kind, &words, to, &tried, &bars) {
-        return nothing();
+        return None;
     }
     let links_to = settled(
         nets, laid, &table, taken, &kind, &words, to, flags, &tried, &mut bars,
     );
     let Ok(given) = find(nets, laid, &table, taken, &links_to) else {
-        return nothing();
+        return None;
     };
-    Completed {
-        ok: true,
-        links_to,
-        given,
-    }
+    Some(Completed { links_to, given })
 }
 
-// Links and contexts of the least good placing with these atoms. `laid` are the sheet's atoms, `parts` the
-// figure's.
+// Links and contexts of the least good placing with these atoms, if there is one. `laid` are the sheet's atoms, `parts`
+// the figure's.
 pub fn complete<'a>(
     sheet: Frame,
     figure: Frame,
     laid: &'a [u16; LAID],
     parts: &'a [u16; LAID],
     atoms_to: [u16; Sheet::ATOMS],
-) -> Completed
+) -> Option<Completed>
     requires { Ready (whole sheet laid.now) (whole figure parts.now) × AtomsIn (whole sheet laid.now) figure.atom_count atoms_to × LaidOut (whole sheet laid.now) laid.now sheet.atom_count × LaidOut (whole figure parts.now) parts.now figure.atom_count }
     ensures { completed_in (whole sheet laid.now) (whole figure parts.now) result ≡ least_after (net_in (whole sheet laid.now)) (net_in (whole figure parts.now)) (take figure.atom_count atoms_to) }
 {
-    let taken = taken_by(figure.atom_count, atoms_to);
-    if !taken.ok {
-        return nothing();
-    }
-    let links = links_of(sheet, figure, laid, parts, atoms_to);
-    if !links.ok {
-        return nothing();
-    }
-    let told = links.to;
+    let taken = taken_by(figure.atom_count, atoms_to)?;
+    let told = links_of(sheet, figure, laid, parts, atoms_to)?;
     let none = (sheet.class_count + 1) as u16;
     let opened = open_links(told, none, figure.class_count);
     let contexts = figure.contexts;
@@ -133,5 +111,5 @@ pub fn complete<'a>(
         rows: figure.context_count,
         count: figure.class_count,
     };
-    least(nets, laid, &taken.flags, &opened.to, &opened.flags)
+    least(nets, laid, &taken, &opened.to, &opened.flags)
 }

@@ -8,7 +8,7 @@ use Rattle.settling.proofs.complete.least.Goals as goal
 pub returns-in_default : goal.returns-in_default
 returns-in_default c =
     let a = c.args in
-    λ sheet figure n l. closed_none sheet figure n.ready a.taken.now a.to.now a.flags.now c.requires.1 (λ x h. c.none_open.ensures.0 c.if-none_open.true x (omega (arith, h, n.contexts-in.link-count))) _ (c.in_default.ensures sheet figure (over-of c.chains.new.table c.chains.ensures n l)) c.nothing.result c.nothing.ensures
+    λ sheet figure n l. closed_none sheet figure n.ready a.taken.now a.to.now a.flags.now c.requires.1 (λ x h. c.none_open.ensures.0 c.if-none_open.true x (omega (arith, h, n.contexts-in.link-count))) _ (c.in_default.ensures sheet figure (over-of c.chains.new.table c.chains.ensures n l))
 
 pub returns-then-none_open : goal.returns-then-none_open
 returns-then-none_open c =
@@ -34,7 +34,7 @@ returns-then-not-completable c =
     let a = c.args in
     let d = c.completable in
     λ sheet figure n l. let t = tables-of c.kinds-kind.result c.standing-words.result c.kinds-kind.ensures c.standing-words.ensures (over-of c.chains.new.table c.chains.ensures n l) in
-    least-none sheet figure n.ready a.taken.now a.to.now a.flags.now c.several-tried.result (several-of figure a.nets.count a.flags.now c.several-tried.result n.contexts-in.link-count (c.several-tried.ensures.1 figure n.contexts-in)) _ 192 refl d.result (d.ensures sheet figure t) c.if-not-completable.true c.nothing-then-not-completable.result c.nothing-then-not-completable.ensures
+    least-none sheet figure n.ready a.taken.now a.to.now a.flags.now c.several-tried.result (several-of figure a.nets.count a.flags.now c.several-tried.result n.contexts-in.link-count (c.several-tried.ensures.1 figure n.contexts-in)) _ 192 refl d.result (d.ensures sheet figure t) c.if-not-completable.true
 
 pub settled-links_to-requires : goal.settled-links_to-requires
 settled-links_to-requires c =
@@ -47,7 +47,7 @@ returns-in_default-find c =
     let d = c.completable in
     let s = c.settled-links_to in
     λ sheet figure n l. let t = tables-of c.kinds-kind.result c.standing-words.result c.kinds-kind.ensures c.standing-words.ensures (over-of c.chains.new.table c.chains.ensures n l) in
-    least-faulty sheet figure n.ready a.taken.now a.to.now a.flags.now c.several-tried.result (several-of figure a.nets.count a.flags.now c.several-tried.result n.contexts-in.link-count (c.several-tried.ensures.1 figure n.contexts-in)) _ 192 refl d.result (d.ensures sheet figure t) c.if-not-completable.false s.result (s.ensures sheet figure t) _ (c.in_default-find.ensures sheet figure (over-of c.chains.new.table c.chains.ensures n (s.ensures sheet figure t).links-in)) c.nothing-in_default-find.result
+    least-faulty sheet figure n.ready a.taken.now a.to.now a.flags.now c.several-tried.result (several-of figure a.nets.count a.flags.now c.several-tried.result n.contexts-in.link-count (c.several-tried.ensures.1 figure n.contexts-in)) _ 192 refl d.result (d.ensures sheet figure t) c.if-not-completable.false s.result (s.ensures sheet figure t) _ (c.in_default-find.ensures sheet figure (over-of c.chains.new.table c.chains.ensures n (s.ensures sheet figure t).links-in))
 
 pub returns : goal.returns
 returns c =
