@@ -23,14 +23,12 @@ fn word_end(case: &[u8], from: usize) -> usize
     ensures after { from ≤ result }
     ensures within { result ≤ length case.now }
 {
-    let mut k = from;
-    while k < case.len() {
+    for k in from..case.len() {
         if case[k] == b' ' {
             return k;
         }
-        k += 1;
     }
-    k
+    case.len()
 }
 
 // Where the word after the one that ends at `end` begins.
