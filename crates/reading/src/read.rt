@@ -68,8 +68,7 @@ pub fn read_text(
     let mut c = 0;
     let mut n = 0;
     let mut m = 0;
-    let mut k = 0;
-    while k * Sheet::ROW < text.len() {
+    for k in 0..text.len().div_ceil(Sheet::ROW) {
         let row = next_row(kind, c, text, k)?;
         let last = contexts[c.saturating_sub(1)].number;
         let clash = row_clash(kind, pattern, ports, last, row);
@@ -81,8 +80,7 @@ pub fn read_text(
         ports = table;
         n = add_row_links(&mut links, &mut labels, n, row, &mut hints);
         m = add_row_mark(&links, &mut labels, &mut marks, &mut on, n, m, row);
-        k += 1;
-        late_answer(kind, a, c, n, m, clash, k)?;
+        late_answer(kind, a, c, n, m, clash, k + 1)?;
     }
     let normal = normal_from(
         atoms,

@@ -1,7 +1,4 @@
 -- Invariant: the arrays hold what k rows hold, what is left decides the outcome, and no link is without a hint.
-use Prim.Native.Nat.{◌-◌, ◌*◌}
-use lib.ListN.{length}
-use Rattle.rows.specs.Format.{row_width}
 use Rattle.linking.specs.Steps.{Hinted}
 use Rattle.reading.proofs.read.Turn.{Kept}
 use Rattle.reading.proofs.read.read_text.Given as goal
@@ -24,6 +21,3 @@ invariant-loop-k l =
       });
       hinted : Hinted l.hints l.links l.n;
     }
-
-abbrev pub decreases-loop-k : goal.decreases-loop-k
-decreases-loop-k l = length l.text - l.k * row_width
