@@ -70,6 +70,7 @@ pub fn read_text(
     let mut m = 0;
     for k in 0..text.len().div_ceil(Sheet::ROW) {
         let row = next_row(kind, c, text, k)?;
+        // that of the last context; where there is none, that of an empty one
         let last = contexts[c.saturating_sub(1)].number;
         let clash = row_clash(kind, pattern, ports, last, row);
         atoms[a] = atom_of(row);

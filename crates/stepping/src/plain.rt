@@ -1,5 +1,5 @@
 // Plain steps: an atom that leads from one sheet link to one other. Atoms and links are counted from 0, but for
-// links in rows of atoms and links that are found, which are counted from 1.
+// links in rows of atoms, which are counted from 1.
 ghost use Rattle.std.specs.Prelude.{◌≡◌, true, ◌≢◌, ℕ, suc, ◌-◌, ◌<◌, ◌≤◌, IfSome, get_or};
 ghost use Rattle.rows.specs.Format.{most_links};
 ghost use Rattle.rows.specs.Limits.{sheet_atom_limit, sheet_link_limit, figure_contexts};
