@@ -1,3 +1,5 @@
-pub mod Answers
+pub mod Done
+pub mod Compared
+pub mod Claimed
 pub mod AnswerRow
 pub mod Values

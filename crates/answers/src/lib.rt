@@ -1,14 +1,16 @@
 // The numbers of document 01's table for each task's answer, and what a program prints of them.
 #![tactic(auto)]
 
+pub mod outcome;
 pub mod row;
 
 ghost use Rattle.std.specs.Prelude.{◌≡◌, false};
 ghost use Rattle.sheet.specs.Answer.{refusal_number};
-ghost use Rattle.answers.specs.Answers.{error_number, error_input, error_row};
-ghost use Rattle.answers.specs.Values.{reading_values, written_values, decided_values};
+ghost use Rattle.answers.specs.Values.{reading_values, normalised_values, done_values, compared_values, claimed_values};
 
-use sheet::answer::{Refusal, RefusedRow, TaskError, of_input};
+use crate::outcome::{Claimed, Compared, Done};
+use normalising::normalise::Normalised;
+use sheet::answer::{Answer, Refusal};
 
 // The table's number of an answer, its input and row, and the bytes written.
 #[derive(Clone, Copy)]
@@ -45,32 +47,6 @@ pub fn refusal_number(why: Refusal) -> u16
     }
 }
 
-// The error's number in the table.
-fn error_number(error: TaskError) -> u16
-    ensures { result ≡ error_number error }
-{
-    match error {
-        TaskError::Refused(_, why, _) => refusal_number(why),
-        TaskError::BlankClash(_, _) => 8,
-        TaskError::EdgeDiffers(_, _) => 9,
-        TaskError::ShortSlip => 10,
-        TaskError::NoPlacing => 11,
-        TaskError::TooLarge => 12,
-    }
-}
-
-// The input and the row that the error names, or 0 and 0.
-fn error_place(error: TaskError) -> (u16, usize)
-    ensures { result ≡ (error_input error, error_row error) }
-{
-    match error {
-        TaskError::Refused(input, _, row) => (input, row),
-        TaskError::BlankClash(input, row) => (input, row),
-        TaskError::EdgeDiffers(input, row) => (input, row),
-        TaskError::ShortSlip | TaskError::NoPlacing | TaskError::TooLarge => (0, 0),
-    }
-}
-
 // Done, and these bytes are written.
 fn written(bytes: usize) -> TaskAnswer
     ensures { result ≡ record { number = 0; input = 0; row = 0; bytes = bytes } }
@@ -84,35 +60,50 @@ fn written(bytes: usize) -> TaskAnswer
 }
 
 // A refusal writes nothing.
-fn refused(error: TaskError) -> TaskAnswer
-    ensures { result ≡ record { number = error_number error; input = error_input error; row = error_row error; bytes = 0 } }
+fn refused(number: u16, input: u16, row: usize) -> TaskAnswer
+    ensures { result ≡ record { number = number; input = input; row = row; bytes = 0 } }
 {
-    let (input, row) = error_place(error);
     TaskAnswer {
-        number: error_number(error),
+        number,
         input,
         row,
         bytes: 0,
     }
 }
 
-// What a reader hands back of the text that is this input of its task.
-pub fn of_reading<T: Drop>(reading: Result<T, RefusedRow>, input: u16) -> TaskAnswer
-    ensures { result ≡ reading_values input reading }
+// What a reader answers of the text that is this input of its task.
+pub fn of_reading(answer: Answer, input: u16) -> TaskAnswer
+    ensures { result ≡ reading_values input answer }
 {
-    match of_input(input, reading) {
-        Ok(_) => written(0),
-        Err(error) => refused(error),
+    match answer {
+        Answer::Passed => written(0),
+        Answer::Refused(why, row) => refused(refusal_number(why), input, row),
     }
 }
 
-// What a task with an output answers.
-pub fn of_written(answer: Result<usize, TaskError>) -> TaskAnswer
-    ensures { result ≡ written_values answer }
+// What normalising answers.
+pub fn of_normalised(done: Normalised) -> TaskAnswer
+    ensures { result ≡ normalised_values done }
 {
-    match answer {
-        Ok(bytes) => written(bytes),
-        Err(error) => refused(error),
+    match done {
+        Normalised::Written(bytes) => written(bytes),
+        Normalised::ShortSlip => refused(10, 0, 0),
+        Normalised::Refused(why, row) => refused(refusal_number(why), 1, row),
+    }
+}
+
+// What fill, place and swap answer.
+pub fn of_done(done: Done) -> TaskAnswer
+    ensures { result ≡ done_values done }
+{
+    match done {
+        Done::Written(bytes) => written(bytes),
+        Done::ShortSlip => refused(10, 0, 0),
+        Done::Refused(input, why, row) => refused(refusal_number(why), input, row),
+        Done::BlankClash(input, row) => refused(8, input, row),
+        Done::EdgeDiffers(input, row) => refused(9, input, row),
+        Done::NoPlacing => refused(11, 0, 0),
+        Done::TooLarge => refused(12, 0, 0),
     }
 }
 
@@ -130,12 +121,11 @@ fn decided(yes: bool) -> Verdict
 }
 
 // A refusal says no.
-fn denied(error: TaskError) -> Verdict
-    ensures { result ≡ record { number = error_number error; input = error_input error; row = error_row error; bytes = 0; yes = false } }
+fn denied(number: u16, input: u16, row: usize) -> Verdict
+    ensures { result ≡ record { number = number; input = input; row = row; bytes = 0; yes = false } }
 {
-    let (input, row) = error_place(error);
     Verdict {
-        number: error_number(error),
+        number,
         input,
         row,
         bytes: 0,
@@ -143,12 +133,26 @@ fn denied(error: TaskError) -> Verdict
     }
 }
 
-// What compare and claim answer: yes for two that are the same, or a claim that holds, alone.
-pub fn of_decided(answer: Result<bool, TaskError>) -> Verdict
-    ensures { result ≡ decided_values answer }
+// What compare answers: yes for the same alone.
+pub fn of_compared(done: Compared) -> Verdict
+    ensures { result ≡ compared_values done }
 {
-    match answer {
-        Ok(yes) => decided(yes),
-        Err(error) => denied(error),
+    match done {
+        Compared::Same => decided(true),
+        Compared::Differs => decided(false),
+        Compared::Refused(input, why, row) => denied(refusal_number(why), input, row),
+    }
+}
+
+// What claim answers: yes for a claim that holds alone.
+pub fn of_claimed(claimed: Claimed) -> Verdict
+    ensures { result ≡ claimed_values claimed }
+{
+    match claimed {
+        Claimed::Holds => decided(true),
+        Claimed::Differs => decided(false),
+        Claimed::Refused(input, why, row) => denied(refusal_number(why), input, row),
+        Claimed::BlankClash(input, row) => denied(8, input, row),
+        Claimed::EdgeDiffers(input, row) => denied(9, input, row),
     }
 }

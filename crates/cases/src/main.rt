@@ -5,7 +5,7 @@
 ghost use Rattle.std.specs.Prelude.{◌≤◌, length};
 
 use answers::row::{answer_row, verdict_row, written_part};
-use answers::{TaskAnswer, Verdict, of_decided, of_written};
+use answers::{TaskAnswer, Verdict, of_claimed, of_compared, of_done, of_normalised};
 use claiming::claim::claim;
 use comparing::compare::compare;
 use filling::fill::fill;
@@ -61,25 +61,25 @@ fn run_task(
     match task {
         b"normalise" => {
             let done = normalise_sheet(first, &mut out);
-            print_answer(rt, of_written(done), &out)
+            print_answer(rt, of_normalised(done), &out)
         }
         b"normalise_figure" => {
             let done = normalise_figure(first, &mut out);
-            print_answer(rt, of_written(done), &out)
+            print_answer(rt, of_normalised(done), &out)
         }
-        b"compare" => print_verdict(rt, of_decided(compare(first, second))),
+        b"compare" => print_verdict(rt, of_compared(compare(first, second))),
         b"fill" => {
             let done = fill(first, second, &mut out);
-            print_answer(rt, of_written(done), &out)
+            print_answer(rt, of_done(done), &out)
         }
         b"place" => {
             let done = place(first, second, &mut out);
-            print_answer(rt, of_written(done), &out)
+            print_answer(rt, of_done(done), &out)
         }
-        b"claim" => print_verdict(rt, of_decided(claim(first, second, third))),
+        b"claim" => print_verdict(rt, of_claimed(claim(first, second, third))),
         b"swap" => {
             let done = swap(first, second, third, &mut out);
-            print_answer(rt, of_written(done), &out)
+            print_answer(rt, of_done(done), &out)
         }
         _ => Ok(()),
     }

@@ -2,7 +2,7 @@
 // and 1 for yes, else 0. The files are those that the arguments name, or sheet.txt, figure.txt and list.txt.
 #![tactic(auto)]
 
-use answers::of_decided;
+use answers::of_claimed;
 use answers::row::verdict_row;
 use claiming::claim::claim;
 use rows::Sheet;
@@ -19,5 +19,5 @@ fn main(rt: HostRuntime) -> io::Result<()> {
         return Ok(());
     };
     let claimed = claim(&sheet[..n], &figure[..m], &list[..p]);
-    rt.write_all(&verdict_row(of_decided(claimed)))
+    rt.write_all(&verdict_row(of_claimed(claimed)))
 }

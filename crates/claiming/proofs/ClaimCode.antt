@@ -1,5 +1,4 @@
 -- What the code of claim finds on its way is what checking a claim answers.
-use Rattle.std.specs.Prelude.{Ok, Err}
 use Prim.Native.Nat.{ℕ, ◌<◌, ◌≤◌}
 use mathlib.Core.Path.{◌≡◌, refl, ap, ap₂, sym, ◌∙◌, subst}
 use mathlib.Core.Bool.{Bool, true, false}
@@ -16,13 +15,8 @@ use Rattle.reading.specs.NormalSheet.{packed_normal}
 use Rattle.sheet.specs.Reading.{outcome_of, no_ports}
 use Rattle.rows.specs.declared.Sheet as form
 use Rattle.sheet.specs.declared.kind.Kind.TheVariants.{Plain, Figure, Fillings}
-use Rattle.sheet.specs.Answer.{Passed}
-use Rattle.sheet.specs.TaskAnswer.{input_answer}
-use Rattle.sheet.specs.declared.answer.TaskError.{TaskError}
-use Rattle.sheet.proofs.TaskAnswer.{input-refused}
-use Rattle.reading.specs.Made.{reading_of}
-use Rattle.reading.specs.Readings.{sheet_read}
-use Rattle.sheet.specs.declared.answer.TaskError.TheVariants as error
+use Rattle.sheet.specs.declared.answer.Refusal.{Refusal}
+use Rattle.sheet.specs.declared.answer.Answer.TheVariants as read
 use Rattle.placing.specs.Net.{Net, Normal}
 use Rattle.placing.specs.Placing.{Placing}
 use Rattle.placing.specs.Smallest.{smallest}
@@ -44,13 +38,15 @@ use Rattle.filling.proofs.Answers.{lacking-made, differing-made}
 use Rattle.filling.proofs.ResultNet.{result-sheet}
 use Rattle.claiming.specs.Claim.{filled_net, placed_claim, claimed_answer, claim_answer}
 use Rattle.claiming.specs.Inputs.{ClaimInputs}
+use Rattle.answers.specs.declared.outcome.Claimed.TheVariants.{Holds, Differs, Refused, BlankClash, EdgeDiffers}
 use Rattle.claiming.proofs.Listed.{listed-atoms}
 
 -- A placing of the filled figure was found, or none.
-pub found-claim : (sheet filled : form.Sheet) (r : Found) → placed_in sheet filled r ≡ smallest (net_in sheet) (net_in filled) → r.ok ≡ placed_claim (smallest (net_in sheet) (net_in filled))
-found-claim sheet filled r e = go r.ok _ ∙ ap placed_claim e
+pub found-claim : (sheet filled : form.Sheet) (r : Found) (b : Bool) → placed_in sheet filled r ≡ smallest (net_in sheet) (net_in filled) → r.ok ≡ b
+    → pick b Holds Differs ≡ placed_claim (smallest (net_in sheet) (net_in filled))
+found-claim sheet filled r b e h = ap (λ (c : Bool). pick c Holds Differs) (sym h) ∙ go r.ok _ ∙ ap placed_claim e
   where
-    go : (ok : Bool) (p : Placing) → ok ≡ placed_claim (pick ok (some p) none)
+    go : (ok : Bool) (p : Placing) → pick ok Holds Differs ≡ placed_claim (pick ok (some p) none)
     go true p = refl
     go false p = refl
 
@@ -75,17 +71,17 @@ module _ (s f list : List ℕ) where
   nought : (n : ℕ) → n ≡ 0 → ltb 0 n ≡ false
   nought n e = le-ltb 0 n (omega arith)
 
-  answer-lacking : (n : ℕ) → n ≡ lack → (n ≡ 0 → ⊥) → Err (error.BlankClash 2 n) ≡ claimed_answer s f list
+  answer-lacking : (n : ℕ) → n ≡ lack → (n ≡ 0 → ⊥) → BlankClash 2 n ≡ claimed_answer s f list
   unfolding claimed_answer
   answer-lacking n e h = rw (← e, above n h)
 
-  answer-differing : lack ≡ 0 → (n : ℕ) → n ≡ differ → (n ≡ 0 → ⊥) → Err (error.EdgeDiffers 3 n) ≡ claimed_answer s f list
+  answer-differing : lack ≡ 0 → (n : ℕ) → n ≡ differ → (n ≡ 0 → ⊥) → EdgeDiffers 3 n ≡ claimed_answer s f list
   unfolding claimed_answer
   answer-differing z n e h = rw (nought lack z, ← e, above n h)
 
-  answer-sized : lack ≡ 0 → differ ≡ 0 → (b : Bool) → is_too_large (filled_by f list) ≡ b → pick b (Ok false) (Ok (placed_claim (smallest (sheet_net s) (filled_net f list)))) ≡ claimed_answer s f list
+  answer-sized : lack ≡ 0 → differ ≡ 0 → (b : Bool) → is_too_large (filled_by f list) ≡ b → pick b Differs (placed_claim (smallest (sheet_net s) (filled_net f list))) ≡ claimed_answer s f list
   unfolding claimed_answer
-  answer-sized z y b t = rw (nought lack z, nought differ y) (ap (λ c. pick c (Ok false) (Ok (placed_claim (smallest (sheet_net s) (filled_net f list))))) (sym t))
+  answer-sized z y b t = rw (nought lack z, nought differ y) (ap (λ c. pick c Differs (placed_claim (smallest (sheet_net s) (filled_net f list)))) (sym t))
 
 pub figure-counted : (sheet figure : form.Sheet) (s f : List ℕ) → ClaimInputs sheet figure s f → Counted figure.contexts figure.context_count
 figure-counted sheet figure s f I = low-counted figure (subst Low (sym I.of-figure) (normal-low Figure (figure_held f) (figure-within f) (figure-agrees f)))
@@ -96,14 +92,14 @@ module _ (sheet figure : form.Sheet) (heads : List Context) (n : ℕ) (ports lis
   lacks : clash ≡ lack s f list
   lacks = L ∙ ap₂ (λ (x : List ℕ) (y : form.Sheet). first_unported x (take y.context_count y.contexts)) H.ports I.of-figure ∙ lacking-made f list
 
-  pub says-lacking : (clash ≡ 0 → ⊥) → Err (error.BlankClash 2 clash) ≡ claimed_answer s f list
+  pub says-lacking : (clash ≡ 0 → ⊥) → BlankClash 2 clash ≡ claimed_answer s f list
   says-lacking h = answer-lacking s f list clash lacks h
 
   module _ (z : clash ≡ 0) (other : ℕ) (D : other ≡ first_differing list (take n heads)) where
     differs : other ≡ differ s f list
     differs = D ∙ ap₂ (λ (k : ℕ) (x : List Context). first_differing list (take k x)) H.read.count H.read.contexts ∙ differing-made f list
 
-    pub says-differing : (other ≡ 0 → ⊥) → Err (error.EdgeDiffers 3 other) ≡ claimed_answer s f list
+    pub says-differing : (other ≡ 0 → ⊥) → EdgeDiffers 3 other ≡ claimed_answer s f list
     says-differing h = answer-differing s f list (sym lacks ∙ z) other differs h
 
     module _ (y : other ≡ 0) (r : form.Sheet)
@@ -111,10 +107,10 @@ module _ (sheet figure : form.Sheet) (heads : List Context) (n : ℕ) (ports lis
       filled : FilledIs f list r
       filled = M f I.of-figure (sym lacks ∙ z) (sym differs ∙ y)
 
-      pub says-many : sheet_atom_limit < r.atom_count → Ok false ≡ claimed_answer s f list
+      pub says-many : sheet_atom_limit < r.atom_count → Differs ≡ claimed_answer s f list
       says-many h = answer-sized s f list (sym lacks ∙ z) (sym differs ∙ y) true (filled.large-atoms h)
 
-      pub says-wide : sheet_link_limit < r.class_count → Ok false ≡ claimed_answer s f list
+      pub says-wide : sheet_link_limit < r.class_count → Differs ≡ claimed_answer s f list
       says-wide h = answer-sized s f list (sym lacks ∙ z) (sym differs ∙ y) true (filled.large-links h)
 
       module _ (few : r.atom_count ≤ sheet_atom_limit) (narrow : r.class_count ≤ sheet_link_limit) where
@@ -127,27 +123,27 @@ module _ (sheet figure : form.Sheet) (heads : List Context) (n : ℕ) (ports lis
               figure-normal = subst Normal (sym (filled.net few narrow)) (result-sheet (filled_by f list) (listed-atoms f list (sym lacks ∙ z))).normal;
             }
 
-        pub says-placed : Ok (placed_claim (smallest (net_in sheet) (net_in r))) ≡ claimed_answer s f list
+        pub says-placed : placed_claim (smallest (net_in sheet) (net_in r)) ≡ claimed_answer s f list
         says-placed =
-            ap₂ (λ (S F : Net). Ok (placed_claim (smallest S F))) (ap net_in I.of-sheet ∙ net-read Plain no_ports s) (filled.net few narrow)
+            ap₂ (λ (S F : Net). placed_claim (smallest S F)) (ap net_in I.of-sheet ∙ net-read Plain no_ports s) (filled.net few narrow)
             ∙ answer-sized s f list (sym lacks ∙ z) (sym differs ∙ y) false (filled.not-large few narrow)
 
 -- The whole call.
 module _ (sheet figure list : List ℕ) where
-  pub claim-first : (e : TaskError) → input_answer 1 (sheet_read (outcome_of Plain no_ports sheet)) ≡ Err e → Err e ≡ claim_answer sheet figure list
+  pub claim-first : (why : Refusal) (row : ℕ) → (outcome_of Plain no_ports sheet).answer ≡ read.Refused why row → Refused 1 why row ≡ claim_answer sheet figure list
   unfolding claim_answer
-  claim-first e h = input-refused 1 (outcome_of Plain no_ports sheet).answer _ e _ h
+  claim-first why row e = rw e
 
-  module _ (a : (outcome_of Plain no_ports sheet).answer ≡ Passed) where
-    pub claim-second : (e : TaskError) → input_answer 2 (sheet_read (outcome_of Figure no_ports figure)) ≡ Err e → Err e ≡ claim_answer sheet figure list
+  module _ (a : (outcome_of Plain no_ports sheet).answer ≡ read.Passed) where
+    pub claim-second : (why : Refusal) (row : ℕ) → (outcome_of Figure no_ports figure).answer ≡ read.Refused why row → Refused 2 why row ≡ claim_answer sheet figure list
     unfolding claim_answer
-    claim-second e h = rw a (input-refused 2 (outcome_of Figure no_ports figure).answer _ e _ h)
+    claim-second why row e = rw (a, e)
 
-    module _ (b : (outcome_of Figure no_ports figure).answer ≡ Passed) where
-      pub claim-third : (e : TaskError) → input_answer 3 (reading_of Fillings (outcome_of Fillings no_ports list)) ≡ Err e → Err e ≡ claim_answer sheet figure list
+    module _ (b : (outcome_of Figure no_ports figure).answer ≡ read.Passed) where
+      pub claim-third : (why : Refusal) (row : ℕ) → (outcome_of Fillings no_ports list).answer ≡ read.Refused why row → Refused 3 why row ≡ claim_answer sheet figure list
       unfolding claim_answer
-      claim-third e h = rw (a, b) (input-refused 3 (outcome_of Fillings no_ports list).answer _ e _ h)
+      claim-third why row e = rw (a, b, e)
 
-      pub claim-all : (outcome_of Fillings no_ports list).answer ≡ Passed → claimed_answer sheet figure list ≡ claim_answer sheet figure list
+      pub claim-all : (outcome_of Fillings no_ports list).answer ≡ read.Passed → claimed_answer sheet figure list ≡ claim_answer sheet figure list
       unfolding claim_answer
       claim-all e = rw (a, b, e)

@@ -2,7 +2,7 @@
 // sheets are the files that the first two arguments name, or sheet.txt and other.txt.
 #![tactic(auto)]
 
-use answers::of_decided;
+use answers::of_compared;
 use answers::row::verdict_row;
 use comparing::compare::compare;
 use rows::Sheet;
@@ -17,5 +17,5 @@ fn main(rt: HostRuntime) -> io::Result<()> {
         return Ok(());
     };
     let compared = compare(&sheet[..n], &other[..m]);
-    rt.write_all(&verdict_row(of_decided(compared)))
+    rt.write_all(&verdict_row(of_compared(compared)))
 }

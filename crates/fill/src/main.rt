@@ -2,7 +2,7 @@
 // files are those that the arguments name, or figure.txt and list.txt.
 #![tactic(auto)]
 
-use answers::of_written;
+use answers::of_done;
 use answers::row::{answer_row, written_part};
 use filling::fill::fill;
 use rows::Sheet;
@@ -18,7 +18,7 @@ fn main(rt: HostRuntime) -> io::Result<()> {
     };
     let mut out = [0u8; Sheet::SLIP];
     let done = fill(&figure[..n], &list[..m], &mut out);
-    let answer = of_written(done);
+    let answer = of_done(done);
     rt.write_all(&answer_row(answer))?;
     rt.write_all(written_part(answer, &out))
 }

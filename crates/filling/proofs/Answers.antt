@@ -1,5 +1,4 @@
 -- What filling answers and writes, in each of its cases.
-use Rattle.std.specs.Prelude.{Result, Ok, Err}
 use Prim.Native.Nat.{ℕ, suc, ◌+◌, ◌*◌, ◌<◌, ◌≤◌}
 use mathlib.Core.Path.{◌≡◌, refl, ap, ap₂, sym, ◌∙◌, subst}
 use mathlib.Core.Bool.{Bool, true, false}
@@ -23,25 +22,23 @@ use Rattle.normalising.specs.NormalText.{slip_length}
 use Rattle.normalising.specs.NormalRows.{normal_rows, Writable}
 use Rattle.sheet.specs.Reading.{outcome_of, no_ports}
 use Rattle.rows.specs.declared.Sheet.{Sheet as Normal}
-use Rattle.sheet.specs.Answer.{Passed, Refused}
+use Rattle.sheet.specs.declared.answer.Refusal.{Refusal}
+use Rattle.sheet.specs.declared.answer.Answer.TheVariants.{Passed, Refused}
 use Rattle.sheet.specs.declared.kind.Kind.{Kind}
 use Rattle.sheet.specs.declared.kind.Kind.TheVariants.{Figure, Fillings}
 use Rattle.sheet.specs.HeldLimits.{Every, ContextRange}
-use Rattle.sheet.specs.TaskAnswer.{input_answer, unless, slip_after}
-use Rattle.sheet.proofs.TaskAnswer.{input-refused}
-use Rattle.reading.specs.Made.{reading_of}
-use Rattle.reading.specs.Readings.{sheet_read}
-use Rattle.sheet.specs.declared.answer.TaskError.{TaskError}
-use Rattle.sheet.specs.declared.answer.TaskError.TheVariants as error
 use Rattle.placing.specs.Net.{net_of}
 use Rattle.placing.specs.Filled.{filled_normal}
 use Rattle.network.specs.NetIn.{net_in, Fit}
 use Rattle.texts.proofs.NormalFits.{every-member}
 use Rattle.filling.specs.Read.{list_held, filling_read, fillings_read}
+use Rattle.answers.specs.Done.{slip_after}
 use Rattle.filling.specs.Fill.{figure_held, is_exact, first_lacking, first_differing, filled_by, filled_text, is_too_large, filled_answer, fill_answer, fill_slip}
 use Rattle.filling.specs.Parts.{first_unported}
 use Rattle.filling.specs.Glued.{Own, joined_all, all_pairs, Glues}
 use Rattle.filling.specs.Classes.{Made}
+use Rattle.answers.specs.declared.outcome.Done.{Done}
+use Rattle.answers.specs.declared.outcome.Done.TheVariants as done
 use Rattle.filling.proofs.Exact.{Rowed, none-lacking, exact-each}
 use Rattle.filling.proofs.Parts.{figure-within, list-within}
 use Rattle.filling.specs.Right.{Right}
@@ -96,22 +93,22 @@ module _ (figure list : List ℕ) where
   none : (n : ℕ) → n ≡ 0 → ltb 0 n ≡ false
   none n e = le-ltb 0 n (omega arith)
 
-  pub answer-lacking : (n : ℕ) → n ≡ first_lacking (list_held list).contexts (figure_held figure).contexts → (n ≡ 0 → ⊥) → Err (error.BlankClash 1 n) ≡ filled_answer figure list
+  pub answer-lacking : (n : ℕ) → n ≡ first_lacking (list_held list).contexts (figure_held figure).contexts → (n ≡ 0 → ⊥) → done.BlankClash 1 n ≡ filled_answer figure list
   unfolding filled_answer
   answer-lacking n e h = rw (← e, above n h)
 
-  pub answer-differing : first_lacking (list_held list).contexts (figure_held figure).contexts ≡ 0 → (n : ℕ) → n ≡ first_differing list (list_held list).contexts → (n ≡ 0 → ⊥) → Err (error.EdgeDiffers 2 n) ≡ filled_answer figure list
+  pub answer-differing : first_lacking (list_held list).contexts (figure_held figure).contexts ≡ 0 → (n : ℕ) → n ≡ first_differing list (list_held list).contexts → (n ≡ 0 → ⊥) → done.EdgeDiffers 2 n ≡ filled_answer figure list
   unfolding filled_answer
   answer-differing z n e h = rw (none (first_lacking (list_held list).contexts (figure_held figure).contexts) z, ← e, above n h)
 
   module _ (a : first_lacking (list_held list).contexts (figure_held figure).contexts ≡ 0) (b : first_differing list (list_held list).contexts ≡ 0) where
-    pub answer-large : is_too_large (filled_by figure list) ≡ true → Err error.TooLarge ≡ filled_answer figure list
+    pub answer-large : is_too_large (filled_by figure list) ≡ true → done.TooLarge ≡ filled_answer figure list
     unfolding filled_answer
-    answer-large t = rw (none (first_lacking (list_held list).contexts (figure_held figure).contexts) a, none (first_differing list (list_held list).contexts) b) (ap (λ t. pick t (Err error.TooLarge) (Ok (length (filled_text figure list)))) (sym t))
+    answer-large t = rw (none (first_lacking (list_held list).contexts (figure_held figure).contexts) a, none (first_differing list (list_held list).contexts) b) (ap (λ t. pick t done.TooLarge (done.Written (length (filled_text figure list)))) (sym t))
 
-    pub answer-written : is_too_large (filled_by figure list) ≡ false → Ok (length (filled_text figure list)) ≡ filled_answer figure list
+    pub answer-written : is_too_large (filled_by figure list) ≡ false → done.Written (length (filled_text figure list)) ≡ filled_answer figure list
     unfolding filled_answer
-    answer-written t = rw (none (first_lacking (list_held list).contexts (figure_held figure).contexts) a, none (first_differing list (list_held list).contexts) b) (ap (λ t. pick t (Err error.TooLarge) (Ok (length (filled_text figure list)))) (sym t))
+    answer-written t = rw (none (first_lacking (list_held list).contexts (figure_held figure).contexts) a, none (first_differing list (list_held list).contexts) b) (ap (λ t. pick t done.TooLarge (done.Written (length (filled_text figure list)))) (sym t))
 
   -- The normal form that the code makes.
   module _ (right : Right figure list) (r : Normal) (made : (l : List ℕ) × (Glues list (packed_normal (figure_held figure)) l × Made list l (packed_normal (figure_held figure)) r)) where
@@ -176,28 +173,24 @@ module _ (figure list : List ℕ) where
 
 -- The whole call.
 module _ (figure list slip : List ℕ) where
-  pub fill-short : length slip < slip_length → (Err error.ShortSlip ≡ fill_answer figure list (length slip)) × (slip ≡ fill_slip figure list slip)
+  pub fill-short : length slip < slip_length → (done.ShortSlip ≡ fill_answer figure list (length slip)) × (slip ≡ fill_slip figure list slip)
   unfolding fill_answer fill_slip
   fill-short h = (rw (lt-ltb (length slip) slip_length h), rw (lt-ltb (length slip) slip_length h))
 
   module _ (h : slip_length ≤ length slip) where
-    pub fill-figure : (e : TaskError) → input_answer 1 (sheet_read (outcome_of Figure no_ports figure)) ≡ Err e → (Err e ≡ fill_answer figure list (length slip)) × (slip ≡ fill_slip figure list slip)
+    pub fill-figure : (why : Refusal) (row : ℕ) → (outcome_of Figure no_ports figure).answer ≡ Refused why row → (done.Refused 1 why row ≡ fill_answer figure list (length slip)) × (slip ≡ fill_slip figure list slip)
     unfolding fill_answer fill_slip
-    fill-figure e q =
-        let a : Err e ≡ unless (outcome_of Figure no_ports figure).answer 1 (unless (outcome_of Fillings no_ports list).answer 2 (filled_answer figure list)) = input-refused 1 (outcome_of Figure no_ports figure).answer _ e _ q in
-        (rw (le-ltb (length slip) slip_length h) a, rw (le-ltb (length slip) slip_length h) (ap (λ (d : Result ℕ TaskError). slip_after d (filled_text figure list) slip) a))
+    fill-figure why row e = (rw (le-ltb (length slip) slip_length h, e), rw (le-ltb (length slip) slip_length h, e))
 
     module _ (p : (outcome_of Figure no_ports figure).answer ≡ Passed) where
-      pub fill-list : (e : TaskError) → input_answer 2 (reading_of Fillings (outcome_of Fillings no_ports list)) ≡ Err e → (Err e ≡ fill_answer figure list (length slip)) × (slip ≡ fill_slip figure list slip)
+      pub fill-list : (why : Refusal) (row : ℕ) → (outcome_of Fillings no_ports list).answer ≡ Refused why row → (done.Refused 2 why row ≡ fill_answer figure list (length slip)) × (slip ≡ fill_slip figure list slip)
       unfolding fill_answer fill_slip
-      fill-list e q =
-          let a : Err e ≡ unless (outcome_of Fillings no_ports list).answer 2 (filled_answer figure list) = input-refused 2 (outcome_of Fillings no_ports list).answer _ e _ q in
-          (rw (le-ltb (length slip) slip_length h, p) a, rw (le-ltb (length slip) slip_length h, p) (ap (λ (d : Result ℕ TaskError). slip_after d (filled_text figure list) slip) a))
+      fill-list why row e = (rw (le-ltb (length slip) slip_length h, p, e), rw (le-ltb (length slip) slip_length h, p, e))
 
-      pub fill-passed : (outcome_of Fillings no_ports list).answer ≡ Passed → (d : Result ℕ TaskError) → d ≡ filled_answer figure list → (out : List ℕ) → out ≡ slip_after d (filled_text figure list) slip
+      pub fill-passed : (outcome_of Fillings no_ports list).answer ≡ Passed → (d : Done) → d ≡ filled_answer figure list → (out : List ℕ) → out ≡ slip_after d (filled_text figure list) slip
           → (d ≡ fill_answer figure list (length slip)) × (out ≡ fill_slip figure list slip)
       unfolding fill_answer fill_slip
       fill-passed q d e out o = (
         rw (le-ltb (length slip) slip_length h, p, q) e,
-        rw (le-ltb (length slip) slip_length h, p, q) (o ∙ ap (λ (x : Result ℕ TaskError). slip_after x (filled_text figure list) slip) e),
+        rw (le-ltb (length slip) slip_length h, p, q) (o ∙ ap (λ (x : Done). slip_after x (filled_text figure list) slip) e),
       )

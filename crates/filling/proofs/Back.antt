@@ -11,7 +11,7 @@ use Rattle.rows.proofs.Padding.{take-padded}
 use Rattle.reading.specs.Normal.{normal_form}
 use Rattle.sheet.specs.Reading.{outcome_of, no_ports}
 use Rattle.sheet.specs.declared.kind.Kind.TheVariants.{Plain, Pattern}
-use Rattle.sheet.specs.Answer.{Passed}
+use Rattle.sheet.specs.declared.answer.Answer.TheVariants.{Passed}
 use Rattle.texts.proofs.BuiltRows.{held_atom}
 use Rattle.placing.specs.Net.{NetCell, Net, net_of}
 use Rattle.placing.specs.Placing.{Placing, Good}

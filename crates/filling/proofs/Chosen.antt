@@ -1,5 +1,4 @@
 -- The list that place hands out fills the pattern: no blank lacks its filling, no filling has other marks, and what is written is the same as the sheet.
-use Rattle.std.specs.Prelude.{Ok}
 use Prim.Native.Nat.{ℕ, suc}
 use mathlib.Core.Path.{◌≡◌, refl, ap, sym, ◌∙◌, subst}
 use mathlib.Core.Logic.{◌⊎◌, inl, inr}
@@ -17,7 +16,7 @@ use Rattle.rows.specs.Packed.{ports_of}
 use Rattle.rows.specs.declared.Context.{Context}
 use Rattle.reading.specs.Graph.{term_of_text}
 use Rattle.sheet.specs.Reading.{Outcome, outcome_of, no_ports}
-use Rattle.sheet.specs.Answer.{Passed}
+use Rattle.sheet.specs.declared.answer.Answer.TheVariants.{Passed}
 use Rattle.sheet.specs.declared.kind.Kind.TheVariants.{Plain, Pattern}
 use Rattle.placing.specs.Net.{NetCell, Net, blank_of}
 use Rattle.placing.specs.Placing.{Placing, Good}
@@ -28,6 +27,7 @@ use Rattle.placing.specs.TextNets.{text_blank, sheet_held, pattern_held, sheet_n
 use Rattle.placing.proofs.Theorems.{pattern-blanks, text-placing-fillings}
 use Rattle.filling.specs.Read.{list_held, filling_read, fillings_read}
 use Rattle.filling.specs.Fill.{figure_held, filled_text, fill_answer}
+use Rattle.answers.specs.declared.outcome.Done.TheVariants as done
 use Rattle.filling.proofs.Exact.{marks-exact}
 use Rattle.filling.specs.Right.{Right}
 use Rattle.filling.proofs.Back.{placed-back}
@@ -87,7 +87,7 @@ module _ (sheet pattern : List ℕ) (a : (outcome_of Plain no_ports sheet).answe
       }
 
   -- What fill writes of the pattern and that list is the same as the sheet.
-  pub placed-fill : (slip : List ℕ) (n : ℕ) → fill_answer pattern placed_list (length slip) ≡ Ok n → term_of_text (outcome_of Plain no_ports (filled_text pattern placed_list)).held ≅ term_of_text (sheet_held sheet)
+  pub placed-fill : (slip : List ℕ) (n : ℕ) → fill_answer pattern placed_list (length slip) ≡ done.Written n → term_of_text (outcome_of Plain no_ports (filled_text pattern placed_list)).held ≅ term_of_text (sheet_held sheet)
   placed-fill slip n e =
       ≅-trans (fill-congruent pattern placed_list slip n e)
       (subst (λ (η : List Filling). holding_term (term_of_text (figure_held pattern)) η ≅ term_of_text (sheet_held sheet)) (sym read_back)

@@ -1,5 +1,4 @@
 -- Where fill writes: what it asked of the texts, what it writes, and what that denotes.
-use Rattle.std.specs.Prelude.{Ok, Err}
 use Prim.Native.Nat.{ℕ, ◌≤◌}
 use mathlib.Core.Path.{◌≡◌, refl, sym}
 use mathlib.Core.Bool.{Bool, true, false}
@@ -16,13 +15,13 @@ use Rattle.reading.specs.Graph.{term_of_text}
 use Rattle.reading.specs.Normal.{class_of, classes_by}
 use Rattle.normalising.specs.NormalText.{slip_length}
 use Rattle.sheet.specs.Reading.{outcome_of, no_ports}
-use Rattle.sheet.specs.Answer.{Answer, Passed, Refused}
+use Rattle.sheet.specs.declared.answer.Answer.{Answer}
+use Rattle.sheet.specs.declared.answer.Answer.TheVariants.{Passed, Refused}
 use Rattle.sheet.specs.declared.kind.Kind.TheVariants.{Plain, Figure, Fillings}
-use Rattle.sheet.specs.TaskAnswer.{unless}
-use Rattle.sheet.specs.declared.answer.TaskError.TheVariants as error
 use Rattle.placing.specs.Holding.{holding_term}
 use Rattle.filling.specs.Read.{list_held, fillings_read}
-use Rattle.filling.specs.Fill.{figure_held, first_lacking, first_differing, filled_by, filled_text, is_too_large, filled_answer, fill_answer, fill_slip}
+use Rattle.filling.specs.Fill.{figure_held, first_lacking, first_differing, filled_by, filled_text, is_too_large, filled_answer, unless, fill_answer, fill_slip}
+use Rattle.answers.specs.declared.outcome.Done.TheVariants as done
 use Rattle.filling.specs.Right.{Right}
 use Rattle.filling.proofs.Result.{classes, class-count}
 use Rattle.filling.proofs.Written.{made_atoms, atom-count}
@@ -40,7 +39,7 @@ record Ways (s : Bool) (a b : Answer) (l d t : Bool) (k n : ℕ) : Type 0 where
   bytes : k ≡ n
 
 ways : (s : Bool) (a b : Answer) (l d t : Bool) (x y k n : ℕ)
-    → pick s (Err error.ShortSlip) (unless a 1 (unless b 2 (pick l (Err (error.BlankClash 1 x)) (pick d (Err (error.EdgeDiffers 2 y)) (pick t (Err error.TooLarge) (Ok k)))))) ≡ Ok n → Ways s a b l d t k n
+    → pick s done.ShortSlip (unless a 1 (unless b 2 (pick l (done.BlankClash 1 x) (pick d (done.EdgeDiffers 2 y) (pick t done.TooLarge (done.Written k)))))) ≡ done.Written n → Ways s a b l d t k n
 ways true a b l d t x y k n e = absurd (let z : ◌≡◌ {A = ℕ} 0 1 = cc in omega arith)
 ways false (Refused why row) b l d t x y k n e = absurd (let z : ◌≡◌ {A = ℕ} 0 1 = cc in omega arith)
 ways false Passed (Refused why row) l d t x y k n e = absurd (let z : ◌≡◌ {A = ℕ} 0 1 = cc in omega arith)
@@ -49,7 +48,7 @@ ways false Passed Passed false true t x y k n e = absurd (let z : ◌≡◌ {A =
 ways false Passed Passed false false true x y k n e = absurd (let z : ◌≡◌ {A = ℕ} 0 1 = cc in omega arith)
 ways false Passed Passed false false false x y k n e = record { long = refl; figure = refl; list = refl; lacking = refl; differing = refl; large = refl; bytes = cc }
 
-module _ (figure list slip : List ℕ) (n : ℕ) (e : fill_answer figure list (length slip) ≡ Ok n) where
+module _ (figure list slip : List ℕ) (n : ℕ) (e : fill_answer figure list (length slip) ≡ done.Written n) where
   found : Ways (ltb (length slip) slip_length) (outcome_of Figure no_ports figure).answer (outcome_of Fillings no_ports list).answer
       (ltb 0 (first_lacking (list_held list).contexts (figure_held figure).contexts)) (ltb 0 (first_differing list (list_held list).contexts)) (is_too_large (filled_by figure list)) (length (filled_text figure list)) n
   unfolding fill_answer filled_answer

@@ -6,9 +6,9 @@ use mathlib.Core.Bool.{Bool, true, false}
 use mathlib.Core.List.{List, [], ◌∷◌, map}
 use native.Mathlib.Decide.{dec_le}
 use native.Mathlib.Omega.{arith}
-use borrow.Author.Tests.{ne_eqb}
+use borrow.Author.Tests.{eq-eqb, ne_eqb}
 use lib.Dec.{eqb}
-use lib.ListN.{length, get_or}
+use lib.ListN.{length, get_or, set}
 use Rattle.rows.specs.Pick.{pick}
 use Rattle.rows.specs.Held.{relabelled}
 use Rattle.rows.proofs.Lists.{mapped}
@@ -46,7 +46,21 @@ first-mapped from to zero l h = sym (rest-kept from to l (λ k. h k (omega arith
 first-mapped from to (suc n) [] h = refl
 first-mapped from to (suc n) (x ∷ l) h = ap (◌∷◌ (relabelled from to x)) (first-mapped from to n l (λ k a b. h (suc k) (omega arith) (omega arith)))
 
+-- One place is given a label, where it alone has the one that is made another.
+one-mapped : (from to b : ℕ) (l : List ℕ) → get_or l b 0 ≡ from → ((k : ℕ) → k < length l → get_or l k 0 ≡ from → k ≡ b) → set l b to ≡ map (relabelled from to) l
+one-mapped from to b [] e h = refl
+one-mapped from to zero (x ∷ l) e h =
+    ap₂ ◌∷◌ (sym (ap (λ (t : Bool). pick t to x) (eq-eqb x from e))) (sym (rest-kept from to l (λ k q d. let z : suc k ≡ 0 = h (suc k) (omega arith) d in absurd (omega arith))))
+one-mapped from to (suc b) (x ∷ l) e h =
+    ap₂ ◌∷◌ (sym (relabel-other from to x (λ d. let z : 0 ≡ suc b = h 0 (omega arith) d in absurd (omega arith))))
+    (one-mapped from to b l e (λ k q d. let z : suc k ≡ suc b = h (suc k) (omega arith) d in omega arith))
+
 module _ (labels : List ℕ) (n a b : ℕ) (p : a < part_room) (q : b < n) (f : FreshFrom n labels) (r : part_room ≤ b) where
+  pub merged-one : get_or labels b 0 ≡ b → set labels b (get_or labels a 0) ≡ joined_at labels (a, b)
+  merged-one e =
+      one-mapped (get_or labels b 0) (get_or labels a 0) b labels refl
+      (λ k l d. ⊎_elim (λ o. let z : k ≡ b = omega (arith, o, d, e) in z) (λ h. absurd (omega (arith, h, d, e, r))) (f.rooted k (omega (arith, f.size))))
+
   pub merged-first : mapped (relabelled (get_or labels b 0) (get_or labels a 0)) n labels ≡ joined_at labels (a, b)
   merged-first = first-mapped (get_or labels b 0) (get_or labels a 0) n labels (λ k h l e. absurd (omega (arith, e, f.low b q, f.own k h (omega (arith, f.size)))))
 

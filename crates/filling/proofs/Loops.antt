@@ -1,15 +1,16 @@
 -- One turn of each loop, over plain variables.
-use Prim.Native.Nat.{ℕ, suc, ◌+◌, ◌-◌, ◌<◌, ◌≤◌}
+use Prim.Native.Nat.{ℕ, zero, suc, ◌+◌, ◌-◌, ◌<◌, ◌≤◌}
 use mathlib.Core.Path.{◌≡◌, refl, ap, ap₂, sym, ◌∙◌, subst}
+use mathlib.Core.Logic.{◌⊎◌, inl, inr, ⊎_elim}
 use mathlib.Core.Bool.{Bool, true, false}
 use mathlib.Core.List.{List, [], ◌∷◌, ◌++◌, map, map-append, append-nil, append_assoc}
 use native.Mathlib.Decide.{dec_le}
 use native.Mathlib.Numerals.{add-one}
 use native.Mathlib.Omega.{arith}
-use borrow.Author.Tests.{lt-ltb, le-ltb}
+use borrow.Author.Tests.{eqb-true, eqb-false, lt-ltb, le-ltb}
 use lib.Dec.{eqb}
-use lib.ListN.{length, get_or, take, drop, set, replicate, length-append, length-map, length-set, length-take}
-use lib.Seq.{take_all, take-append-le, take-suc, take-suc-set, length-take-le}
+use lib.ListN.{length, get_or, take, drop, set, replicate, length-append, length-map, length-set, length-take, drop_of_length-le}
+use lib.Seq.{take_all, take-append-le, take-suc, take-suc-set, length-take-le, get_or-set_same, get_or-set_other}
 use Rattle.rows.specs.Pick.{pick, and}
 use Rattle.rows.specs.Format.{most_links}
 use Rattle.rows.specs.Limits.{sheet_link_limit, atom_room}
@@ -25,13 +26,26 @@ use Rattle.placing.specs.Smallest.{numbers_from, numbers_to, same_list}
 use Rattle.placing.proofs.Joined.{numbers-length}
 use Rattle.filling.specs.Read.{filling_read}
 use Rattle.filling.specs.Fill.{first_differing, is_exact}
-use Rattle.filling.specs.Parts.{part_normal, Exacts, first_unported}
+use Rattle.filling.specs.Parts.{part_normal, exact_to, Exacts, first_unported}
 use Rattle.filling.specs.Glued.{place_of, joined_at, joined_all, port_pairs, context_pairs, all_pairs}
 use Rattle.filling.specs.Whole.{placed_atom, part_atoms, context_atoms, labels_at, labelled_links, labelled_atom, room_for, whole_atoms, Grown}
 use Rattle.filling.specs.Classes.{LabelTable, Sees, with_label, with_labels, links_in, number_in, numbered_links, numbered_at}
 use Rattle.filling.specs.declared.whole.Whole.{Whole}
 use Rattle.filling.proofs.Join.{all_append}
 use Rattle.filling.proofs.Numbered.{labels_append, label_kept}
+
+pub mapped-whole : {A : Type 0} (f : A → A) (l : List A) (n : ℕ) → length l ≡ n → mapped f n l ≡ map f l
+mapped-whole f l n e =
+    let h : length l ≤ n = omega arith in
+    ap₂ (λ a b. map f a ++ b) (take_all n l h) (drop_of_length-le l h) ∙ append-nil (map f l)
+
+-- Labels that are their own places, up to one.
+pub own-next : (labels : List ℕ) (k : ℕ) → k < length labels → ((j : ℕ) → j < k → get_or labels j 0 ≡ j) → (j : ℕ) → j < k + 1 → get_or (set labels k k) j 0 ≡ j
+own-next labels k h own j l = go (eqb j k) refl
+  where
+    go : (b : Bool) → eqb j k ≡ b → get_or (set labels k k) j 0 ≡ j
+    go true e = let q : j ≡ k = eqb-true j k e in subst (λ i. get_or (set labels k k) i 0 ≡ i) (sym q) (get_or-set_same labels k k 0 h)
+    go false e = let q : j ≡ k → ⊥ = eqb-false j k e in get_or-set_other labels k j k 0 q ∙ own j (omega (arith, q))
 
 -- A port more.
 module _ (p count k : ℕ) (links marked labels : List ℕ) where
@@ -241,6 +255,9 @@ marks-next marks n k a h b e =
     ap₂ (λ l m. same_list l (numbers_from (k + 1) m)) (part-cons marks n k 0 a h) q
     ∙ ap₂ (λ (t : Bool) (s : ℕ). and t (same_list (drop (k + 1) (take n marks)) (numbers_from s (n - (k + 1))))) e (let z : suc (k + 1) ≡ k + 1 + 1 = omega arith in z)
 
+pub marks-end : (marks : List ℕ) (n k : ℕ) → n ≤ k → same_list (drop k (take n marks)) (numbers_from (k + 1) (n - k)) ≡ true
+marks-end marks n k h = let q : n - k ≡ 0 = omega arith in ap₂ (λ l m. same_list l (numbers_from (k + 1) m)) (part_end marks n k h) q
+
 list-sizes : (l m : List ℕ) → (length l ≡ length m → ⊥) → same_list l m ≡ false
 list-sizes [] [] h = absurd (h refl)
 list-sizes [] (y ∷ m) h = refl
@@ -254,6 +271,19 @@ list-sizes (x ∷ l) (y ∷ m) h = go (eqb x y) (list-sizes l m (λ e. h (ap suc
 pub marks-other : (marks : List ℕ) (c n : ℕ) → c ≤ length marks → (c ≡ n → ⊥) → same_list (take c marks) (numbers_to n) ≡ false
 marks-other marks c n h k = list-sizes (take c marks) (numbers_to n) (λ e. k (sym (length-take-le c marks h) ∙ e ∙ numbers-length 1 n))
 
--- No filling of which it is noted that its marks are exact.
+-- Fillings of which it is noted that their marks are exact: none, and one more.
 pub exacts-none : (list : List ℕ) (c : ℕ) → Exacts list (replicate c 0)
 exacts-none list c number n e = absurd (omega (arith, e, get_d-filled {A = ℕ} 0 c number))
+
+stored : (l : List ℕ) (i k x : ℕ) → (get_or (set l i x) k 0 ≡ get_or l k 0) ⊎ ((k ≡ i) × (get_or (set l i x) k 0 ≡ x))
+stored [] i k x = inl refl
+stored (y ∷ l) zero zero x = inr (refl, refl)
+stored (y ∷ l) zero (suc k) x = inl refl
+stored (y ∷ l) (suc i) zero x = inl refl
+stored (y ∷ l) (suc i) (suc k) x = ⊎_elim (λ e. inl e) (λ e. inr (ap suc e.0, e.1)) (stored l i k x)
+
+pub exacts-next : (list table : List ℕ) (number n : ℕ) → exact_to list number n ≡ true → Exacts list table → Exacts list (set table number (n + 1))
+exacts-next list table number n t old k m e = ⊎_elim
+    (λ q. old k m (sym q ∙ e))
+    (λ q. let w : n ≡ m = omega (arith, q.1, e) in subst (λ (j : ℕ). exact_to list j m ≡ true) (sym q.0) (subst (λ (j : ℕ). exact_to list number j ≡ true) w t))
+    (stored table number k (n + 1))

@@ -1,38 +1,34 @@
 -- A figure and the fillings of a list as normal forms: what they agree with, and the bounds of their numbers.
 use Prim.Native.Nat.{ℕ, suc, ◌+◌, ◌-◌, ◌<◌, ◌≤◌, zero}
-use mathlib.Core.Path.{◌≡◌, refl, ap, subst, sym, ◌∙◌}
-use mathlib.Core.Bool.{Bool, true, false}
-use Rattle.std.specs.Prelude.{Ok, Err}
+use mathlib.Core.Path.{◌≡◌, refl, ap, subst}
+use mathlib.Core.Bool.{false}
 use mathlib.Core.List.Memᴰ
 use mathlib.Core.List.{List, [], ◌∷◌, ◌++◌, map}
 use native.Mathlib.Omega.{arith}
 use borrow.Author.Tests.{le-ltb}
-use lib.Dec.{eqb, ltb}
+use lib.Dec.{ltb}
 use lib.ListN.{length, get_or, take, replicate}
 use Rattle.hyperlmntal.specs.Link.{◌∈◌}
 use Rattle.hyperlmntal.specs.Hypergraph.{Node, inner, port_nodes}
 use Rattle.rows.specs.Format.{most_links, context_bound}
 use Rattle.rows.specs.Limits.{atom_room, context_room, mark_room}
-use Rattle.rows.specs.Pick.{pick}
-use Rattle.rows.specs.Held.{Held, nothing}
-use Rattle.rows.specs.Packed.{padded, no_atom, no_context, ports_of, empty_sheet}
+use Rattle.rows.specs.Held.{Held}
+use Rattle.rows.specs.Packed.{padded, no_atom, no_context}
 use Rattle.rows.specs.TextArrays.{packed}
 use Rattle.rows.proofs.Padding.{length-padded}
 use Rattle.reading.specs.Graph.{atom_cell, context_cell, graph_of}
 use Rattle.reading.specs.Agrees.{Agrees}
 use Rattle.reading.specs.Normal.{class_of, mark_node, marks_of, shown}
-use Rattle.numbering.specs.Numbering.{Numberable, with_classes, atom_labels, context_labels, sorted_into}
+use Rattle.numbering.specs.Numbering.{Numberable}
 use Rattle.reading.specs.NormalSheet.{number_in, normal_atom, normal_context, normal_marks, packed_normal}
 use Rattle.normalising.specs.NormalRows.{past_atoms, past_contexts}
 use Rattle.rows.specs.declared.Context.{Context}
 use Rattle.rows.specs.declared.Sheet.{Sheet as Normal}
-use Rattle.sheet.specs.Reading.{Outcome, Verdict, taken, refused, passed, settled, tests, first_of, read_from, outcome_of, no_ports}
-use Rattle.reading.specs.Made.{made_of, reading_of}
+use Rattle.sheet.specs.Reading.{outcome_of, no_ports}
+use Rattle.reading.specs.Made.{reading_of}
 use Rattle.reading.specs.declared.read.Reading.{Reading}
 use Rattle.sheet.specs.Filling.{filling_of, HeadsRead}
-use Rattle.sheet.specs.Answer.{Answer, Passed, Refused, read_as}
-use Rattle.sheet.specs.declared.answer.Refusal.{Refusal}
-use Rattle.sheet.specs.declared.answer.RefusedRow.{RefusedRow}
+use Rattle.sheet.specs.declared.answer.Answer.TheVariants.{Passed}
 use Rattle.sheet.specs.declared.kind.Kind.{Kind}
 use Rattle.sheet.specs.declared.kind.Kind.TheVariants.{Figure, Fillings}
 use Rattle.sheet.specs.HeldLimits.{AtomRange, ContextRange, WithinLimits}
@@ -164,37 +160,14 @@ pub part_low : (list : List ℕ) (number : ℕ) → Low (part_normal list number
 part_low list number = normal-low Fillings (without_heads (part_held list number)) (part-within list number) (part-agrees list number)
 
 -- What is read of it.
-pub part-made : (list : List ℕ) (number : ℕ) → (made_of Fillings (part_held list number)).normal ≡ part_read list number
+pub part-made : (list : List ℕ) (number : ℕ) → (reading_of Fillings (outcome_of Fillings no_ports (filling_of list number))).normal ≡ part_read list number
 part-made list number = let h = part_held list number in
     let one : ltb 1 (length h.contexts) ≡ false = le-ltb 1 (length h.contexts) (part-heads list number) in
     rw one (ap (with_heads h) (normal-made (without_heads h) (part-agrees list number) (part-numberable list number)))
 
--- A text that is turned down holds nothing.
-refused-nothing : (n : ℕ) (kind : Kind) (pattern : List ℕ) (h : Held) (text : List ℕ) (why : Refusal) (row : ℕ)
-    → (read_from n kind pattern h text).answer ≡ Refused why row → (read_from n kind pattern h text).held ≡ nothing
-unfolding read_from
-refused-nothing zero kind pattern h text why row e = cc
-refused-nothing (suc n) kind pattern h text why row e = go (eqb (length text) 0) (first_of (tests kind pattern h text)) _ (refused-nothing n kind pattern _ _ why row) e
-  where
-    go : (b : Bool) (v : Verdict) (o : Outcome) → (o.answer ≡ Refused why row → o.held ≡ nothing) → (pick b (passed h) (settled v h o)).answer ≡ Refused why row → (pick b (passed h) (settled v h o)).held ≡ nothing
-    go true v o f e = cc
-    go false taken o f e = f e
-    go false (refused w) o f e = refl
-
--- What stands for a part that is turned down.
-pub part-refused : (list : List ℕ) (number : ℕ) (r : RefusedRow) → Err r ≡ reading_of Fillings (outcome_of Fillings no_ports (filling_of list number)) → empty_sheet ≡ part_read list number
-unfolding outcome_of padded ports_of with_classes atom_labels context_labels sorted_into
-part-refused list number r e = go (outcome_of Fillings no_ports (filling_of list number)).answer refl e
-  where
-    go : (a : Answer) → (outcome_of Fillings no_ports (filling_of list number)).answer ≡ a → Err r ≡ read_as a (made_of Fillings (part_held list number)) → empty_sheet ≡ part_read list number
-    go Passed q e = cc
-    go (Refused why row) q e =
-        let none : part_held list number ≡ nothing = refused-nothing _ Fillings no_ports nothing (filling_of list number) why row q in
-        ap (λ (k : Held). (made_of Fillings k).normal) (sym none) ∙ part-made list number
-
 -- The H rows of a list that was read and passed.
-pub headed-read : (list : List ℕ) (r : Reading) → (outcome_of Fillings no_ports list).answer ≡ Passed → r ≡ made_of Fillings (list_held list) → Headed r.normal.contexts r.normal.context_count r.ports list
-headed-read list r p e = record { read = heads-read list r (rw p (ap Ok e)); ports = ap (λ (x : Reading). x.ports) e }
+pub headed-read : (list : List ℕ) (r : Reading) → r ≡ reading_of Fillings (outcome_of Fillings no_ports list) → r.answer ≡ Passed → Headed r.normal.contexts r.normal.context_count r.ports list
+headed-read list r e p = record { read = heads-read list r e p; ports = ap (λ (x : Reading). x.ports) e }
 
 pub part-marks : (list : List ℕ) (number : ℕ) → length (part_normal list number).marks ≡ mark_room
 part-marks list number = length-padded mark_room 0 (normal_marks (without_heads (part_held list number))) (omega (arith, (part_low list number).marks))

@@ -21,7 +21,7 @@ use Rattle.reading.specs.NormalSheet.{normal_marks}
 use Rattle.normalising.specs.NormalText.{text_of}
 use Rattle.sheet.specs.Reading.{outcome_of, no_ports}
 use Rattle.sheet.specs.declared.kind.Kind.TheVariants.{Plain, Figure}
-use Rattle.sheet.specs.Answer.{Passed}
+use Rattle.sheet.specs.declared.answer.Answer.TheVariants.{Passed}
 use Rattle.sheet.specs.HeldLimits.{Every, MarkRange, EdgeRange}
 use Rattle.reading.proofs.normal.Marks.{marks-of}
 use Rattle.reading.proofs.normal.Distinct.{index_below, distinct-in}

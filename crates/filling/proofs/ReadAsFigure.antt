@@ -15,7 +15,7 @@ use Rattle.rows.specs.declared.Context.{Context}
 use Rattle.sheet.specs.Reading.{strange, clash_of, clashes, last_number, Verdict, taken, refused, first_of, tests, passed, settled, read_from, outcome_of, no_ports}
 use Rattle.sheet.specs.declared.kind.Kind.{Kind}
 use Rattle.sheet.specs.declared.kind.Kind.TheVariants.{Pattern, Figure, Replacement}
-use Rattle.sheet.specs.Answer.{Passed}
+use Rattle.sheet.specs.declared.answer.Answer.TheVariants.{Passed}
 use Rattle.sheet.proofs.kind.KindLaws.{rows-limit}
 use Rattle.sheet.proofs.read.Taken.{row_at, Taken, tests-none, none-tests}
 

@@ -1,5 +1,4 @@
 -- What this crate is for, in one place.
-use Rattle.std.specs.Prelude.{Ok}
 use Prim.Native.Nat.{ℕ}
 use mathlib.Core.Path.{◌≡◌}
 use mathlib.Core.Logic.{◌↔◌}
@@ -14,7 +13,7 @@ use Rattle.rows.specs.Held.{Held}
 use Rattle.reading.specs.Graph.{graph_of, term_of_text}
 use Rattle.reading.specs.Normal.{class_of, classes_by, numbered_by, normal_form_by, normal_form}
 use Rattle.sheet.specs.Reading.{outcome_of, no_ports}
-use Rattle.sheet.specs.Answer.{Passed}
+use Rattle.sheet.specs.declared.answer.Answer.TheVariants.{Passed}
 use Rattle.sheet.specs.declared.kind.Kind.TheVariants.{Plain, Pattern, Figure, Fillings}
 use Rattle.reading.proofs.normal.NormalBounds.{normal-range}
 use Rattle.placing.specs.Net.{Range}
@@ -30,6 +29,7 @@ use Rattle.placing.proofs.NormalNets.{number-used}
 use Rattle.placing.proofs.SmallestLaws.{smallest-good}
 use Rattle.filling.specs.Read.{rows_read, fillings_read}
 use Rattle.filling.specs.Fill.{figure_held, is_exact, filled_by, filled_text, fill_answer, fill_slip}
+use Rattle.answers.specs.declared.outcome.Done.TheVariants as done
 use Rattle.filling.specs.Right.{Right}
 use Rattle.filling.proofs.Rows as Rows
 use Rattle.filling.proofs.Exact as Exact
@@ -39,7 +39,7 @@ use Rattle.filling.proofs.ReadAsFigure as ReadAsFigure
 use Rattle.filling.proofs.Chosen as Chosen
 
 -- Where fill writes, both texts passed, every blank has its filling, and every filling has exactly its ports as marks.
-module _ (figure list slip : List ℕ) (n : ℕ) (e : fill_answer figure list (length slip) ≡ Ok n) where
+module _ (figure list slip : List ℕ) (n : ℕ) (e : fill_answer figure list (length slip) ≡ done.Written n) where
   pub fill-passed : ((outcome_of Figure no_ports figure).answer ≡ Passed) × ((outcome_of Fillings no_ports list).answer ≡ Passed)
   fill-passed = Denotes.fill-passed figure list slip n e
 
@@ -92,7 +92,7 @@ pub chosen-fill : (sheet pattern : List ℕ) → (outcome_of Plain no_ports shee
     → (p : Placing) → smallest (sheet_net sheet) (pattern_net pattern) ≡ some p
     → (outcome_of Figure no_ports pattern ≡ outcome_of Pattern no_ports pattern)
     × Right pattern (list_text (normal_fillings_of (sheet_net sheet) p (pattern_net pattern)))
-    × ((slip : List ℕ) (n : ℕ) → fill_answer pattern (list_text (normal_fillings_of (sheet_net sheet) p (pattern_net pattern))) (length slip) ≡ Ok n
+    × ((slip : List ℕ) (n : ℕ) → fill_answer pattern (list_text (normal_fillings_of (sheet_net sheet) p (pattern_net pattern))) (length slip) ≡ done.Written n
     → term_of_text (outcome_of Plain no_ports (filled_text pattern (list_text (normal_fillings_of (sheet_net sheet) p (pattern_net pattern))))).held ≅ term_of_text (sheet_held sheet))
 chosen-fill sheet pattern a b p e =
     let g = smallest-good (sheet_net sheet) (pattern_net pattern) p e in

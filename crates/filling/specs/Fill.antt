@@ -1,5 +1,5 @@
 -- Document 01, 'Tasks' and 'Numbers': what filling a figure from a list answers and writes.
-use Rattle.std.specs.Prelude.{ℕ, suc, List, [], ◌∷◌, Bool, eqb, ltb, length, Result, Ok, Err}
+use Rattle.std.specs.Prelude.{ℕ, suc, List, [], ◌∷◌, Bool, eqb, ltb, length}
 use Rattle.hyperlmntal.specs.Hypergraph.{Flat}
 use Rattle.rows.specs.Pick.{pick, or}
 use Rattle.rows.specs.Limits.{sheet_atom_limit, sheet_link_limit}
@@ -11,13 +11,15 @@ use Rattle.reading.specs.Normal.{class_of, classes_by, marks_of}
 use Rattle.normalising.specs.NormalText.{text_of, slip_length}
 use Rattle.sheet.specs.Reading.{outcome_of, no_ports}
 use Rattle.sheet.specs.declared.kind.Kind.TheVariants.{Figure, Fillings}
-use Rattle.sheet.specs.TaskAnswer.{unless, slip_after}
-use Rattle.sheet.specs.declared.answer.TaskError.{TaskError}
-use Rattle.sheet.specs.declared.answer.TaskError.TheVariants as error
+use Rattle.sheet.specs.declared.answer.Answer.{Answer}
+use Rattle.sheet.specs.declared.answer.Answer.TheVariants.{Passed, Refused}
 use Rattle.placing.specs.Fillings.{Filling, rows_graph}
 use Rattle.placing.specs.Filled.{filled_graph, filled_normal}
 use Rattle.placing.specs.Smallest.{same_list, numbers_to}
 use Rattle.filling.specs.Read.{list_held, filling_read, fillings_read}
+use Rattle.answers.specs.Done.{slip_after}
+use Rattle.answers.specs.declared.outcome.Done.{Done}
+use Rattle.answers.specs.declared.outcome.Done.TheVariants as done
 
 abbrev pub figure_held : List ℕ → Held
 figure_held figure = (outcome_of Figure no_ports figure).held
@@ -49,16 +51,21 @@ abbrev pub is_too_large : Flat ℕ → Bool
 is_too_large G = or (ltb sheet_atom_limit (length G.atoms)) (ltb sheet_link_limit (length (classes_by (class_of G.fusions) G)))
 
 -- a figure and a list that passed row by row: 'then 8 and 9 over whole texts, 11, 12'
-unfoldable pub filled_answer : List ℕ → List ℕ → Result ℕ TaskError
+unfoldable pub filled_answer : List ℕ → List ℕ → Done
 filled_answer figure list =
-    pick (ltb 0 (first_lacking (list_held list).contexts (figure_held figure).contexts)) (Err (error.BlankClash 1 (first_lacking (list_held list).contexts (figure_held figure).contexts)))
-    (pick (ltb 0 (first_differing list (list_held list).contexts)) (Err (error.EdgeDiffers 2 (first_differing list (list_held list).contexts)))
-    (pick (is_too_large (filled_by figure list)) (Err error.TooLarge) (Ok (length (filled_text figure list)))))
+    pick (ltb 0 (first_lacking (list_held list).contexts (figure_held figure).contexts)) (done.BlankClash 1 (first_lacking (list_held list).contexts (figure_held figure).contexts))
+    (pick (ltb 0 (first_differing list (list_held list).contexts)) (done.EdgeDiffers 2 (first_differing list (list_held list).contexts))
+    (pick (is_too_large (filled_by figure list)) done.TooLarge (done.Written (length (filled_text figure list)))))
+
+-- an input that is refused at a row, or what comes next
+abbrev pub unless : Answer → ℕ → Done → Done
+unless Passed input next = next
+unless (Refused why row) input next = done.Refused input why row
 
 -- 'Order: 10; then the inputs in task order, each row by row'
-unfoldable pub fill_answer : List ℕ → List ℕ → ℕ → Result ℕ TaskError
+unfoldable pub fill_answer : List ℕ → List ℕ → ℕ → Done
 fill_answer figure list slip =
-    pick (ltb slip slip_length) (Err error.ShortSlip)
+    pick (ltb slip slip_length) done.ShortSlip
     (unless (outcome_of Figure no_ports figure).answer 1 (unless (outcome_of Fillings no_ports list).answer 2 (filled_answer figure list)))
 
 -- the slip at exit

@@ -13,7 +13,7 @@ ghost use Rattle.filling.specs.Glued.{Own, Glues};
 ghost use Rattle.filling.specs.Whole.{Linked, whole_atoms, own_whole, Puts};
 ghost use Rattle.filling.specs.Classes.{Made};
 
-use crate::classes::{KNOWN, numbered_atoms, numbered_places};
+use crate::classes::{KNOWN, numbered_atoms, numbered_marks};
 use crate::glue::{PLACES, own_labels};
 use crate::whole::{Whole, whole_of};
 use rows::{Context, Sheet};
@@ -34,7 +34,7 @@ pub fn numbered_whole(
     let mut class_count: usize = 0;
     let placed = whole.atoms;
     let atoms = numbered_atoms(labels, &mut known, &mut class_count, placed, whole.count);
-    let marked = numbered_places(labels, &mut known, &mut class_count, places, m);
+    let marked = numbered_marks(labels, &mut known, &mut class_count, places, m);
     let context = Context::none();
     let contexts = [context; Sheet::CONTEXT_ROOM];
     Sheet {

@@ -19,8 +19,10 @@ pub fn own_labels(labels: &mut [u16; PLACES])
     requires { length labels.old ≡ places }
     ensures { Own labels.new }
 {
-    for k in 0..PLACES {
+    let mut k = 0;
+    while k < PLACES {
         labels[k] = k as u16;
+        k += 1;
     }
 }
 
@@ -36,12 +38,14 @@ fn merged(labels: &mut [u16; PLACES], n: usize, a: usize, b: usize)
         labels[b] = to;
         return;
     }
-    for k in 0..n {
+    let mut k = 0;
+    while k < n {
         let mut label = labels[k];
         if label == from {
             label = to;
         }
         labels[k] = label;
+        k += 1;
     }
 }
 
@@ -58,12 +62,14 @@ pub fn with_ports(
     ensures labels_after { labels.new ≡ joined_all labels.old (port_pairs p (take count links) (take count marked.now)) }
     ensures fresh_from { FreshFrom ((p + 1) * part_room) labels.new }
 {
-    for k in 0..count {
+    let mut k = 0;
+    while k < count {
         merged(
             &mut *labels,
             (p + 1) * PART,
             links[k] as usize,
             p * PART + marked[k] as usize,
         );
+        k += 1;
     }
 }

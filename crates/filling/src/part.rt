@@ -7,7 +7,7 @@ ghost use Rattle.placing.specs.Smallest.{same_list, numbers_to};
 ghost use Rattle.filling.specs.Fill.{first_differing};
 ghost use Rattle.filling.specs.Parts.{part_read, part_marks, exact_to, Exacts, first_unported, Counted};
 
-use reading::read::read_list;
+use reading::read::{Reading, read_list};
 use rows::{Context, Sheet};
 use sheet::part::part_for;
 
@@ -17,14 +17,11 @@ pub(crate) fn part_of(
     heads: [Context; Sheet::CONTEXT_ROOM],
     count: usize,
     number: u16,
-) -> Sheet
+) -> Reading
     requires { HeadsRead list.now heads count }
-    ensures { result ≡ part_read list.now number }
+    ensures { result.normal ≡ part_read list.now number }
 {
-    match read_list(part_for(list, heads, count, number)) {
-        Ok(part) => part.normal,
-        Err(_) => Sheet::empty(),
-    }
+    read_list(part_for(list, heads, count, number))
 }
 
 // Whether the first `count` marks, which ascend, are exactly 1 to n.
@@ -35,10 +32,12 @@ fn marks_exact(marks: &[u16; Sheet::MARK_ROOM], count: usize, n: u16) -> bool
     if count != n as usize {
         return false;
     }
-    for k in 0..n {
+    let mut k: u16 = 0;
+    while k < n {
         if marks[k as usize] != k + 1 {
             return false;
         }
+        k += 1;
     }
     true
 }
@@ -75,7 +74,7 @@ fn is_exact(
         return true;
     }
     let part = part_of(list, heads, count, number);
-    marks_exact(&part.marks, part.mark_count, n)
+    marks_exact(&part.normal.marks, part.normal.mark_count, n)
 }
 
 // 8 over whole texts: the row of the first of a figure's contexts without a filling of its number and count, by
@@ -88,11 +87,13 @@ pub fn first_lacking(
     requires { Counted contexts count }
     ensures { result ≡ first_unported ports (take count contexts) }
 {
-    for i in 0..count {
+    let mut i = 0;
+    while i < count {
         let context = contexts[i];
         if ports[context.number as usize] != context.count + 1 {
             return context.row as usize;
         }
+        i += 1;
     }
     0
 }
@@ -107,11 +108,13 @@ pub fn first_differing(
     requires { HeadsRead list.now heads count × Exacts list.now exact.now }
     ensures { result ≡ first_differing list.now (take count heads) }
 {
-    for i in 0..count {
+    let mut i = 0;
+    while i < count {
         let head = heads[i];
         if !is_exact(list, heads, count, exact, head.number, head.count) {
             return head.row as usize;
         }
+        i += 1;
     }
     0
 }

@@ -24,8 +24,10 @@ pub fn placed(p: usize, links: [u16; Sheet::MOST_LINKS]) -> [u16; Sheet::MOST_LI
     ensures { result ≡ map (place_of p) links }
 {
     let mut more = links;
-    for k in 0..Sheet::MOST_LINKS {
+    let mut k = 0;
+    while k < Sheet::MOST_LINKS {
         more[k] = (p * PART) as u16 + links[k];
+        k += 1;
     }
     more
 }
@@ -36,7 +38,8 @@ impl Whole {
         requires { (self.count ≤ atom_room) × (p ≤ figure_contexts) × (count ≤ sheet_atom_limit) × ((i k : ℕ) → get_or (get_or atoms i past_atoms).links k 0 < part_room) }
         ensures { Grown self result (map (placed_atom p) (take count atoms)) }
     {
-        for i in 0..count {
+        let mut i = 0;
+        while i < count {
             let atom = atoms[i];
             let before = atom.links;
             let links = placed(p, before);
@@ -49,6 +52,7 @@ impl Whole {
                 };
                 self.count = n + 1;
             }
+            i += 1;
         }
         self
     }
@@ -71,7 +75,8 @@ pub(crate) fn whole_of(
     ensures puts { Puts list.now own (take count contexts) labels.old labels.new result }
 {
     let mut whole = own;
-    for i in 0..count {
+    let mut i = 0;
+    while i < count {
         let context = contexts[i];
         let links = context.links;
         let part = part_of(list, heads, head_count, context.number);
@@ -80,17 +85,18 @@ pub(crate) fn whole_of(
             i + 1,
             links,
             context.count as usize,
-            &part.marked,
+            &part.normal.marked,
         );
         note_exact(
             &mut *exact,
-            &part.marks,
-            part.mark_count,
+            &part.normal.marks,
+            part.normal.mark_count,
             context.number,
             context.count,
         );
-        let atoms = part.atoms;
-        whole = whole.with_part(i + 1, atoms, part.atom_count);
+        let atoms = part.normal.atoms;
+        whole = whole.with_part(i + 1, atoms, part.normal.atom_count);
+        i += 1;
     }
     whole
 }

@@ -14,7 +14,7 @@ use Rattle.rows.specs.Packed.{ports_of}
 use Rattle.rows.specs.declared.Context.{Context}
 use Rattle.sheet.specs.Reading.{outcome_of, no_ports}
 use Rattle.sheet.specs.declared.kind.Kind.TheVariants.{Pattern}
-use Rattle.sheet.specs.Answer.{Passed}
+use Rattle.sheet.specs.declared.answer.Answer.TheVariants.{Passed}
 use Rattle.sheet.specs.HeldLimits.{Every}
 use Rattle.texts.proofs.BuiltRows.{every_in}
 use Rattle.placing.specs.Net.{NetCell, blank_of}

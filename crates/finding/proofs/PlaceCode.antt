@@ -1,5 +1,4 @@
 -- What the code of place finds on its way is what placing answers and writes.
-use Rattle.std.specs.Prelude.{Result, Ok, Err}
 use Prim.Native.Nat.{ℕ, suc, ◌-◌, ◌<◌, ◌≤◌}
 use mathlib.Core.Path.{◌≡◌, refl, ap, ap₂, sym, ◌∙◌, subst}
 use mathlib.Core.Bool.{true, false}
@@ -15,13 +14,9 @@ use Rattle.normalising.specs.NormalText.{slip_length}
 use Rattle.sheet.specs.Reading.{outcome_of, no_ports}
 use Rattle.rows.specs.declared.Sheet as form
 use Rattle.sheet.specs.declared.kind.Kind.TheVariants.{Plain, Pattern}
-use Rattle.sheet.specs.Answer.{Passed}
+use Rattle.sheet.specs.declared.answer.Refusal.{Refusal}
+use Rattle.sheet.specs.declared.answer.Answer.TheVariants.{Passed, Refused}
 use Rattle.sheet.proofs.read.HeldLimits.{held-within}
-use Rattle.sheet.specs.TaskAnswer.{input_answer, unless, slip_after}
-use Rattle.sheet.proofs.TaskAnswer.{input-refused}
-use Rattle.reading.specs.Readings.{sheet_read}
-use Rattle.sheet.specs.declared.answer.TaskError.{TaskError}
-use Rattle.sheet.specs.declared.answer.TaskError.TheVariants as error
 use Rattle.normalising.proofs.normal_text.NormalWritten.{atom-at, context-at, atom-range, context-range}
 use Rattle.placing.specs.Net.{Net, Range, Apart}
 use Rattle.placing.specs.Placing.{Placing, Good}
@@ -37,6 +32,9 @@ use Rattle.network.proofs.NetRead.{net-read, fit-read, narrow-read, normal-read}
 use Rattle.matching.specs.Search.{placed_in}
 use Rattle.matching.specs.declared.search.Found.{Found}
 use Rattle.listing.specs.Writing.{Columns, fillings_text}
+use Rattle.answers.specs.Done.{slip_after}
+use Rattle.answers.specs.declared.outcome.Done.{Done}
+use Rattle.answers.specs.declared.outcome.Done.TheVariants as done
 use Rattle.finding.specs.Place.{fillings_in, placed_fillings, placed_answer, placed_text, place_answer, place_slip}
 use Rattle.finding.specs.Inputs.{PlaceInputs}
 
@@ -79,7 +77,7 @@ module _ (sheet pattern : form.Sheet) (s p : List ℕ) (I : PlaceInputs sheet pa
     unfolding placed_fillings
     none_found h = ap (fillings_in (sheet_net s) (pattern_net p)) (sym in-texts ∙ ap (λ b. pick b (some found_placing) none) h)
 
-    pub none-answer : r.ok ≡ false → Err error.NoPlacing ≡ placed_answer (placed_fillings s p)
+    pub none-answer : r.ok ≡ false → done.NoPlacing ≡ placed_answer (placed_fillings s p)
     none-answer h = sym (ap placed_answer (none_found h))
 
     module _ (h : r.ok ≡ true) where
@@ -114,8 +112,8 @@ module _ (sheet pattern : form.Sheet) (s p : List ℕ) (I : PlaceInputs sheet pa
         size : n ≡ length (list_text found_fillings)
         size = e (take pattern.atom_count r.atoms_to) ∙ ap length found-text
 
-        pub some-answer : Ok n ≡ placed_answer (placed_fillings s p)
-        some-answer = ap Ok size ∙ sym (ap placed_answer some-found)
+        pub some-answer : done.Written n ≡ placed_answer (placed_fillings s p)
+        some-answer = ap done.Written size ∙ sym (ap placed_answer some-found)
 
         pub some-slip : (slip out : List ℕ)
             → ((atoms : List ℕ) → out ≡ fillings_text sheet pattern atoms r.links_to r.given ++ drop (length (fillings_text sheet pattern atoms r.links_to r.given)) slip)
@@ -125,28 +123,24 @@ module _ (sheet pattern : form.Sheet) (s p : List ℕ) (I : PlaceInputs sheet pa
 
 -- The whole call.
 module _ (sheet pattern slip : List ℕ) where
-  pub place_short : length slip < slip_length → (Err error.ShortSlip ≡ place_answer sheet pattern (length slip)) × (slip ≡ place_slip sheet pattern slip)
+  pub place_short : length slip < slip_length → (done.ShortSlip ≡ place_answer sheet pattern (length slip)) × (slip ≡ place_slip sheet pattern slip)
   unfolding place_answer place_slip
   place_short h = (rw (lt-ltb (length slip) slip_length h), rw (lt-ltb (length slip) slip_length h))
 
   module _ (h : slip_length ≤ length slip) where
-    pub place-first : (e : TaskError) → input_answer 1 (sheet_read (outcome_of Plain no_ports sheet)) ≡ Err e → (Err e ≡ place_answer sheet pattern (length slip)) × (slip ≡ place_slip sheet pattern slip)
+    pub place-first : (why : Refusal) (row : ℕ) → (outcome_of Plain no_ports sheet).answer ≡ Refused why row → (done.Refused 1 why row ≡ place_answer sheet pattern (length slip)) × (slip ≡ place_slip sheet pattern slip)
     unfolding place_answer place_slip
-    place-first e q =
-        let a : Err e ≡ unless (outcome_of Plain no_ports sheet).answer 1 (unless (outcome_of Pattern no_ports pattern).answer 2 (placed_answer (placed_fillings sheet pattern))) = input-refused 1 (outcome_of Plain no_ports sheet).answer _ e _ q in
-        (rw (le-ltb (length slip) slip_length h) a, rw (le-ltb (length slip) slip_length h) (ap (λ (d : Result ℕ TaskError). slip_after d (placed_text (placed_fillings sheet pattern)) slip) a))
+    place-first why row e = (rw (le-ltb (length slip) slip_length h, e), rw (le-ltb (length slip) slip_length h, e))
 
     module _ (a : (outcome_of Plain no_ports sheet).answer ≡ Passed) where
-      pub place-second : (e : TaskError) → input_answer 2 (sheet_read (outcome_of Pattern no_ports pattern)) ≡ Err e → (Err e ≡ place_answer sheet pattern (length slip)) × (slip ≡ place_slip sheet pattern slip)
+      pub place-second : (why : Refusal) (row : ℕ) → (outcome_of Pattern no_ports pattern).answer ≡ Refused why row → (done.Refused 2 why row ≡ place_answer sheet pattern (length slip)) × (slip ≡ place_slip sheet pattern slip)
       unfolding place_answer place_slip
-      place-second e q =
-          let b : Err e ≡ unless (outcome_of Pattern no_ports pattern).answer 2 (placed_answer (placed_fillings sheet pattern)) = input-refused 2 (outcome_of Pattern no_ports pattern).answer _ e _ q in
-          (rw (le-ltb (length slip) slip_length h, a) b, rw (le-ltb (length slip) slip_length h, a) (ap (λ (d : Result ℕ TaskError). slip_after d (placed_text (placed_fillings sheet pattern)) slip) b))
+      place-second why row e = (rw (le-ltb (length slip) slip_length h, a, e), rw (le-ltb (length slip) slip_length h, a, e))
 
-      pub place-both : (outcome_of Pattern no_ports pattern).answer ≡ Passed → (d : Result ℕ TaskError) → d ≡ placed_answer (placed_fillings sheet pattern) → (out : List ℕ) → out ≡ slip_after d (placed_text (placed_fillings sheet pattern)) slip
+      pub place-both : (outcome_of Pattern no_ports pattern).answer ≡ Passed → (d : Done) → d ≡ placed_answer (placed_fillings sheet pattern) → (out : List ℕ) → out ≡ slip_after d (placed_text (placed_fillings sheet pattern)) slip
           → (d ≡ place_answer sheet pattern (length slip)) × (out ≡ place_slip sheet pattern slip)
       unfolding place_answer place_slip
       place-both b d e out o = (
         rw (le-ltb (length slip) slip_length h, a, b) e,
-        rw (le-ltb (length slip) slip_length h, a, b) (o ∙ ap (λ (x : Result ℕ TaskError). slip_after x (placed_text (placed_fillings sheet pattern)) slip) e),
+        rw (le-ltb (length slip) slip_length h, a, b) (o ∙ ap (λ (x : Done). slip_after x (placed_text (placed_fillings sheet pattern)) slip) e),
       )

@@ -2,7 +2,7 @@
 use Rattle.std.specs.Prelude.{ℕ, ◌≡◌, List}
 use Rattle.sheet.specs.Reading.{outcome_of, no_ports}
 use Rattle.sheet.specs.declared.kind.Kind.TheVariants.{Plain, Pattern}
-use Rattle.sheet.specs.Answer.{Passed}
+use Rattle.sheet.specs.declared.answer.Answer.TheVariants.{Passed}
 
 pub record PlacePassed (sheet pattern : List ℕ) : Type 0 where
   pub sheet-passes : (outcome_of Plain no_ports sheet).answer ≡ Passed

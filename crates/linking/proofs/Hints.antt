@@ -9,7 +9,7 @@ use native.Mathlib.Omega.{arith}
 use lib.Dec.{eqb, ltb}
 use lib.ListN.{length, get_or, take, set, length-set}
 use lib.Seq.{get_or-take, get_or-set_same, get_or-set_other, length-take-le}
-use borrow.Author.Tests.{eq-eqb, ne_eqb, eqb-true, ltb-true, le-ltb}
+use borrow.Author.Tests.{eq-eqb, ne_eqb, eqb-true, ltb-true, lt-ltb, le-ltb}
 use Rattle.rows.specs.Pick.{pick, and}
 use Rattle.rows.specs.Format.{head_letter}
 use Rattle.rows.specs.Held.{index_of}
@@ -61,7 +61,23 @@ module _ (hints links : List ℕ) (n : ℕ) (k : Hinted hints links n) where
       go true q r = let z : kept ≡ 0 = omega arith in rw z (hinted-none hints links' k.wide)
       go false q r = let z : kept ≡ n = omega arith in rw z (rw r k)
 
--- the place that is found with hints is at most n
+-- the place that is found with hints
+module _ (links : List ℕ) (n x : ℕ) (hints : List ℕ) (hint : ℕ) (e : hint ≡ get_or hints (hint_at x) 0) where
+  pub place-few : length links < n → n ≡ place_by links n x hints
+  place-few h = rw (lt-ltb (length links) n h)
+
+  module _ (fits : n ≤ length links) where
+    pub place-new : hint ≡ 0 → n ≡ place_by links n x hints
+    place-new z = rw (← e) (rw (le-ltb (length links) n fits) (rw (eq-eqb hint 0 z)))
+
+    pub place-named : (hint ≡ 0 → ⊥) → hint - 1 < n → get_or links (hint - 1) 0 ≡ x → hint - 1 ≡ place_by links n x hints
+    place-named z near there =
+        rw (← e) (rw (le-ltb (length links) n fits) (rw (ne_eqb hint 0 z) (rw (lt-ltb (hint - 1) n near) (rw (eq-eqb (get_or links (hint - 1) 0) x there)))))
+
+    pub place_other : (hint ≡ 0 → ⊥) → and (ltb (hint - 1) n) (eqb (get_or links (hint - 1) 0) x) ≡ false → index_of x (take n links) ≡ place_by links n x hints
+    place_other z away = rw (← e) (rw (le-ltb (length links) n fits) (rw (ne_eqb hint 0 z) (rw away)))
+
+-- it is at most n
 module _ (links : List ℕ) (n x : ℕ) (hints : List ℕ) where
   abbrev hint : ℕ
   hint = get_or hints (hint_at x) 0

@@ -3,7 +3,8 @@ use Prim.Native.Nat.{ℕ, zero, suc, ◌+◌, ◌-◌, ◌<◌, ◌≤◌}
 use mathlib.Core.Path.{◌≡◌, refl, ap, ◌∙◌, sym}
 use mathlib.Core.List.{List, [], ◌∷◌, map}
 use mathlib.Core.Bool.{Bool, true, false}
-use native.Mathlib.Nat.{add-zero, zero-add}
+use mathlib.Core.Logic.{⊎_elim}
+use native.Mathlib.Nat.{add-zero, zero-add, eq-or-lt_of_le}
 use native.Mathlib.Numerals.{add-one}
 use native.Mathlib.Omega.{arith}
 use lib.Dec.{eqb}
@@ -40,6 +41,9 @@ index-distinct n l x p fits h e once =
 abbrev pub Lacks : List ℕ → ℕ → ℕ → ℕ → Type 0
 Lacks l i x m = (k : ℕ) → k < m → get_or l (i + k) 0 ≡ x → ⊥
 
+pub lacks-more : (l : List ℕ) (i x m : ℕ) → Lacks l i x m → (get_or l (i + m) 0 ≡ x → ⊥) → Lacks l i x (m + 1)
+lacks-more l i x m before here k h = ⊎_elim (λ e. rw e here) (before k) (eq-or-lt_of_le (let q : k ≤ m = omega arith in q))
+
 pub index-lacks : (l : List ℕ) (x i m : ℕ) → i + m ≤ length l → Lacks l i x m → index_of x (drop i l) ≡ m + index_of x (drop (i + m) l)
 index-lacks l x i zero h lacks = rw (add-zero i, zero-add (index_of x (drop i l)))
 index-lacks l x i (suc m) h lacks =
@@ -47,6 +51,10 @@ index-lacks l x i (suc m) h lacks =
     let first : get_or l i 0 ≡ x → ⊥ = rw (add-zero i) at (lacks 0 (omega arith)) in
     let rest = index-lacks l x (i + 1) m (omega arith) (λ k q e. lacks (suc k) (omega arith) (ap (λ (n : ℕ). get_or l n 0) (omega arith) ∙ e)) in
     rw z (omega (arith, index-miss l x i (omega arith) first, rest))
+
+-- one turn of clearing in place
+pub clear_next : (l s : List ℕ) (i : ℕ) → i < length l → s ≡ cleared i l → set s i 0 ≡ cleared (i + 1) l
+clear_next l s i h e = rw e (sym (mapped_next (λ x. 0) 0 l i h))
 
 -- one turn of relabelling in place
 module _ (from to : ℕ) (l labels : List ℕ) (i : ℕ) (h : i < length l) (e : labels ≡ mapped (relabelled from to) i l) where
@@ -74,7 +82,7 @@ pub relabel-none : (from to n : ℕ) (l : List ℕ) → from ≡ to → l ≡ ma
 relabel-none from to n l e = rw (relabelled-same from to e (take n l)) (sym (take-append-drop n l))
 
 -- a list that is cleared is nothing but padding
-pub zeros : (l : List ℕ) → map {B = ℕ} (λ x. 0) l ≡ replicate (length l) 0
+zeros : (l : List ℕ) → map {B = ℕ} (λ x. 0) l ≡ replicate (length l) 0
 zeros [] = refl
 zeros (x ∷ l) = ap (λ (r : List ℕ). 0 ∷ r) (zeros l)
 

@@ -1,6 +1,6 @@
 -- The links of a row, by its letter: how many, from which field on, and what they make of links and classes.
 use Prim.Native.Nat.{ℕ, zero, suc, ◌+◌, ◌-◌, ◌<◌, ◌≤◌}
-use mathlib.Core.Path.{◌≡◌, refl, ap, ◌∙◌}
+use mathlib.Core.Path.{◌≡◌, refl}
 use mathlib.Core.List.{List, [], ◌∷◌}
 use mathlib.Core.Bool.{Bool, true, false}
 use native.Mathlib.Numerals.{add-one}
@@ -10,7 +10,7 @@ use lib.ListN.{length, get_or, take, drop, drop_of_length-le}
 use lib.Seq.{drop-cons}
 use borrow.Author.Tests.{ne_eqb}
 use Rattle.rows.specs.Pick.{pick}
-use Rattle.rows.specs.Format.{field_count, most_links, atom_letter, context_letter, fusion_letter, edge_letter, head_letter, no_letter, blank, rules}
+use Rattle.rows.specs.Format.{field_count, most_links, atom_letter, context_letter, fusion_letter, edge_letter, head_letter, no_letter, blank}
 use Rattle.rows.specs.Limits.{filling_links}
 use Rattle.rows.specs.Held.{Wiring, with_link, with_links, with_fusion, no_wiring}
 use Rattle.linking.specs.Steps.{gone, cleared, Wired, Linked, Relinks, first_link_in, link_count_in, first_link, link_total, linked_by}
@@ -51,20 +51,6 @@ fusion-first letter e = rw e
 pub edge-first : (letter : ℕ) → letter ≡ edge_letter → first_link letter ≡ 0
 unfolding first_link_in
 edge-first letter e = rw e
-
--- what is found by the rules of a letter's fields
-module _ (letter : ℕ) (own : List Rule) (e : own ≡ get_or rules letter []) where
-  pub from_is : (from : ℕ) → from ≡ first_link_in own → from ≡ first_link letter
-  from_is from f = f ∙ ap first_link_in e
-
-  pub count-is : (nums : List ℕ) (count : ℕ) → count ≡ link_count_in own (get_or nums 1 0) → count ≡ link_total letter nums
-  count-is nums count f = f ∙ ap (λ (l : List Rule). link_count_in l (get_or nums 1 0)) e
-
-  pub fusion-from : (from : ℕ) → from ≡ first_link_in own → letter ≡ fusion_letter → from ≡ 0
-  fusion-from from f two = from_is from f ∙ fusion-first letter two
-
-  pub edge-from : (from : ℕ) → from ≡ first_link_in own → letter ≡ edge_letter → from ≡ 0
-  edge-from from f three = from_is from f ∙ edge-first letter three
 
 -- one turn of the search for the first link, and of the count of links
 module _ (l : List Rule) (f : ℕ) (h : f < length l) where

@@ -4,7 +4,7 @@ use mathlib.Core.Path.{◌≡◌, refl, ap}
 use mathlib.Core.List.{List}
 use mathlib.Core.Bool.{Bool, true, false}
 use lib.Dec.{eqb}
-use lib.ListN.{length, set, take, drop}
+use lib.ListN.{length, get_or, set, take, drop}
 use native.Mathlib.Omega.{arith}
 use Rattle.rows.specs.Pick.{pick}
 use Rattle.rows.specs.Format.{field_count, atom_letter, fusion_letter, head_letter, no_letter}

@@ -16,6 +16,12 @@ fn hint_at(x: u16) -> usize
     x as usize % HINTS
 }
 
+fn wide(b: u8) -> usize
+    ensures { result ≡ b }
+{
+    b as usize
+}
+
 // The place of x among the first n links, or n where it is not there or there are not so many: where no link stands
 // twice and none has the hint 0. A link with the hint 0 is new; else the place that the hint says is tried first.
 pub fn place_of(links: &[u16], n: usize, x: u16, hints: &[u8; HINTS]) -> usize
@@ -24,13 +30,15 @@ pub fn place_of(links: &[u16], n: usize, x: u16, hints: &[u8; HINTS]) -> usize
     if links.len() < n {
         return n;
     }
-    let hint = usize::from(hints[hint_at(x)]);
+    let hint = wide(hints[hint_at(x)]);
     if hint == 0 {
         return n;
     }
     let p = hint - 1;
-    if p < n && links[p] == x {
-        return p;
+    if p < n {
+        if links[p] == x {
+            return p;
+        }
     }
     index_of(links, n, x)
 }
@@ -61,5 +69,8 @@ pub(crate) fn count_with(n: usize, p: usize) -> usize
     requires { n < link_room }
     ensures { (result ≤ n + 1) × (result ≡ count_with n p) }
 {
-    if p == n { n + 1 } else { n }
+    if p == n {
+        return n + 1;
+    }
+    n
 }

@@ -17,10 +17,12 @@ fn among_eight(s: &[u16], i: usize, x: u16) -> bool
     ensures { result ≡ false → (k : ℕ) → k < 8 → ¬ (get_or s.now (i + k) 0 ≡ x) }
 {
     let mut found = false;
-    for k in 0..8 {
+    let mut k = 0;
+    while k < 8 {
         if s[i + k] == x {
             found = true;
         }
+        k += 1;
     }
     found
 }
@@ -30,13 +32,14 @@ fn skipped(s: &[u16], n: usize, x: u16) -> usize
     requires { n ≤ length s.now }
     ensures { (result ≤ n) × (index_of x (take n s.now) ≡ result + index_of x (drop result (take n s.now))) }
 {
-    for eight in 0..n / 8 {
-        let i = 8 * eight;
+    let mut i = 0;
+    while 8 <= n - i {
         if among_eight(s, i, x) {
             return i;
         }
+        i += 8;
     }
-    8 * (n / 8)
+    i
 }
 
 // The place of x among the first n numbers, or n where it is not there.
@@ -44,10 +47,12 @@ pub fn index_of(s: &[u16], n: usize, x: u16) -> usize
     requires { n ≤ length s.now }
     ensures { result ≡ index_of x (take n s.now) }
 {
-    for i in skipped(s, n, x)..n {
+    let mut i = skipped(s, n, x);
+    while i < n {
         if s[i] == x {
             return i;
         }
+        i += 1;
     }
     n
 }
@@ -57,12 +62,14 @@ pub(crate) fn relabel(classes: &mut [u16], n: usize, from: u16, to: u16)
     requires { n ≤ length classes.old }
     ensures { classes.new ≡ map (relabelled from to) (take n classes.old) ++ drop n classes.old }
 {
-    for i in 0..n {
+    let mut i = 0;
+    while i < n {
         let mut label = classes[i];
         if label == from {
             label = to;
         }
         classes[i] = label;
+        i += 1;
     }
 }
 
@@ -71,7 +78,11 @@ pub(crate) fn clear(s: &mut [u16], n: usize)
     requires { n ≤ length s.old }
     ensures { s.new ≡ cleared n s.old }
 {
-    s[..n].fill(0);
+    let mut i = 0;
+    while i < n {
+        s[i] = 0;
+        i += 1;
+    }
 }
 
 // The classes of the links at places i and j made one, where they are two.
@@ -116,8 +127,10 @@ pub(crate) fn add_links(
     ensures { (result ≤ n + count) × Relinks links.old classes.old n links.new classes.new result (λ w. with_links w (take count (drop from nums))) × Hinted hints.new links.new result }
 {
     let mut m = n;
-    for k in 0..count {
+    let mut k = 0;
+    while k < count {
         m = add_link(links, classes, m, nums[from + k], hints);
+        k += 1;
     }
     m
 }
@@ -146,12 +159,14 @@ pub(crate) fn add_fusion(
 pub(crate) fn first_link(own: [Rule; Sheet::FIELDS]) -> usize
     ensures { result ≡ first_link_in own }
 {
-    for (f, rule) in own.iter().enumerate() {
-        if rule.link {
+    let mut f = 0;
+    while f < Sheet::FIELDS {
+        if own[f].link {
             return f;
         }
+        f += 1;
     }
-    Sheet::FIELDS
+    f
 }
 
 // How many links a row with this count has, by the rules of its letter.
@@ -159,13 +174,16 @@ pub(crate) fn link_count(own: [Rule; Sheet::FIELDS], count: u16) -> usize
     ensures { result ≡ link_count_in own count }
 {
     let mut links = 0;
-    for rule in &own {
+    let mut f = 0;
+    while f < Sheet::FIELDS {
+        let rule = own[f];
         if rule.link {
             if rule.counted {
                 return links + count as usize;
             }
             links += 1;
         }
+        f += 1;
     }
     links
 }
@@ -174,7 +192,10 @@ pub(crate) fn link_count(own: [Rule; Sheet::FIELDS], count: u16) -> usize
 pub(crate) fn gone_by(letter: usize, n: usize) -> usize
     ensures { result ≡ gone letter n }
 {
-    if letter == Row::HEAD { n } else { 0 }
+    if letter == Row::HEAD {
+        return n;
+    }
+    0
 }
 
 // Those of n numbers in both arrays that are gone, made 0. How many are left is returned.

@@ -2,7 +2,7 @@
 // file that the first argument names, or sheet.txt.
 #![tactic(auto)]
 
-use answers::of_written;
+use answers::of_normalised;
 use answers::row::{answer_row, written_part};
 use normalising::normalise::normalise_sheet;
 use rows::Sheet;
@@ -15,7 +15,7 @@ fn main(rt: HostRuntime) -> io::Result<()> {
     };
     let mut out = [0u8; Sheet::SLIP];
     let done = normalise_sheet(&sheet[..n], &mut out);
-    let answer = of_written(done);
+    let answer = of_normalised(done);
     rt.write_all(&answer_row(answer))?;
     rt.write_all(written_part(answer, &out))
 }

@@ -6,7 +6,6 @@ use Rattle.writing.specs.RowText.{row_bytes}
 use Rattle.rows.specs.declared.Atom.{Atom}
 use Rattle.rows.specs.declared.Context.{Context}
 use Rattle.rows.specs.declared.Sheet.{Sheet as Normal}
-use Rattle.normalising.specs.declared.normal_text.Edge.{Edge}
 
 -- the rows of the places below a number, one after the other
 unfoldable pub rows_to : (ℕ → List ℕ) → ℕ → List ℕ
@@ -29,9 +28,6 @@ symbol_row a = linked_row 83 a.name a.count a.links
 
 abbrev pub blank_row : Context → List ℕ
 blank_row c = linked_row 66 c.number c.count c.links
-
-abbrev pub edge_row : Edge → List ℕ
-edge_row e = row_bytes 69 (e.link ∷ e.mark ∷ [])
 
 -- the rows of arrays, by place
 abbrev pub atom_row_in : List Atom → ℕ → List ℕ

@@ -1,11 +1,9 @@
 // The text of a normal form: its rows, one after the other.
-ghost use Rattle.std.specs.Prelude.{◌≡◌, List, [], ◌∷◌, ◌++◌, map, ℕ, ◌+◌, ◌*◌, ◌<◌, ◌≤◌, length, get_or, take, drop};
+ghost use Rattle.std.specs.Prelude.{◌≡◌, [], ◌∷◌, ◌++◌, ◌+◌, ◌*◌, ◌≤◌, length, take, drop};
 ghost use Rattle.rows.specs.Format.{row_width, most_number};
-ghost use Rattle.rows.specs.Limits.{mark_room};
-ghost use Rattle.writing.proofs.RowBytes.{row-width};
-ghost use Rattle.normalising.specs.NormalText.{joined};
-ghost use Rattle.normalising.specs.NormalRows.{linked_row, symbol_row, blank_row, edge_row, normal_rows, Narrow, Writable};
-ghost use Rattle.normalising.specs.declared.normal_text.Edge.{Edge};
+ghost use Rattle.writing.specs.RowText.{row_bytes};
+ghost use Rattle.rows.specs.Limits.{sheet_atom_limit, figure_contexts, sheet_marks};
+ghost use Rattle.normalising.specs.NormalRows.{rows_to, linked_row, atom_row_in, context_row_in, mark_row_in, normal_rows, Narrow, AtomsNarrow, ContextsNarrow, MarksNarrow, Writable};
 
 use rows::{Atom, Context, Sheet};
 use writing::write::put_row;
@@ -17,8 +15,10 @@ fn row_numbers(first: u16, count: u16, links: [u16; Sheet::MOST_LINKS]) -> [u16;
     let mut nums = [0; Sheet::FIELDS];
     nums[0] = first;
     nums[1] = count;
-    for k in 0..Sheet::MOST_LINKS {
+    let mut k = 0;
+    while k < Sheet::MOST_LINKS {
         nums[k + 2] = links[k];
+        k += 1;
     }
     nums
 }
@@ -40,102 +40,83 @@ fn put_linked(
     put_row(out, at, letter, nums, count as usize + 2);
 }
 
-// What is written as one row.
-trait AsRow {
-    // The bytes of the row.
-    ghost bytes: { Self → List ℕ };
-
-    // The numbers of the row have four digits at most.
-    ghost Fits: { Self → Type 0 };
-
-    // The row, from byte `at` on.
-    fn put(&self, out: &mut [u8], at: usize)
-        requires row_width_in_bounds { at + row_width ≤ length out.old }
-        requires fits { Fits self.now }
-        ensures { out.new ≡ take at out.old ++ bytes self.now ++ drop (at + row_width) out.old };
-
-    ghost width: { (x : Self) → length (bytes x) ≡ row_width };
-}
-
-// An S row.
-impl AsRow for Atom {
-    ghost bytes = { symbol_row };
-
-    ghost Fits = { λ a. Narrow a.name a.count a.links };
-
-    ghost width = { λ a. row-width _ _ };
-
-    fn put(&self, out: &mut [u8], at: usize) {
-        put_linked(out, at, b'S', self.name, self.count, self.links);
+// The S rows, from byte `at` on; the byte after them.
+fn put_atoms(atoms: [Atom; Sheet::ATOM_ROOM], count: usize, out: &mut [u8], at: usize) -> usize
+    requires count_le_sheet_atoms { (count ≤ sheet_atom_limit) × AtomsNarrow atoms count }
+    requires row_width_in_bounds { at + count * row_width ≤ length out.old }
+    ensures value { result ≡ at + count * row_width }
+    ensures out_after { out.new ≡ take at out.old ++ rows_to (atom_row_in atoms) count ++ drop (at + count * row_width) out.old }
+{
+    let mut k = 0;
+    while k < count {
+        let atom = atoms[k];
+        let links = atom.links;
+        put_linked(out, at + k * Sheet::ROW, b'S', atom.name, atom.count, links);
+        k += 1;
     }
+    at + k * Sheet::ROW
 }
 
-// A B row.
-impl AsRow for Context {
-    ghost bytes = { blank_row };
-
-    ghost Fits = { λ c. Narrow c.number c.count c.links };
-
-    ghost width = { λ c. row-width _ _ };
-
-    fn put(&self, out: &mut [u8], at: usize) {
-        put_linked(out, at, b'B', self.number, self.count, self.links);
+// The B rows, from byte `at` on; the byte after them.
+fn put_contexts(
+    contexts: [Context; Sheet::CONTEXT_ROOM],
+    count: usize,
+    out: &mut [u8],
+    at: usize,
+) -> usize
+    requires count_le_figure_contexts { (count ≤ figure_contexts) × ContextsNarrow contexts count }
+    requires row_width_in_bounds { at + count * row_width ≤ length out.old }
+    ensures value { result ≡ at + count * row_width }
+    ensures out_after { out.new ≡ take at out.old ++ rows_to (context_row_in contexts) count ++ drop (at + count * row_width) out.old }
+{
+    let mut k = 0;
+    while k < count {
+        let context = contexts[k];
+        let links = context.links;
+        put_linked(
+            out,
+            at + k * Sheet::ROW,
+            b'B',
+            context.number,
+            context.count,
+            links,
+        );
+        k += 1;
     }
+    at + k * Sheet::ROW
 }
 
-// A link and its mark.
-#[derive(Clone, Copy)]
-struct Edge {
-    link: u16,
-    mark: u16,
+// An E row, from byte `at` on.
+fn put_mark(out: &mut [u8], at: usize, link: u16, mark: u16)
+    requires row_width_in_bounds { at + row_width ≤ length out.old }
+    requires link_le_most_number { (link ≤ most_number) × (mark ≤ most_number) }
+    ensures { out.new ≡ take at out.old ++ row_bytes 69 (link ∷ mark ∷ []) ++ drop (at + row_width) out.old }
+{
+    let mut nums = [0; Sheet::FIELDS];
+    nums[0] = link;
+    nums[1] = mark;
+    put_row(out, at, b'E', nums, 2);
 }
 
-// An E row.
-impl AsRow for Edge {
-    ghost bytes = { edge_row };
-
-    ghost Fits = { λ e. (e.link ≤ most_number) × (e.mark ≤ most_number) };
-
-    ghost width = { λ e. row-width _ _ };
-
-    fn put(&self, out: &mut [u8], at: usize) {
-        let mut nums = [0; Sheet::FIELDS];
-        nums[0] = self.link;
-        nums[1] = self.mark;
-        put_row(out, at, b'E', nums, 2);
-    }
-}
-
-// Each mark with its link.
-fn edges_of(
+// The E rows, from byte `at` on; the byte after them.
+fn put_marks(
     marked: [u16; Sheet::MARK_ROOM],
     marks: [u16; Sheet::MARK_ROOM],
-) -> [Edge; Sheet::MARK_ROOM]
-    ensures { (k : ℕ) (d : Edge) → k < mark_room → get_or result k d ≡ record { link = get_or marked k 0; mark = get_or marks k 0 } }
+    count: usize,
+    out: &mut [u8],
+    at: usize,
+) -> usize
+    requires count_le_sheet_marks { (count ≤ sheet_marks) × MarksNarrow marked marks count }
+    requires row_width_in_bounds { at + count * row_width ≤ length out.old }
+    ensures value { result ≡ at + count * row_width }
+    ensures out_after { out.new ≡ take at out.old ++ rows_to (mark_row_in marked marks) count ++ drop (at + count * row_width) out.old }
 {
-    let mut edges = [Edge { link: 0, mark: 0 }; Sheet::MARK_ROOM];
-    for k in 0..Sheet::MARK_ROOM {
-        edges[k] = Edge {
-            link: marked[k],
-            mark: marks[k],
-        };
+    let mut k = 0;
+    while k < count {
+        put_mark(out, at + k * Sheet::ROW, marked[k], marks[k]);
+        k += 1;
     }
-    edges
-}
-
-// The rows one after the other, from byte `at` on; the byte after them.
-fn put_rows<R: AsRow>(rows: &[R], out: &mut [u8], at: usize) -> usize
-    requires fits { (k : ℕ) (d : R) → k < length rows.now → R.Fits (get_or rows.now k d) }
-    requires row_width_in_bounds { at + length rows.now * row_width ≤ length out.old }
-    ensures value { result ≡ at + length rows.now * row_width }
-    ensures out_after { out.new ≡ take at out.old ++ joined (map R.bytes rows.now) ++ drop (at + length rows.now * row_width) out.old }
-{
-    let mut end = at;
-    for row in rows {
-        row.put(out, end);
-        end += Sheet::ROW;
-    }
-    end
+    at + k * Sheet::ROW
 }
 
 // All rows from byte 0 on, the S rows first and the E rows last; the number of bytes.
@@ -145,8 +126,11 @@ pub fn write_normal(normal: Sheet, out: &mut [u8]) -> usize
     ensures value { result ≡ length (normal_rows normal) }
     ensures out_after { out.new ≡ normal_rows normal ++ drop (length (normal_rows normal)) out.old }
 {
-    let edges = edges_of(normal.marked, normal.marks);
-    let end = put_rows(&normal.atoms[..normal.atom_count], out, 0);
-    let end = put_rows(&normal.contexts[..normal.context_count], out, end);
-    put_rows(&edges[..normal.mark_count], out, end)
+    let atoms = normal.atoms;
+    let contexts = normal.contexts;
+    let marked = normal.marked;
+    let marks = normal.marks;
+    let end = put_atoms(atoms, normal.atom_count, out, 0);
+    let end = put_contexts(contexts, normal.context_count, out, end);
+    put_marks(marked, marks, normal.mark_count, out, end)
 }

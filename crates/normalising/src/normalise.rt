@@ -6,30 +6,46 @@ ghost use Rattle.normalising.specs.NormalText.{normalised_answer, normalised_sli
 use crate::normal_text::write_normal;
 use reading::read::read_text;
 use rows::Sheet;
-use sheet::answer::{TaskError, of_input};
+use sheet::answer::{Answer, Refusal};
 use sheet::kind::Kind;
 
-// A text of this kind, which is no list of fillings; the bytes written.
-fn normalise(kind: Kind, text: &[u8], out: &mut [u8]) -> Result<usize, TaskError>
+// The bytes written; the buffer is too short; or the text is refused at a row.
+#[derive(Clone, Copy)]
+pub enum Normalised {
+    Written(usize),
+    ShortSlip,
+    Refused(Refusal, usize),
+}
+
+// A text of this kind, which is no list of fillings.
+fn normalise(kind: Kind, text: &[u8], out: &mut [u8]) -> Normalised
     requires { is_list kind ≡ false }
     ensures value { result ≡ normalised_answer kind text.now (length out.old) }
     ensures out_after { out.new ≡ normalised_slip kind text.now out.old }
 {
     if out.len() < Sheet::SLIP {
-        return Err(TaskError::ShortSlip);
+        return Normalised::ShortSlip;
     }
-    let reading = of_input(1, read_text(kind, [0; Sheet::NUMBERS], text))?;
-    Ok(write_normal(reading.normal, out))
+    let reading = read_text(kind, [0; Sheet::NUMBERS], text);
+    let answer = reading.answer;
+    match answer {
+        Answer::Passed => {
+            let normal = reading.normal;
+            let bytes = write_normal(normal, out);
+            Normalised::Written(bytes)
+        }
+        Answer::Refused(why, row) => Normalised::Refused(why, row),
+    }
 }
 
-pub fn normalise_sheet(text: &[u8], out: &mut [u8]) -> Result<usize, TaskError>
+pub fn normalise_sheet(text: &[u8], out: &mut [u8]) -> Normalised
     ensures value { result ≡ normalised_answer Kind.Plain text.now (length out.old) }
     ensures out_after { out.new ≡ normalised_slip Kind.Plain text.now out.old }
 {
     normalise(Kind::Plain, text, out)
 }
 
-pub fn normalise_figure(text: &[u8], out: &mut [u8]) -> Result<usize, TaskError>
+pub fn normalise_figure(text: &[u8], out: &mut [u8]) -> Normalised
     ensures value { result ≡ normalised_answer Kind.Figure text.now (length out.old) }
     ensures out_after { out.new ≡ normalised_slip Kind.Figure text.now out.old }
 {

@@ -1,13 +1,13 @@
 -- A number once given never changes: what the classes numbered later are plays no part in it.
 use Prim.Native.Nat.{ℕ, ◌+◌, ◌<◌, ◌≤◌}
 use mathlib.Core.Path.{◌≡◌, refl, sym, ap, ◌∙◌}
-use mathlib.Core.List.{List, [], ◌∷◌, ◌++◌, map, append-nil}
+use mathlib.Core.List.{List, [], ◌∷◌, ◌++◌, map}
 use mathlib.Core.Bool.{Bool, true, false}
 use native.Mathlib.Omega.{arith}
 use borrow.Author.Tests.{eqb-true, eqb-false, ltb-true, ltb-false}
 use lib.Dec.{eqb, ltb}
-use lib.ListN.{length, get_or, take, drop, set, length-set, get_or-eq_default, drop_of_length-le}
-use lib.Seq.{get_or-set_same, get_or-set_other, take_all}
+use lib.ListN.{length, get_or, take, drop, set, length-set, get_or-eq_default}
+use lib.Seq.{get_or-set_same, get_or-set_other}
 use Rattle.rows.specs.Pick.{pick}
 use Rattle.rows.specs.Packed.{padded}
 use Rattle.rows.proofs.Padding.{get_d-filled, stored_next}
@@ -143,7 +143,3 @@ module _ {A : Type 0} (none : A) (count : A → ℕ) (links : A → List ℕ) (p
     pass-put n' rest r left got later =
         let q : put (get_or done i none) r ≡ by later (get_or l i none) = rw (got (rest ++ later), later-all n' all rest later left, pass_same) in
         rw q (ap (λ (v : List A). set v i (by later (get_or l i none))) (made later) ∙ sym (mapped_next (by later) none l i h))
-
--- At the end of such a loop all are mapped.
-pub mapped_all : {A : Type 0} (f : A → A) (i : ℕ) (l : List A) → length l ≤ i → mapped f i l ≡ map f l
-mapped_all f i l h = rw (take_all i l h, drop_of_length-le l h) (append-nil (map f l))

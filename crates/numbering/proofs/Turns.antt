@@ -1,6 +1,6 @@
 -- Classes numbered one after the other: steps of the loops that do so.
-use Prim.Native.Nat.{ℕ, suc, ◌+◌, ◌<◌, ◌≤◌}
-use mathlib.Core.Path.{◌≡◌, refl, ap, sym, ◌∙◌}
+use Prim.Native.Nat.{ℕ, ◌+◌, ◌<◌, ◌≤◌}
+use mathlib.Core.Path.{◌≡◌, refl, sym, ◌∙◌}
 use mathlib.Core.List.{List, [], ◌∷◌, ◌++◌, map}
 use mathlib.Core.Bool.{Bool, true, false}
 use native.Mathlib.Numerals.{add-one}
@@ -12,7 +12,7 @@ use lib.Seq.{drop-cons, length-take-le, get_or-take}
 use Rattle.rows.specs.Pick.{pick}
 use Rattle.rows.specs.declared.Atom.{Atom}
 use Rattle.rows.specs.declared.Context.{Context}
-use Rattle.numbering.specs.Numbering.{Numbering, with_class, with_classes, link_labels, row_labels, atom_labels, context_labels}
+use Rattle.numbering.specs.Numbering.{Numbering, with_class, with_classes, link_labels, atom_labels, context_labels}
 
 abbrev pub next_class : Numbering → ℕ → Numbering
 next_class n c = record { numbers = set n.numbers c (n.count + 1); count = n.count + 1 }
@@ -76,24 +76,22 @@ module _ (f : ℕ → ℕ) (l : List ℕ) (count k : ℕ) (n : Numbering) where
   unfolding with_classes
   classes-end h = rw (part_end l count k h)
 
--- One turn of a loop over rows that have links, and the end of such a loop.
-module _ {A : Type 0} (count : A → ℕ) (links : A → List ℕ) (f : ℕ → ℕ) (l : List A) (i : ℕ) (n : Numbering) where
-  pub rows-next : (d : A) → i < length l
-      → with_classes n (row_labels count links f (drop i l)) ≡ with_classes (with_classes n (link_labels f (count (get_or l i d)) (links (get_or l i d)))) (row_labels count links f (drop (i + 1) l))
-  unfolding row_labels
-  rows-next d h = rw (add-one i) (rw (drop-cons l i d h) (with-classes-append n (link_labels f (count (get_or l i d)) (links (get_or l i d))) (row_labels count links f (drop (suc i) l))))
+module _ (f : ℕ → ℕ) (l : List Atom) (count i : ℕ) (n : Numbering) where
+  pub atoms-next : (d : Atom) → count ≤ length l → i < count
+      → with_classes n (atom_labels f (drop i (take count l))) ≡ with_classes (with_classes n (link_labels f (get_or l i d).count (get_or l i d).links)) (atom_labels f (drop (i + 1) (take count l)))
+  unfolding atom_labels
+  atoms-next d fits h = rw (part-cons l count i d fits h) (with-classes-append n (link_labels f (get_or l i d).count (get_or l i d).links) (atom_labels f (drop (i + 1) (take count l))))
 
-  pub rows-end : length l ≤ i → with_classes n (row_labels count links f (drop i l)) ≡ n
-  unfolding row_labels with_classes
-  rows-end h = rw (drop_of_length-le l h)
+  pub atoms-end : count ≤ i → with_classes n (atom_labels f (drop i (take count l))) ≡ n
+  unfolding atom_labels with_classes
+  atoms-end h = rw (part_end l count i h)
 
--- Atoms and contexts are such rows.
-pub atoms-labels : (f : ℕ → ℕ) (l : List Atom) → row_labels (λ (a : Atom). a.count) (λ (a : Atom). a.links) f l ≡ atom_labels f l
-unfolding row_labels atom_labels
-atoms-labels f [] = refl
-atoms-labels f (a ∷ l) = ap (λ (t : List ℕ). link_labels f a.count a.links ++ t) (atoms-labels f l)
+module _ (f : ℕ → ℕ) (l : List Context) (count i : ℕ) (n : Numbering) where
+  pub contexts-next : (d : Context) → count ≤ length l → i < count
+      → with_classes n (context_labels f (drop i (take count l))) ≡ with_classes (with_classes n (link_labels f (get_or l i d).count (get_or l i d).links)) (context_labels f (drop (i + 1) (take count l)))
+  unfolding context_labels
+  contexts-next d fits h = rw (part-cons l count i d fits h) (with-classes-append n (link_labels f (get_or l i d).count (get_or l i d).links) (context_labels f (drop (i + 1) (take count l))))
 
-pub contexts-labels : (f : ℕ → ℕ) (l : List Context) → row_labels (λ (c : Context). c.count) (λ (c : Context). c.links) f l ≡ context_labels f l
-unfolding row_labels context_labels
-contexts-labels f [] = refl
-contexts-labels f (c ∷ l) = ap (λ (t : List ℕ). link_labels f c.count c.links ++ t) (contexts-labels f l)
+  pub contexts-end : count ≤ i → with_classes n (context_labels f (drop i (take count l))) ≡ n
+  unfolding context_labels with_classes
+  contexts-end h = rw (part_end l count i h)

@@ -42,9 +42,11 @@ pub(crate) fn number_links<'a>(
     ensures by_index { (later : List ℕ) → result ≡ links_by (with_classes (numbering numbers.new count.new) later).numbers (label_in links.now classes.now n) port_count ports }
 {
     let mut numbered = [0u16; Sheet::MOST_LINKS];
-    for k in 0..port_count {
+    let mut k = 0;
+    while k < port_count {
         let label = label_of(links, classes, n, ports[k], hints);
         numbered[k] = number_class(numbers, count, label);
+        k += 1;
     }
     numbered
 }

@@ -3,6 +3,5 @@
 
 pub mod classes;
 pub mod labels;
-pub mod linked_rows;
 pub mod marks;
 pub mod numbered;

@@ -4,9 +4,8 @@ ghost use Rattle.rows.specs.Format.{most_links};
 ghost use Rattle.rows.specs.Limits.{sheet_atom_limit, figure_contexts, sheet_marks};
 ghost use Rattle.numbering.specs.Numbering.{Labels, MarkLabels, numbering, label_in, mark_label_in, with_classes, atom_labels, context_labels, atom_numbered, context_numbered, marks_by, most_classes};
 
-use crate::classes::{ROOM, number_class};
+use crate::classes::{ROOM, number_class, number_links};
 use crate::labels::mark_label;
-use crate::linked_rows::number_rows;
 use linking::place::HINTS;
 use rows::{Atom, Context, Sheet};
 
@@ -26,8 +25,27 @@ pub fn numbered_atoms<'a>(
     ensures count_bound { count.new ≤ count.old + most_links * atom_count }
     ensures by_index_2 { (later : List ℕ) → result ≡ map (atom_numbered (with_classes (numbering numbers.new count.new) later).numbers (label_in links.now classes.now n)) (take atom_count atoms) ++ drop atom_count atoms }
 {
-    let numbered = &mut atoms[..atom_count];
-    number_rows(numbers, count, links, classes, n, numbered, hints);
+    let mut i = 0;
+    while i < atom_count {
+        let atom = atoms[i];
+        let ports = atom.links;
+        let link_numbers = number_links(
+            numbers,
+            count,
+            links,
+            classes,
+            n,
+            ports,
+            atom.count as usize,
+            hints,
+        );
+        atoms[i] = Atom {
+            name: atom.name,
+            count: atom.count,
+            links: link_numbers,
+        };
+        i += 1;
+    }
     atoms
 }
 
@@ -47,8 +65,28 @@ pub fn numbered_contexts<'a>(
     ensures count_bound { count.new ≤ count.old + most_links * context_count }
     ensures by_index_2 { (later : List ℕ) → result ≡ map (context_numbered (with_classes (numbering numbers.new count.new) later).numbers (label_in links.now classes.now n)) (take context_count contexts) ++ drop context_count contexts }
 {
-    let numbered = &mut contexts[..context_count];
-    number_rows(numbers, count, links, classes, n, numbered, hints);
+    let mut i = 0;
+    while i < context_count {
+        let context = contexts[i];
+        let ports = context.links;
+        let port_numbers = number_links(
+            numbers,
+            count,
+            links,
+            classes,
+            n,
+            ports,
+            context.count as usize,
+            hints,
+        );
+        contexts[i] = Context {
+            number: context.number,
+            count: context.count,
+            links: port_numbers,
+            row: context.row,
+        };
+        i += 1;
+    }
     contexts
 }
 
@@ -67,9 +105,11 @@ pub fn numbered_marks<'a>(
     ensures value { result ≡ marks_by numbers.new (mark_label_in marks.now marked.now classes.now n) (take n ascending.now) }
 {
     let mut numbered = [0u16; Sheet::MARK_ROOM];
-    for i in 0..n {
+    let mut i = 0;
+    while i < n {
         let label = mark_label(marks, marked, classes, n, ascending[i]);
         numbered[i] = number_class(numbers, count, label);
+        i += 1;
     }
     numbered
 }

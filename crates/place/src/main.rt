@@ -2,7 +2,7 @@
 // The files are those that the arguments name, or sheet.txt and figure.txt.
 #![tactic(auto)]
 
-use answers::of_written;
+use answers::of_done;
 use answers::row::{answer_row, written_part};
 use finding::place::place;
 use rows::Sheet;
@@ -18,7 +18,7 @@ fn main(rt: HostRuntime) -> io::Result<()> {
     };
     let mut out = [0u8; Sheet::SLIP];
     let done = place(&sheet[..n], &pattern[..m], &mut out);
-    let answer = of_written(done);
+    let answer = of_done(done);
     rt.write_all(&answer_row(answer))?;
     rt.write_all(written_part(answer, &out))
 }

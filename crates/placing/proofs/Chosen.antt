@@ -9,7 +9,7 @@ use Rattle.hyperlmntal.specs.TermOf.{term_of}
 use Rattle.reading.specs.Graph.{graph_of, term_of_text}
 use Rattle.sheet.specs.Reading.{outcome_of, no_ports}
 use Rattle.sheet.specs.declared.kind.Kind.TheVariants.{Plain, Pattern, Fillings}
-use Rattle.sheet.specs.Answer.{Passed}
+use Rattle.sheet.specs.declared.answer.Answer.TheVariants.{Passed}
 use Rattle.placing.specs.Placing.{Placing}
 use Rattle.placing.specs.Fillings.{Filling, Fits, normal_fillings_of}
 use Rattle.placing.specs.Holding.{holding_term}

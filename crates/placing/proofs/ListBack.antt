@@ -12,7 +12,7 @@ use Rattle.rows.specs.declared.Atom.{Atom}
 use Rattle.rows.specs.declared.Context.{Context}
 use Rattle.sheet.specs.Reading.{last_number, passed, read_from, outcome_of, no_ports}
 use Rattle.sheet.specs.declared.kind.Kind.TheVariants.{Fillings}
-use Rattle.sheet.specs.Answer.{Passed}
+use Rattle.sheet.specs.declared.answer.Answer.TheVariants.{Passed}
 use Rattle.sheet.proofs.read.ReadingLaws.{read_none}
 use Rattle.texts.proofs.Went.{Went, went-none, went_then}
 use Rattle.texts.proofs.Few.{few-none}

@@ -18,7 +18,7 @@ use Rattle.writing.proofs.RowBytes.{row-width}
 use Rattle.sheet.specs.Filling.{from_head, before_head, first_filling, is_passed, filling_of}
 use Rattle.sheet.specs.Reading.{outcome_of, no_ports}
 use Rattle.sheet.specs.declared.kind.Kind.TheVariants.{Fillings}
-use Rattle.sheet.specs.Answer.{Passed}
+use Rattle.sheet.specs.declared.answer.Answer.TheVariants.{Passed}
 use Rattle.texts.proofs.BuiltRows.{held_atom}
 use Rattle.texts.proofs.RowBack.{row_first, row-after, row-byte, head-back}
 use Rattle.placing.specs.Fillings.{Row, symbol_row, point_row, edge_row, Filling}

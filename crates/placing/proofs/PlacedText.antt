@@ -18,7 +18,7 @@ use Rattle.reading.specs.Agrees.{Agrees}
 use Rattle.sheet.specs.Filling.{filling_of}
 use Rattle.sheet.specs.Reading.{outcome_of, no_ports}
 use Rattle.sheet.specs.declared.kind.Kind.TheVariants.{Plain, Pattern, Fillings}
-use Rattle.sheet.specs.Answer.{Passed}
+use Rattle.sheet.specs.declared.answer.Answer.TheVariants.{Passed}
 use Rattle.sheet.specs.HeldLimits.{AtomRange, ContextRange}
 use Rattle.sheet.proofs.read.HeldLimits.{held-within}
 use Rattle.reading.proofs.normal.Connected.{agrees-read, atom-links, context-links, edge-links}

@@ -9,7 +9,7 @@ use Rattle.rows.specs.Held.{Held}
 use Rattle.reading.specs.Graph.{graph_of, term_of_text}
 use Rattle.sheet.specs.Reading.{outcome_of, no_ports}
 use Rattle.sheet.specs.declared.kind.Kind.TheVariants.{Plain, Pattern}
-use Rattle.sheet.specs.Answer.{Passed}
+use Rattle.sheet.specs.declared.answer.Answer.TheVariants.{Passed}
 use Rattle.placing.specs.Net.{Net, net_term, Normal, NormalSheet, NormalPattern, blank_of}
 use Rattle.placing.specs.Placing.{Placing, Good}
 use Rattle.placing.specs.Fillings.{Filling, Fits, fillings_of, normal_fillings_of, AllExactMarks}

@@ -13,7 +13,8 @@ use Rattle.reading.specs.Normal.{normal_form, normal_form_by, class_of, classes_
 use Rattle.normalising.specs.NormalText.{joined, text_of, normal_text_of}
 use Rattle.sheet.specs.Reading.{outcome_of, no_ports}
 use Rattle.sheet.specs.declared.kind.Kind.TheVariants.{Plain, Pattern}
-use Rattle.sheet.specs.Answer.{Answer, Passed}
+use Rattle.sheet.specs.declared.answer.Answer.{Answer}
+use Rattle.sheet.specs.declared.answer.Answer.TheVariants.{Passed}
 use Rattle.texts.specs.Texts.{symbol, context, edge, head}
 use Rattle.texts.proofs.Texts.{answer_to}
 use Rattle.placing.specs.Net.{Net, normal_net}

@@ -6,7 +6,7 @@
 use answers::of_reading;
 use reading::read::Reading;
 use rows::Sheet;
-use sheet::answer::RefusedRow;
+use sheet::answer::Answer;
 use std::rt::Files;
 use std::{env, io};
 
@@ -20,29 +20,21 @@ fn print_number(rt: &impl Print, number: u64) -> io::Result<()> {
     print!(rt; " {number}")
 }
 
-fn print_answer(rt: &impl Print, reading: Result<Reading, RefusedRow>) -> io::Result<()> {
-    let values = of_reading(reading, 1);
+fn print_answer(rt: &impl Print, answer: Answer) -> io::Result<()> {
+    let values = of_reading(answer, 1);
     print_number(rt, values.number as u64)?;
     print_number(rt, values.input as u64)?;
     print_number(rt, values.row as u64)?;
     rt.write_all(b"\n")
 }
 
-fn read_as(kind: u8, ports: [u16; Sheet::NUMBERS], text: &[u8]) -> Result<Reading, RefusedRow> {
+fn read_as(kind: u8, ports: [u16; Sheet::NUMBERS], text: &[u8]) -> Reading {
     match kind {
         b's' => reading::read::read_sheet(text),
         b'p' => reading::read::read_pattern(text),
         b'f' => reading::read::read_figure(text),
         b'r' => reading::read::read_replacement(ports, text),
         _ => reading::read::read_list(text),
-    }
-}
-
-// The ports of what was read; a text that is turned down has no contexts.
-fn ports_of(reading: Result<Reading, RefusedRow>) -> [u16; Sheet::NUMBERS] {
-    match reading {
-        Ok(reading) => reading.ports,
-        Err(_) => [0; Sheet::NUMBERS],
     }
 }
 
@@ -60,11 +52,12 @@ fn read_case<R: Files + Print + Eprint>(
     let letter = kind.as_bytes().first().copied().unwrap_or(0);
     let reading = read_as(letter, ports, &text[..length]);
     print_name(rt, file)?;
-    print_answer(rt, reading)?;
+    let answer = reading.answer;
+    print_answer(rt, answer)?;
     if letter != b'p' {
         return Ok(ports);
     }
-    Ok(ports_of(reading))
+    Ok(reading.ports)
 }
 
 fn main(rt: HostRuntime) -> io::Result<()> {

@@ -1,17 +1,14 @@
 -- What a reader hands back of what a text holds, by the steps of making a normal form.
-use Rattle.std.specs.Prelude.{ℕ, ◌≡◌, Bool, Result, List, [], ◌++◌, map, ltb, length, take, drop}
+use Rattle.std.specs.Prelude.{ℕ, ◌+◌, ◌≡◌, Bool, List, [], ◌++◌, map, ltb, length, take, drop}
 use Rattle.rows.specs.Pick.{pick, and}
 use Rattle.rows.specs.Limits.{link_room, mark_room}
 use Rattle.rows.specs.Packed.{padded, port_table}
-use Rattle.rows.specs.Held.{Held}
 use Rattle.rows.specs.TextArrays.{packed, TextArrays}
 use Rattle.rows.specs.declared.Atom.{Atom}
 use Rattle.rows.specs.declared.Context.{Context}
 use Rattle.numbering.specs.Numbering.{Numbering, label_at, mark_label_at, no_numbers, with_classes, atom_labels, context_labels, atom_numbered, context_numbered, marks_by, sorted_into}
 use Rattle.sheet.specs.Kinds.{is_list}
-use Rattle.sheet.specs.Answer.{read_as}
 use Rattle.sheet.specs.Reading.{Outcome}
-use Rattle.sheet.specs.declared.answer.RefusedRow.{RefusedRow}
 use Rattle.sheet.specs.declared.kind.Kind.{Kind}
 use Rattle.rows.specs.declared.Sheet.{Sheet as Normal}
 use Rattle.reading.specs.declared.read.Reading.{Reading}
@@ -53,15 +50,12 @@ normal_made i k s =
 abbrev pub is_many : Kind → ℕ → Bool
 is_many kind contexts = and (is_list kind) (ltb 1 contexts)
 
--- the normal form of what is held, and the table of ports; the heads of a list have no links, and where it has several fillings their atoms
--- stand as they are
-abbrev pub made_of : Kind → Held → Reading
-made_of kind h =
+-- what a reader hands back: the answer, the normal form of what is held, and the table of ports; the heads of a list have no links, and
+-- where it has several fillings their atoms stand as they are
+abbrev pub reading_of : Kind → Outcome → Reading
+reading_of kind o =
     record {
-      normal = normal_made (pick (is_many kind (length h.contexts)) 0 (length h.atoms)) (pick (is_list kind) 0 (length h.contexts)) (packed h);
-      ports = port_table h.contexts;
+      answer = o.answer;
+      normal = normal_made (pick (is_many kind (length o.held.contexts)) 0 (length o.held.atoms)) (pick (is_list kind) 0 (length o.held.contexts)) (packed o.held);
+      ports = port_table o.held.contexts;
     }
-
--- what a reader hands back: this of a text that passes
-abbrev pub reading_of : Kind → Outcome → Result Reading RefusedRow
-reading_of kind o = read_as o.answer (made_of kind o.held)

@@ -1,5 +1,5 @@
 -- The normal form of what a text holds, in the arrays of a `Normal`.
-use Rattle.std.specs.Prelude.{ℕ, List, map, length, take}
+use Rattle.std.specs.Prelude.{ℕ, ◌+◌, List, map, length, take}
 use Rattle.hyperlmntal.specs.Hypergraph.{Node, inner}
 use Rattle.rows.specs.Format.{most_links}
 use Rattle.rows.specs.Limits.{atom_room, context_room, mark_room}

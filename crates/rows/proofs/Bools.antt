@@ -17,6 +17,10 @@ pub or-true : (b : Bool) → or b true ≡ true
 or-true true = refl
 or-true false = refl
 
+pub or-none : (b : Bool) → or b false ≡ b
+or-none true = refl
+or-none false = refl
+
 pub or-false : (a b : Bool) → or a b ≡ false → (a ≡ false) × (b ≡ false)
 or-false true b e = absurd (true≢false e)
 or-false false b e = (refl, e)

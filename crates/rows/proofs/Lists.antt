@@ -1,13 +1,14 @@
 -- The place of a number in a list, lists that are mapped in place, and parts of lists that are copied.
 use Prim.Native.Nat.{ℕ, zero, suc, ◌+◌, ◌<◌, ◌≤◌}
-use mathlib.Core.Path.{◌≡◌, refl, ap, ◌∙◌}
+use mathlib.Core.Path.{◌≡◌, refl, ap, ◌∙◌, sym}
 use mathlib.Core.List.{List, [], ◌∷◌, ◌++◌, map, map-append, append_assoc}
 use mathlib.Core.Bool.{Bool, true, false}
+use native.Mathlib.Nat.{add_comm}
 use native.Mathlib.Numerals.{add-one}
 use native.Mathlib.Omega.{arith}
 use lib.Dec.{eqb}
 use lib.ListN.{length, get_or, drop, take, set, length-take, length-drop, length-map}
-use lib.Seq.{drop-cons, take-suc, length-take-le, set_at, get_or_at, get_or-drop}
+use lib.Seq.{drop-cons, take-suc, take_all, length-take-le, set_at, get_or_at, take-suc-set, get_or-drop}
 use borrow.Author.Tests.{eq-eqb}
 use Rattle.rows.specs.Pick.{pick}
 use Rattle.rows.specs.Held.{index_of}
@@ -71,6 +72,16 @@ module _ {A : Type 0} (f : A → A) (d : A) (l : List A) (i : ℕ) (h : i < leng
   mapped_next =
       rw mapped-open (rw (set_at (map f (take i l)) (get_or l i d) (drop (i + 1) l) (f (get_or l i d)) i front)
       (rw (add-one i) (rw (take-suc l i d h) (rw (map-append f (take i l) (get_or l i d ∷ [])) (append_assoc (map f (take i l)) (f (get_or l i d) ∷ []) (drop (suc i) l))))))
+
+-- one turn of copying a list from its third element on
+pub copied_next : (links nums : List ℕ) (k : ℕ) → k < length links → k + 2 < length nums → take k links ≡ take k (drop 2 nums)
+    → take (k + 1) (set links k (get_or nums (k + 2) 0)) ≡ take (k + 1) (drop 2 nums)
+copied_next links nums k h hn e =
+    rw (add-one k) (rw (take-suc-set links k (get_or nums (k + 2) 0) h)
+    (rw (take-suc (drop 2 nums) k 0 (simp length-drop (omega arith))) (rw e (ap (λ (n : ℕ). take k (drop 2 nums) ++ (n ∷ [])) (ap (λ (j : ℕ). get_or nums j 0) (add_comm k 2) ∙ sym (get_or-drop 2 nums k 0))))))
+
+pub copied_all : (links nums : List ℕ) (n : ℕ) → length links ≡ n → length nums ≡ 2 + n → take n links ≡ take n (drop 2 nums) → links ≡ drop 2 nums
+copied_all links nums n h hn e = sym (take_all n links (omega arith)) ∙ e ∙ take_all n (drop 2 nums) (simp length-drop (omega arith))
 
 -- the numbers of k fields, and one more
 pub row-link : (nums : List ℕ) (from k : ℕ) → from + k < length nums → take (k + 1) (drop from nums) ≡ take k (drop from nums) ++ (get_or nums (from + k) 0 ∷ [])

@@ -1,7 +1,7 @@
 -- The steps of a row's reading, over plain variables: a column of a field, a field of a row.
 use Prim.Native.Nat.{ℕ, suc, ◌+◌, ◌-◌, ◌*◌, ◌<◌, ◌≤◌, ◌^◌}
 use mathlib.Core.Path.{◌≡◌, refl, ◌∙◌, sym}
-use mathlib.Core.List.{List, [], ◌∷◌}
+use mathlib.Core.List.{List, ◌∷◌}
 use mathlib.Core.Bool as bool
 use mathlib.Core.Bool.{Bool, true, false}
 use native.Mathlib.Numerals.{add-one}
@@ -12,7 +12,7 @@ use lib.ListN.{length, get_or, drop, take, set, replicate, drop_of_length-le, le
 use lib.Seq.{drop-cons, get_or-take, get_or-drop, length-take-le}
 use borrow.Author.Tests.{eq-eqb, ne_eqb, ltb-false, eqb-true, eqb-false}
 use Rattle.rows.specs.Pick.{pick, and, or, not}
-use Rattle.rows.specs.Format.{field_width, field_count, blank, rules, letter_of, rule_of}
+use Rattle.rows.specs.Format.{field_width, field_count, letter_of, rule_of}
 use Rattle.rows.specs.Row.{Field, malformed, holds, misplaced_in, is_nil, field_of, needed, suits, row_with, no_row, judged, fields_of, row_of}
 use Rattle.rows.specs.declared.row.Rule.{Rule}
 
@@ -108,13 +108,6 @@ module _ (s : List ℕ) (letter f : ℕ) (nums : List ℕ) (h : f < field_count)
       → fields_of s letter f nums (field_count - f) ≡ pick good (fields_of s letter (f + 1) (set nums f n) (field_count - (f + 1))) (row_with letter false nums)
   unfolding judged
   fields-held filled n good e t = fields-by (holds filled n) e ∙ rw t
-
-  -- the same by the rules of the letter
-  pub fields-judged : (own : List Rule) → own ≡ get_or rules letter [] → (filled : Bool) (n : ℕ) (good : Bool) → field_of false 0 (columns s (f * 4 + 1)) ≡ holds filled n
-      → suits (get_or own f blank) f (get_or nums 1 0) filled n ≡ good
-      → fields_of s letter f nums (field_count - f) ≡ pick good (fields_of s letter (f + 1) (set nums f n) (field_count - (f + 1))) (row_with letter false nums)
-  unfolding rule_of
-  fields-judged own e filled n good held t = fields-held filled n good held (rw e at t)
 
 -- A row, by its letter's place k.
 module _ (s : List ℕ) (k : ℕ) (e : k ≡ letter_of (get_or s 0 0)) where

@@ -1,5 +1,5 @@
 -- What arrays hold: a list in order and zeros after it, a sheet without rows, and the table of ports.
-use Rattle.std.specs.Prelude.{ℕ, suc, ◌-◌, List, [], ◌∷◌, ◌++◌, map, eqb, length, replicate}
+use Rattle.std.specs.Prelude.{ℕ, suc, ◌+◌, ◌-◌, List, [], ◌∷◌, ◌++◌, map, eqb, length, replicate}
 use Rattle.rows.specs.Pick.{pick}
 use Rattle.rows.specs.Format.{most_links}
 use Rattle.rows.specs.Limits.{atom_room, context_room, mark_room}

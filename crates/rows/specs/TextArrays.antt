@@ -1,5 +1,5 @@
 -- What a text holds, in the arrays of the walk that reads it; no contract of a task rests on these.
-use Rattle.std.specs.Prelude.{ℕ, List, length}
+use Rattle.std.specs.Prelude.{ℕ, ◌+◌, List, length}
 use Rattle.rows.specs.Limits.{atom_room, context_room, link_room, mark_room}
 use Rattle.rows.specs.Held.{Held}
 use Rattle.rows.specs.Packed.{padded, no_atom, no_context, port_table}

@@ -11,7 +11,11 @@ pub(crate) fn row_links(nums: [u16; Sheet::FIELDS]) -> [u16; Sheet::MOST_LINKS]
     ensures { result ≡ drop 2 nums }
 {
     let mut links = [0u16; Sheet::MOST_LINKS];
-    links.copy_from_slice(&nums[2..]);
+    let mut k = 0;
+    while k < Sheet::MOST_LINKS {
+        links[k] = nums[k + 2];
+        k += 1;
+    }
     links
 }
 
@@ -35,7 +39,10 @@ pub fn atom_of(row: Row) -> Atom
 pub fn is_context(letter: usize) -> bool
     ensures { result ≡ is_context letter }
 {
-    letter == Row::CONTEXT || letter == Row::HEAD
+    if letter == Row::CONTEXT {
+        return true;
+    }
+    letter == Row::HEAD
 }
 
 // The context of a blank row or a head, which is the text's row `at`, and of any other row none.
@@ -57,17 +64,18 @@ pub fn context_of(row: Row, at: u16) -> Context
 
 // The table of port counts with that of a number, unless it has one.
 pub(crate) fn ports_with(
-    mut ports: [u16; Sheet::NUMBERS],
+    ports: [u16; Sheet::NUMBERS],
     number: usize,
     count: u16,
 ) -> [u16; Sheet::NUMBERS]
     requires { number < context_bound }
     ensures { result ≡ ports_with ports number count }
 {
-    if ports[number] == 0 {
-        ports[number] = count;
+    let mut table = ports;
+    if table[number] == 0 {
+        table[number] = count;
     }
-    ports
+    table
 }
 
 // The table of port counts with that of a row.

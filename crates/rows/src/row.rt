@@ -1,7 +1,7 @@
 // The one row reader: a letter and its fields, by one table.
 ghost use Rattle.std.specs.Prelude.{◌≡◌, [], ◌<◌, length, get_or};
 ghost use Rattle.rows.specs.Format.{row_width, no_letter, letter_of, rules};
-ghost use Rattle.rows.specs.Row.{misplaced_in, needed, suits, no_row, row_of};
+ghost use Rattle.rows.specs.Row.{misplaced_in, suits, no_row, row_of};
 
 use crate::Sheet;
 
@@ -109,7 +109,6 @@ impl Row {
     }
 }
 
-#[tactic(auto, unfolding(crate::specs::Format::letter_of))]
 pub(crate) fn letter_of(b: u8) -> usize
     ensures { result ≡ letter_of b }
 {
@@ -137,39 +136,47 @@ pub fn rules_of(letter: usize) -> [Rule; Sheet::FIELDS]
     }
 }
 
-// Whether a number is asked for at field f, in a row with this count.
-fn needed(rule: Rule, f: usize, count: u16) -> bool
-    ensures { result ≡ needed rule f count }
-{
-    if rule.counted {
-        f < 2 + count as usize
-    } else {
-        rule.filled
-    }
-}
-
 // Whether field f may hold what was read there, in a row with this count.
-#[tactic(auto, unfolding(crate::specs::Row::suits))]
 pub(crate) fn field_suits(rule: Rule, f: usize, count: u16, filled: bool, n: u16) -> bool
     ensures { result ≡ suits rule f count filled n }
 {
-    if needed(rule, f, count) {
-        filled && rule.low <= n && n <= rule.high
-    } else {
-        !filled
+    let mut needed = rule.filled;
+    if rule.counted {
+        needed = f < 2 + count as usize;
     }
+    if !needed {
+        return !filled;
+    }
+    if !filled {
+        return false;
+    }
+    if n < rule.low {
+        return false;
+    }
+    n <= rule.high
 }
 
 // Whether byte b may not stand in a field's column: a space after a digit, a byte that is neither a
 // space nor a digit, or a zero that is the number's first digit and not its only one.
-#[tactic(auto, unfolding(crate::specs::Row::misplaced_in))]
 pub(crate) fn misplaced(b: u8, filled: bool, last: bool) -> bool
     ensures { result ≡ misplaced_in b filled last }
 {
     if b == b' ' {
         return filled;
     }
-    b < b'0' || b'9' < b || (b == b'0' && !filled && !last)
+    if b < b'0' {
+        return true;
+    }
+    if b'9' < b {
+        return true;
+    }
+    if b != b'0' {
+        return false;
+    }
+    if filled {
+        return false;
+    }
+    !last
 }
 
 // The row's letter and numbers. The first bad field ends the reading.
@@ -184,11 +191,13 @@ pub fn read_row(row: &[u8]) -> Row
     let own = rules_of(letter);
     let mut nums = [0u16; Sheet::FIELDS];
     let mut good = true;
-    'row: for f in 0..Sheet::FIELDS {
+    let mut f = 0;
+    'row: while f < Sheet::FIELDS {
         let at = f * Sheet::FIELD + 1;
+        let mut col = 0;
         let mut n: u16 = 0;
         let mut filled = false;
-        for col in 0..Sheet::FIELD {
+        while col < Sheet::FIELD {
             let b = row[at + col];
             if misplaced(b, filled, col + 1 == Sheet::FIELD) {
                 good = false;
@@ -198,12 +207,14 @@ pub fn read_row(row: &[u8]) -> Row
                 n = n * 10 + (b - b'0') as u16;
                 filled = true;
             }
+            col += 1;
         }
         if !field_suits(own[f], f, nums[1], filled, n) {
             good = false;
             break 'row;
         }
         nums[f] = n;
+        f += 1;
     }
     Row { letter, good, nums }
 }

@@ -1,2 +1,1 @@
 pub mod read
-pub mod TaskAnswer

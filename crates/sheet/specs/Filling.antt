@@ -7,7 +7,8 @@ use Rattle.rows.specs.Row.{row_of}
 use Rattle.rows.specs.Packed.{padded, no_context}
 use Rattle.rows.specs.declared.Context.{Context}
 use Rattle.sheet.specs.Reading.{outcome_of, no_ports}
-use Rattle.sheet.specs.Answer.{Answer, Passed, Refused}
+use Rattle.sheet.specs.declared.answer.Answer.{Answer}
+use Rattle.sheet.specs.declared.answer.Answer.TheVariants.{Passed, Refused}
 use Rattle.sheet.specs.declared.kind.Kind.TheVariants.{Fillings}
 
 -- the letter H

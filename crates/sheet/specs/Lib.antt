@@ -4,4 +4,3 @@ pub mod Reading
 pub mod Steps
 pub mod Answer
 pub mod Filling
-pub mod TaskAnswer

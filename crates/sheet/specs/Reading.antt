@@ -12,7 +12,8 @@ use Rattle.sheet.specs.declared.kind.Kind.{Kind}
 use Rattle.sheet.specs.declared.kind.Kind.TheVariants.{Plain, Pattern, Figure, Replacement, Fillings}
 use Rattle.sheet.specs.declared.answer.Refusal.{Refusal}
 use Rattle.sheet.specs.declared.answer.Refusal.TheVariants.{Ragged, StrangeRow, BadColumn, Long, Crowded, Joints, Marks, BlankClash}
-use Rattle.sheet.specs.Answer.{Answer, Passed, Refused}
+use Rattle.sheet.specs.declared.answer.Answer.{Answer}
+use Rattle.sheet.specs.declared.answer.Answer.TheVariants.{Passed, Refused}
 
 -- 4, long: row 257
 abbrev pub long : Kind → ℕ → Bool

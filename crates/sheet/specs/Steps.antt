@@ -1,13 +1,14 @@
 -- What the steps of reading a row answer.
-use Rattle.std.specs.Prelude.{ℕ, ◌+◌, List, Bool, Result, take}
+use Rattle.std.specs.Prelude.{ℕ, ◌+◌, List, Bool, take}
 use Rattle.rows.specs.Pick.{pick}
 use Rattle.rows.specs.Format.{row_width}
 use Rattle.rows.specs.Row.{row_of, no_row}
 use Rattle.rows.specs.declared.row.Row.{Row}
 use Rattle.sheet.specs.Reading.{ragged, strange_by, Verdict, taken, refused, first_of, early_tests}
 use Rattle.sheet.specs.declared.kind.Kind.{Kind}
-use Rattle.sheet.specs.declared.answer.RefusedRow.{RefusedRow}
-use Rattle.sheet.specs.Answer.{Answer, Passed, Refused, read_as}
+use Rattle.sheet.specs.declared.judge.Next.{Next}
+use Rattle.sheet.specs.declared.answer.Answer.{Answer}
+use Rattle.sheet.specs.declared.answer.Answer.TheVariants.{Passed, Refused}
 
 -- a verdict on the row `at` as an answer
 abbrev pub answer_of : Verdict → ℕ → Answer
@@ -22,6 +23,6 @@ early_answer kind heads k cut r = answer_of (first_of (early_tests kind k cut (s
 abbrev pub whole_row : Bool → List ℕ → Row
 whole_row cut text = pick cut no_row (row_of (take row_width text))
 
--- that row, or the refusal of these tests
-abbrev pub next_of : Kind → ℕ → ℕ → List ℕ → Result Row RefusedRow
-next_of kind heads k text = read_as (early_answer kind heads k (ragged text) (row_of (take row_width text))) (whole_row (ragged text) text)
+-- that row, and the answer of these tests
+abbrev pub next_of : Kind → ℕ → ℕ → List ℕ → Next
+next_of kind heads k text = record { answer = early_answer kind heads k (ragged text) (row_of (take row_width text)); row = whole_row (ragged text) text }

@@ -5,14 +5,20 @@ ghost use Rattle.rows.specs.Limits.{row_limit};
 ghost use Rattle.rows.specs.Packed.{port_table};
 ghost use Rattle.rows.specs.Entry.{Ranged};
 ghost use Rattle.rows.specs.declared.Context.{Context};
-ghost use Rattle.sheet.specs.Answer.{read_as};
 ghost use Rattle.sheet.specs.Reading.{ragged, last_number, clashes, first_of, late_tests};
 ghost use Rattle.sheet.specs.Steps.{answer_of, early_answer, whole_row, next_of};
 
-use crate::answer::{Refusal, RefusedRow};
+use crate::answer::{Answer, Refusal};
 use crate::kind::{Kind, is_strange, limits_of, ports_clash};
 use rows::Sheet;
 use rows::row::{Row, read_row};
+
+// The next row, and whether a test that asks nothing of what is held turns it down.
+#[derive(Clone, Copy)]
+pub struct Next {
+    pub answer: Answer,
+    pub row: Row,
+}
 
 // Whether the row at `at` is incomplete, or its last byte is no newline.
 fn is_ragged(text: &[u8], at: usize) -> bool
@@ -37,35 +43,35 @@ fn row_at(text: &[u8], at: usize, cut: bool) -> Row
 }
 
 // Refusals 4, 1, 2 and 3 at the row after k rows, of which so many are heads.
-fn early_answer(kind: Kind, heads: usize, cut: bool, row: Row, k: usize) -> Result<(), RefusedRow>
+fn early_answer(kind: Kind, heads: usize, cut: bool, row: Row, k: usize) -> Answer
     requires { k ≤ row_limit }
-    ensures { result ≡ read_as (early_answer kind heads k cut row) tt }
+    ensures { result ≡ early_answer kind heads k cut row }
 {
     let limits = limits_of(kind);
     if limits.rows <= k {
-        return Err(Refusal::Long.at_row(k + 1));
+        return Answer::Refused(Refusal::Long, k + 1);
     }
     if cut {
-        return Err(Refusal::Ragged.at_row(k + 1));
+        return Answer::Refused(Refusal::Ragged, k + 1);
     }
     if is_strange(kind, row.letter, heads) {
-        return Err(Refusal::StrangeRow.at_row(k + 1));
+        return Answer::Refused(Refusal::StrangeRow, k + 1);
     }
     if !row.good {
-        return Err(Refusal::BadColumn.at_row(k + 1));
+        return Answer::Refused(Refusal::BadColumn, k + 1);
     }
-    Ok(())
+    Answer::Passed
 }
 
-// The row after k rows, of which so many are heads, or refusals 4, 1, 2 and 3.
-pub fn next_row(kind: Kind, heads: usize, text: &[u8], k: usize) -> Result<Row, RefusedRow>
+// The row after k rows, of which so many are heads, with refusals 4, 1, 2 and 3.
+pub fn next_row(kind: Kind, heads: usize, text: &[u8], k: usize) -> Next
     requires { (k ≤ row_limit) × (k * row_width ≤ length text.now) }
     ensures { result ≡ next_of kind heads k (drop (k * row_width) text.now) }
 {
     let cut = is_ragged(text, k * Sheet::ROW);
     let row = row_at(text, k * Sheet::ROW, cut);
-    early_answer(kind, heads, cut, row, k)?;
-    Ok(row)
+    let answer = early_answer(kind, heads, cut, row, k);
+    Next { answer, row }
 }
 
 // Refusal 8 in a row, after contexts with this table of ports, of which the last has this number.
@@ -100,24 +106,24 @@ pub fn late_answer(
     marks: usize,
     clash: bool,
     at: usize,
-) -> Result<(), RefusedRow>
-    ensures { result ≡ read_as (answer_of (first_of (late_tests kind atoms contexts links marks clash)) at) tt }
+) -> Answer
+    ensures { result ≡ answer_of (first_of (late_tests kind atoms contexts links marks clash)) at }
 {
     let limits = limits_of(kind);
     if limits.atoms < atoms {
-        return Err(Refusal::Crowded.at_row(at));
+        return Answer::Refused(Refusal::Crowded, at);
     }
     if limits.contexts < contexts {
-        return Err(Refusal::Crowded.at_row(at));
+        return Answer::Refused(Refusal::Crowded, at);
     }
     if limits.links < links {
-        return Err(Refusal::Joints.at_row(at));
+        return Answer::Refused(Refusal::Joints, at);
     }
     if limits.marks < marks {
-        return Err(Refusal::Marks.at_row(at));
+        return Answer::Refused(Refusal::Marks, at);
     }
     if clash {
-        return Err(Refusal::BlankClash.at_row(at));
+        return Answer::Refused(Refusal::BlankClash, at);
     }
-    Ok(())
+    Answer::Passed
 }

@@ -12,10 +12,12 @@ fn head_at(list: &[u8], heads: [Context; Sheet::CONTEXT_ROOM], count: usize, num
     requires { HeadsRead list.now heads count }
     ensures { (result ≤ length list.now) × (drop result list.now ≡ from_head (length list.now) number list.now) }
 {
-    for i in 0..count {
+    let mut i = 0;
+    while i < count {
         if heads[i].number == number {
             return (heads[i].row as usize - 1) * Sheet::ROW;
         }
+        i += 1;
     }
     list.len()
 }

@@ -1,5 +1,4 @@
 -- What is computed of the texts of a line. Where it is what the line states, the line holds.
-use Rattle.std.specs.Prelude.{Result, Ok, Err}
 use Prim.Native.Nat.{ℕ}
 use mathlib.Core.Path.{◌≡◌, ap, ◌∙◌}
 use mathlib.Core.List.{List, [], ◌∷◌, map}
@@ -7,14 +6,15 @@ use lib.ListN.{length}
 use Rattle.normalising.specs.NormalText.{normal_text_of}
 use Rattle.sheet.specs.Reading.{outcome_of, no_ports}
 use Rattle.sheet.specs.declared.kind.Kind.TheVariants.{Plain, Pattern, Figure, Fillings}
-use Rattle.sheet.specs.Answer.{Answer, Passed}
-use Rattle.sheet.specs.declared.answer.TaskError.{TaskError}
-use Rattle.sheet.specs.declared.answer.TaskError.TheVariants as error
+use Rattle.sheet.specs.declared.answer.Answer.{Answer}
+use Rattle.sheet.specs.declared.answer.Answer.TheVariants.{Passed}
 use Rattle.comparing.specs.Compare.{compare_answer}
 use Rattle.filling.specs.Fill.{filled_answer, filled_text}
+use Rattle.answers.specs.declared.outcome.Done.{Done}
+use Rattle.answers.specs.declared.outcome.Done.TheVariants as done
 use Rattle.finding.specs.Passed.{PlacePassed}
+use Rattle.answers.specs.Values.{compared_values, claimed_values}
 use Rattle.answers.specs.declared.Verdict.{Verdict}
-use Rattle.answers.specs.Values.{decided_values}
 use Rattle.starred.specs.Case.{Filling, Placed, Case, compares, normalises, places, nowhere, prints, bytes_of, list_bytes, NormalFilling, Every, all, ◌&◌, Holds}
 use Rattle.starred.proofs.Ending.{normalise-ends, fill-ends}
 use Rattle.starred.proofs.Placing.{found_in, output_of, place-prints, nowhere-ends, place-ends, claim-holds}
@@ -27,8 +27,8 @@ pub record PlaceFacts : Type 0 where
   pub list : Answer
   pub normal_sheet : List ℕ
   pub normal_pattern : List ℕ
-  pub found : Result ℕ TaskError × List ℕ
-  pub fill : Result ℕ TaskError
+  pub found : Done × List ℕ
+  pub fill : Done
   pub filled : List ℕ
   pub fillings : List (List ℕ)
 
@@ -36,11 +36,11 @@ abbrev pub Facts : Case → Type 0
 Facts (compares first second same) = Verdict × Verdict
 Facts (normalises sheet normal) = Answer × List ℕ
 Facts (places p) = PlaceFacts
-Facts (nowhere sheet pattern) = Answer × Answer × (Result ℕ TaskError × List ℕ)
+Facts (nowhere sheet pattern) = Answer × Answer × (Done × List ℕ)
 Facts (prints sheet pattern page) = Answer × Answer × List ℕ
 
 abbrev pub computed : (c : Case) → Facts c
-computed (compares first second same) = (decided_values (compare_answer (bytes_of first) (bytes_of second)), decided_values (compare_answer (bytes_of second) (bytes_of first)))
+computed (compares first second same) = (compared_values (compare_answer (bytes_of first) (bytes_of second)), compared_values (compare_answer (bytes_of second) (bytes_of first)))
 computed (normalises sheet normal) = ((outcome_of Plain no_ports (bytes_of sheet)).answer, normal_text_of Plain (bytes_of sheet))
 computed (places p) =
     let sheet = bytes_of p.sheet in
@@ -71,12 +71,12 @@ stated (places p) = record {
   list = Passed;
   normal_sheet = bytes_of p.sheet;
   normal_pattern = bytes_of p.pattern;
-  found = (Ok (length (list_bytes p.fillings)), list_bytes p.fillings);
-  fill = Ok (length (bytes_of p.filled));
+  found = (done.Written (length (list_bytes p.fillings)), list_bytes p.fillings);
+  fill = done.Written (length (bytes_of p.filled));
   filled = bytes_of p.filled;
   fillings = map (λ (f : Filling). bytes_of f.rows) p.fillings;
 }
-stated (nowhere sheet pattern) = (Passed, Passed, (Err error.NoPlacing, []))
+stated (nowhere sheet pattern) = (Passed, Passed, (done.NoPlacing, []))
 stated (prints sheet pattern page) = (Passed, Passed, bytes_of page)
 
 normal-fillings : (l : List Filling) → map (λ (f : Filling). normal_text_of Plain (bytes_of f.rows)) l ≡ map (λ (f : Filling). bytes_of f.rows) l → Every NormalFilling l
@@ -102,7 +102,7 @@ places-hold p e =
       normal-fillings = normal-fillings p.fillings (ap (λ (r : PlaceFacts). r.fillings) e);
       places = place-ends sheet pattern list ok found;
       fills = fill-ends pattern list (bytes_of p.filled) (ap (λ (r : PlaceFacts). r.figure) e) (ap (λ (r : PlaceFacts). r.list) e) (ap (λ (r : PlaceFacts). r.fill) e) (ap (λ (r : PlaceFacts). r.filled) e);
-      claims = ap decided_values (claim-holds sheet pattern list ok found);
+      claims = ap claimed_values (claim-holds sheet pattern list ok found);
     }
 
 holds : (c : Case) → computed c ≡ stated c → Holds c
@@ -111,8 +111,8 @@ holds (normalises sheet normal) e = normalise-ends (bytes_of sheet) (bytes_of no
 holds (places p) e = places-hold p e
 holds (nowhere sheet pattern) e =
     nowhere-ends (bytes_of sheet) (bytes_of pattern)
-    (record { sheet-passes = ap (λ (r : Answer × Answer × (Result ℕ TaskError × List ℕ)). r.0) e; pattern-passes = ap (λ (r : Answer × Answer × (Result ℕ TaskError × List ℕ)). r.1) e })
-    (ap (λ (r : Answer × Answer × (Result ℕ TaskError × List ℕ)). r.2) e)
+    (record { sheet-passes = ap (λ (r : Answer × Answer × (Done × List ℕ)). r.0) e; pattern-passes = ap (λ (r : Answer × Answer × (Done × List ℕ)). r.1) e })
+    (ap (λ (r : Answer × Answer × (Done × List ℕ)). r.2) e)
 holds (prints sheet pattern page) e =
     let ok : PlacePassed (bytes_of sheet) (bytes_of pattern) = record { sheet-passes = ap (λ (r : Answer × Answer × List ℕ). r.0) e; pattern-passes = ap (λ (r : Answer × Answer × List ℕ). r.1) e } in
     λ slip full. place-prints (bytes_of sheet) (bytes_of pattern) ok slip full ∙ ap (λ (r : Answer × Answer × List ℕ). r.2) e

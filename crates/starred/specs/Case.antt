@@ -9,8 +9,8 @@ use Rattle.normalising.specs.NormalText.{slip_length, normal_text_of, normalised
 use Rattle.sheet.specs.declared.kind.Kind.TheVariants.{Plain, Pattern}
 use Rattle.comparing.specs.Compare.{compare_answer}
 use Rattle.answers.specs.AnswerRow.{answer_row}
+use Rattle.answers.specs.Values.{normalised_values, done_values, compared_values, claimed_values}
 use Rattle.answers.specs.declared.TaskAnswer.{TaskAnswer}
-use Rattle.answers.specs.Values.{written_values, decided_values}
 use Rattle.filling.specs.Fill.{fill_answer, fill_slip}
 use Rattle.finding.specs.Place.{place_answer, place_slip}
 use Rattle.claiming.specs.Claim.{claim_answer}
@@ -63,25 +63,25 @@ pub record Ends (answer : ℕ → TaskAnswer) (after : List ℕ → List ℕ) (n
   pub slip-after : (slip : List ℕ) → slip_length ≤ length slip → after slip ≡ text ++ drop (length text) slip
 
 abbrev pub NormaliseEnds : List ℕ → ℕ → List ℕ → Type 0
-NormaliseEnds sheet = Ends (λ n. written_values (normalised_answer Plain sheet n)) (normalised_slip Plain sheet)
+NormaliseEnds sheet = Ends (λ n. normalised_values (normalised_answer Plain sheet n)) (normalised_slip Plain sheet)
 
 abbrev pub PlaceEnds : List ℕ → List ℕ → ℕ → List ℕ → Type 0
-PlaceEnds sheet pattern = Ends (λ n. written_values (place_answer sheet pattern n)) (place_slip sheet pattern)
+PlaceEnds sheet pattern = Ends (λ n. done_values (place_answer sheet pattern n)) (place_slip sheet pattern)
 
 abbrev pub FillEnds : List ℕ → List ℕ → ℕ → List ℕ → Type 0
-FillEnds figure list = Ends (λ n. written_values (fill_answer figure list n)) (fill_slip figure list)
+FillEnds figure list = Ends (λ n. done_values (fill_answer figure list n)) (fill_slip figure list)
 
 -- 'an `A` row (number, input, row)', then the bytes that were written
 abbrev pub printed : TaskAnswer → List ℕ → List ℕ
 printed a slip = answer_row a ++ take a.bytes slip
 
 abbrev pub Prints : List ℕ → List ℕ → List ℕ → Type 0
-Prints sheet pattern page = (slip : List ℕ) → slip_length ≤ length slip → printed (written_values (place_answer sheet pattern (length slip))) (place_slip sheet pattern slip) ≡ page
+Prints sheet pattern page = (slip : List ℕ) → slip_length ≤ length slip → printed (done_values (place_answer sheet pattern (length slip))) (place_slip sheet pattern slip) ≡ page
 
 -- in either order
 pub record Compares (first second : List ℕ) (same : Bool) : Type 0 where
-  pub onward : decided_values (compare_answer first second) ≡ record { number = 0; input = 0; row = 0; bytes = 0; yes = same }
-  pub back : decided_values (compare_answer second first) ≡ record { number = 0; input = 0; row = 0; bytes = 0; yes = same }
+  pub onward : compared_values (compare_answer first second) ≡ record { number = 0; input = 0; row = 0; bytes = 0; yes = same }
+  pub back : compared_values (compare_answer second first) ≡ record { number = 0; input = 0; row = 0; bytes = 0; yes = same }
 
 -- each element of a list is as P says
 infixr 60 ◌&◌
@@ -101,7 +101,7 @@ pub record Places (sheet pattern : List ℕ) (fillings : List Filling) (filled :
   pub normal-fillings : Every NormalFilling fillings
   pub places : PlaceEnds sheet pattern 0 (list_bytes fillings)
   pub fills : FillEnds pattern (list_bytes fillings) 0 filled
-  pub claims : decided_values (claim_answer sheet pattern (list_bytes fillings)) ≡ record { number = 0; input = 0; row = 0; bytes = 0; yes = true }
+  pub claims : claimed_values (claim_answer sheet pattern (list_bytes fillings)) ≡ record { number = 0; input = 0; row = 0; bytes = 0; yes = true }
 
 -- What a line says.
 abbrev pub Holds : Case → Type 0

@@ -2,7 +2,7 @@
 // The files are those that the arguments name, or sheet.txt, figure.txt and replacement.txt.
 #![tactic(auto)]
 
-use answers::of_written;
+use answers::of_done;
 use answers::row::{answer_row, written_part};
 use rows::Sheet;
 use std::io;
@@ -20,7 +20,7 @@ fn main(rt: HostRuntime) -> io::Result<()> {
     };
     let mut out = [0u8; Sheet::SLIP];
     let done = swap(&sheet[..n], &pattern[..m], &replacement[..p], &mut out);
-    let answer = of_written(done);
+    let answer = of_done(done);
     rt.write_all(&answer_row(answer))?;
     rt.write_all(written_part(answer, &out))
 }

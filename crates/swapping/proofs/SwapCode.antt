@@ -1,5 +1,4 @@
 -- What the code of swap finds on its way is what swapping answers and writes.
-use Rattle.std.specs.Prelude.{Result, Ok, Err}
 use Prim.Native.Nat.{ℕ, ◌+◌, ◌*◌, ◌<◌, ◌≤◌}
 use mathlib.Core.Path.{◌≡◌, refl, ap, ap₂, sym, ◌∙◌, subst, subst₂}
 use mathlib.Core.Bool.{Bool, true, false}
@@ -23,12 +22,10 @@ use Rattle.sheet.specs.Reading.{Outcome, outcome_of, no_ports}
 use Rattle.reading.specs.Readings.{sheet_read}
 use Rattle.rows.specs.declared.Sheet as form
 use Rattle.sheet.specs.declared.kind.Kind.TheVariants.{Plain, Pattern, Figure, Replacement}
+use Rattle.sheet.specs.declared.answer.Refusal.{Refusal}
 use Rattle.reading.specs.declared.read.Reading.{Reading}
-use Rattle.sheet.specs.Answer.{Passed}
-use Rattle.sheet.specs.TaskAnswer.{input_answer, unless, slip_after}
-use Rattle.sheet.proofs.TaskAnswer.{input-passed, input-refused}
-use Rattle.sheet.specs.declared.answer.TaskError.{TaskError}
-use Rattle.sheet.specs.declared.answer.TaskError.TheVariants as error
+use Rattle.sheet.specs.declared.answer.Answer.{Answer}
+use Rattle.sheet.specs.declared.answer.Answer.TheVariants.{Passed, Refused}
 use Rattle.placing.specs.Net.{NetCell, Net}
 use Rattle.placing.specs.Placing.{Good}
 use Rattle.placing.specs.Fillings.{Filling, Fits, normal_fillings_of}
@@ -45,8 +42,11 @@ use Rattle.network.specs.NetIn.{net_in}
 use Rattle.network.proofs.NetRead.{fit-read}
 use Rattle.matching.specs.Search.{placed_in}
 use Rattle.matching.specs.declared.search.Found.{Found}
+use Rattle.answers.specs.Done.{slip_after}
 use Rattle.filling.specs.Read.{list_held, fillings_read}
 use Rattle.filling.specs.Fill.{figure_held, first_lacking, first_differing, filled_by, filled_text, is_too_large}
+use Rattle.answers.specs.declared.outcome.Done.{Done}
+use Rattle.answers.specs.declared.outcome.Done.TheVariants as done
 use Rattle.filling.specs.Filled.{FilledIs}
 use Rattle.filling.proofs.Back.{placed-back}
 use Rattle.filling.proofs.ReadAsFigure.{replacement-figure}
@@ -66,21 +66,21 @@ module _ (figure : form.Sheet) (list text : List ℕ) (I : FilledInputs figure l
   filled : FilledIs text list r
   filled = M text I.of-figure I.none-lacking I.none-differing
 
-  sized : (b : Bool) → is_too_large (filled_by text list) ≡ b → pick b (Err error.TooLarge) (Ok (length (filled_text text list))) ≡ filled_done text list
-  sized b e = sym (ap (λ c. pick c (Err error.TooLarge) (Ok (length (filled_text text list)))) e)
+  sized : (b : Bool) → is_too_large (filled_by text list) ≡ b → pick b done.TooLarge (done.Written (length (filled_text text list))) ≡ filled_done text list
+  sized b e = sym (ap (λ c. pick c done.TooLarge (done.Written (length (filled_text text list)))) e)
 
-  pub done-many : sheet_atom_limit < r.atom_count → Err error.TooLarge ≡ filled_done text list
+  pub done-many : sheet_atom_limit < r.atom_count → done.TooLarge ≡ filled_done text list
   done-many h = sized true (filled.large-atoms h)
 
-  pub done-wide : sheet_link_limit < r.class_count → Err error.TooLarge ≡ filled_done text list
+  pub done-wide : sheet_link_limit < r.class_count → done.TooLarge ≡ filled_done text list
   done-wide h = sized true (filled.large-links h)
 
   module _ (few : r.atom_count ≤ sheet_atom_limit) (narrow : r.class_count ≤ sheet_link_limit) where
     pub done-writable : Writable r × ((r.atom_count + r.context_count + r.mark_count) * row_width ≤ slip_length)
     done-writable = filled.writable few narrow
 
-    pub done-written : (n : ℕ) → n ≡ length (normal_rows r) → Ok n ≡ filled_done text list
-    done-written n e = ap Ok (e ∙ ap length (filled.rows few narrow)) ∙ sized false (filled.not-large few narrow)
+    pub done-written : (n : ℕ) → n ≡ length (normal_rows r) → done.Written n ≡ filled_done text list
+    done-written n e = ap done.Written (e ∙ ap length (filled.rows few narrow)) ∙ sized false (filled.not-large few narrow)
 
     pub done-slip : (n : ℕ) → n ≡ length (normal_rows r) → (slip : List ℕ) → normal_rows r ++ drop (length (normal_rows r)) slip ≡ filled_text text list ++ drop n slip
     done-slip n e slip = ap₂ (λ (t : List ℕ) (k : ℕ). t ++ drop k slip) (filled.rows few narrow) (sym e)
@@ -110,15 +110,15 @@ module _ (sheet pattern replacement : form.Sheet) (s p q : List ℕ) (I : SwapIn
         ∙ ap₂ (λ (x y : form.Sheet). same_list (take x.mark_count x.marks) (take y.mark_count y.marks)) I.of-replacement I.placed.of-pattern
         ∙ ap₂ same_list (take-padded mark_room 0 (normal_marks R)) (take-padded mark_room 0 (normal_marks (pattern_held p)))
 
-    by-marks : (t : Bool) → b ≡ t → pick t (swapped_answer (graph_of R) (placed_fillings s p)) (Err (error.EdgeDiffers 3 0)) ≡ swap_read s p q
-    by-marks t e = ap (λ c. pick c (swapped_answer (graph_of R) (placed_fillings s p)) (Err (error.EdgeDiffers 3 0))) (sym e ∙ marks-same)
+    by-marks : (t : Bool) → b ≡ t → pick t (swapped_answer (graph_of R) (placed_fillings s p)) (done.EdgeDiffers 3 0) ≡ swap_read s p q
+    by-marks t e = ap (λ c. pick c (swapped_answer (graph_of R) (placed_fillings s p)) (done.EdgeDiffers 3 0)) (sym e ∙ marks-same)
 
-    pub marks-differ : b ≡ false → Err (error.EdgeDiffers 3 0) ≡ swap_read s p q
+    pub marks-differ : b ≡ false → done.EdgeDiffers 3 0 ≡ swap_read s p q
     marks-differ e = by-marks false e
 
     -- What the search found.
     module _ (same : b ≡ true) (r : Found) (E : placed_in sheet pattern r ≡ smallest (net_in sheet) (net_in pattern)) where
-      pub swap-nothing : r.ok ≡ false → Err error.NoPlacing ≡ swap_read s p q
+      pub swap-nothing : r.ok ≡ false → done.NoPlacing ≡ swap_read s p q
       swap-nothing h = sym (ap (swapped_answer (graph_of R)) (none_found sheet pattern s p I.placed r E h)) ∙ by-marks true same
 
       module _ (h : r.ok ≡ true) where
@@ -156,7 +156,7 @@ module _ (sheet pattern replacement : form.Sheet) (s p q : List ℕ) (I : SwapIn
 
         swap-done : filled_done q (list_text θ) ≡ swap_read s p q
         swap-done =
-            ap₂ (λ (x : Held) (η : List Filling). pick (is_too_large (filled_graph (graph_of x) η)) (Err error.TooLarge) (Ok (length (text_of (filled_normal (graph_of x) η))))) (ap (λ (x : Outcome). x.held) figure) read_back
+            ap₂ (λ (x : Held) (η : List Filling). pick (is_too_large (filled_graph (graph_of x) η)) done.TooLarge (done.Written (length (text_of (filled_normal (graph_of x) η))))) (ap (λ (x : Outcome). x.held) figure) read_back
             ∙ sym (ap (swapped_answer (graph_of R)) (some-found sheet pattern s p I.placed r E h))
             ∙ by-marks true same
 
@@ -177,67 +177,60 @@ module _ (sheet pattern replacement : form.Sheet) (s p q : List ℕ) (I : SwapIn
         swap-placing room = record { list = list_text θ; fills = list-fills; answer = swap-done; text = swap-text; parts = parts-given room }
 
 -- The texts as they were read.
-module _ (sheet pattern replacement : List ℕ) (S P : Reading)
-    (x : input_answer 1 (sheet_read (outcome_of Plain no_ports sheet)) ≡ Ok S) (y : input_answer 2 (sheet_read (outcome_of Pattern no_ports pattern)) ≡ Ok P) where
-  pub first-passed : (outcome_of Plain no_ports sheet).answer ≡ Passed
-  first-passed = (input-passed 1 (outcome_of Plain no_ports sheet).answer _ S x).0
+pub record TextsRead (S P T : Reading) (sheet pattern replacement : List ℕ) : Type 0 where
+  pub first-answer : (t : Answer) → S.answer ≡ t → (outcome_of Plain no_ports sheet).answer ≡ t
+  pub second-answer : (t : Answer) → P.answer ≡ t → (outcome_of Pattern no_ports pattern).answer ≡ t
+  pub third-answer : (t : Answer) → T.answer ≡ t → (replacement_read pattern replacement).answer ≡ t
+  pub inputs : S.answer ≡ Passed → P.answer ≡ Passed → T.answer ≡ Passed → SwapInputs S.normal P.normal T.normal sheet pattern replacement
 
-  pub second-passed : (outcome_of Pattern no_ports pattern).answer ≡ Passed
-  second-passed = (input-passed 2 (outcome_of Pattern no_ports pattern).answer _ P y).0
+module _ (S P T : Reading) (sheet pattern replacement : List ℕ)
+    (x : S ≡ sheet_read (outcome_of Plain no_ports sheet)) (y : P ≡ sheet_read (outcome_of Pattern no_ports pattern)) (z : T ≡ sheet_read (outcome_of Replacement P.ports replacement)) where
+  third : T ≡ sheet_read (replacement_read pattern replacement)
+  third = z ∙ ap (λ (r : Reading). sheet_read (outcome_of Replacement r.ports replacement)) y
 
-  -- the replacement is read with the ports of the pattern
-  pub third-read : sheet_read (outcome_of Replacement P.ports replacement) ≡ sheet_read (replacement_read pattern replacement)
-  third-read = ap (λ (r : Reading). sheet_read (outcome_of Replacement r.ports replacement)) (input-passed 2 (outcome_of Pattern no_ports pattern).answer _ P y).1
-
-  pub texts-read : (T : Reading) → input_answer 3 (sheet_read (replacement_read pattern replacement)) ≡ Ok T → SwapInputs S.normal P.normal T.normal sheet pattern replacement
-  texts-read T z =
-      let t = input-passed 3 (replacement_read pattern replacement).answer _ T z in
+  pub texts-read : TextsRead S P T sheet pattern replacement
+  texts-read =
       record {
-        placed = record {
-          passed = record { sheet-passes = first-passed; pattern-passes = second-passed };
-          of-sheet = ap (λ (r : Reading). r.normal) (input-passed 1 (outcome_of Plain no_ports sheet).answer _ S x).1;
-          of-pattern = ap (λ (r : Reading). r.normal) (input-passed 2 (outcome_of Pattern no_ports pattern).answer _ P y).1;
-        };
-        replacement-passes = t.0;
-        of-replacement = ap (λ (r : Reading). r.normal) t.1;
+        first-answer = λ t e. sym (ap (λ (r : Reading). r.answer) x) ∙ e;
+        second-answer = λ t e. sym (ap (λ (r : Reading). r.answer) y) ∙ e;
+        third-answer = λ t e. sym (ap (λ (r : Reading). r.answer) third) ∙ e;
+        inputs = λ a b c.
+            record {
+              placed = record {
+                passed = record { sheet-passes = sym (ap (λ (r : Reading). r.answer) x) ∙ a; pattern-passes = sym (ap (λ (r : Reading). r.answer) y) ∙ b };
+                of-sheet = ap (λ (r : Reading). r.normal) x;
+                of-pattern = ap (λ (r : Reading). r.normal) y;
+              };
+              replacement-passes = sym (ap (λ (r : Reading). r.answer) third) ∙ c;
+              of-replacement = ap (λ (r : Reading). r.normal) third;
+            };
       }
 
 -- The whole call.
 module _ (sheet pattern replacement slip : List ℕ) where
-  pub swap-short : length slip < slip_length → (Err error.ShortSlip ≡ swap_answer sheet pattern replacement (length slip)) × (slip ≡ swap_slip sheet pattern replacement slip)
+  pub swap-short : length slip < slip_length → (done.ShortSlip ≡ swap_answer sheet pattern replacement (length slip)) × (slip ≡ swap_slip sheet pattern replacement slip)
   unfolding swap_answer swap_slip
   swap-short h = (rw (lt-ltb (length slip) slip_length h), rw (lt-ltb (length slip) slip_length h))
 
-  abbrev after : Result ℕ TaskError → List ℕ
-  after d = slip_after d (swap_text sheet pattern replacement) slip
-
   module _ (h : slip_length ≤ length slip) where
-    pub swap-first : (e : TaskError) → input_answer 1 (sheet_read (outcome_of Plain no_ports sheet)) ≡ Err e → (Err e ≡ swap_answer sheet pattern replacement (length slip)) × (slip ≡ swap_slip sheet pattern replacement slip)
+    pub swap-first : (why : Refusal) (row : ℕ) → (outcome_of Plain no_ports sheet).answer ≡ Refused why row → (done.Refused 1 why row ≡ swap_answer sheet pattern replacement (length slip)) × (slip ≡ swap_slip sheet pattern replacement slip)
     unfolding swap_answer swap_slip
-    swap-first e q =
-        let next = unless (outcome_of Pattern no_ports pattern).answer 2 (unless (replacement_read pattern replacement).answer 3 (swap_read sheet pattern replacement)) in
-        let a : Err e ≡ unless (outcome_of Plain no_ports sheet).answer 1 next = input-refused 1 (outcome_of Plain no_ports sheet).answer _ e next q in
-        (rw (le-ltb (length slip) slip_length h) a, rw (le-ltb (length slip) slip_length h) (ap after a))
+    swap-first why row e = (rw (le-ltb (length slip) slip_length h, e), rw (le-ltb (length slip) slip_length h, e))
 
     module _ (a : (outcome_of Plain no_ports sheet).answer ≡ Passed) where
-      pub swap-second : (e : TaskError) → input_answer 2 (sheet_read (outcome_of Pattern no_ports pattern)) ≡ Err e → (Err e ≡ swap_answer sheet pattern replacement (length slip)) × (slip ≡ swap_slip sheet pattern replacement slip)
+      pub swap-second : (why : Refusal) (row : ℕ) → (outcome_of Pattern no_ports pattern).answer ≡ Refused why row → (done.Refused 2 why row ≡ swap_answer sheet pattern replacement (length slip)) × (slip ≡ swap_slip sheet pattern replacement slip)
       unfolding swap_answer swap_slip
-      swap-second e q =
-          let next = unless (replacement_read pattern replacement).answer 3 (swap_read sheet pattern replacement) in
-          let b : Err e ≡ unless (outcome_of Pattern no_ports pattern).answer 2 next = input-refused 2 (outcome_of Pattern no_ports pattern).answer _ e next q in
-          (rw (le-ltb (length slip) slip_length h, a) b, rw (le-ltb (length slip) slip_length h, a) (ap after b))
+      swap-second why row e = (rw (le-ltb (length slip) slip_length h, a, e), rw (le-ltb (length slip) slip_length h, a, e))
 
       module _ (b : (outcome_of Pattern no_ports pattern).answer ≡ Passed) where
-        pub swap-third : (e : TaskError) → input_answer 3 (sheet_read (replacement_read pattern replacement)) ≡ Err e → (Err e ≡ swap_answer sheet pattern replacement (length slip)) × (slip ≡ swap_slip sheet pattern replacement slip)
+        pub swap-third : (why : Refusal) (row : ℕ) → (replacement_read pattern replacement).answer ≡ Refused why row → (done.Refused 3 why row ≡ swap_answer sheet pattern replacement (length slip)) × (slip ≡ swap_slip sheet pattern replacement slip)
         unfolding swap_answer swap_slip
-        swap-third e q =
-            let c : Err e ≡ unless (replacement_read pattern replacement).answer 3 (swap_read sheet pattern replacement) = input-refused 3 (replacement_read pattern replacement).answer _ e (swap_read sheet pattern replacement) q in
-            (rw (le-ltb (length slip) slip_length h, a, b) c, rw (le-ltb (length slip) slip_length h, a, b) (ap after c))
+        swap-third why row e = (rw (le-ltb (length slip) slip_length h, a, b, e), rw (le-ltb (length slip) slip_length h, a, b, e))
 
-        pub swap-all : (replacement_read pattern replacement).answer ≡ Passed → (d : Result ℕ TaskError) → d ≡ swap_read sheet pattern replacement → (out : List ℕ) → out ≡ slip_after d (swap_text sheet pattern replacement) slip
+        pub swap-all : (replacement_read pattern replacement).answer ≡ Passed → (d : Done) → d ≡ swap_read sheet pattern replacement → (out : List ℕ) → out ≡ slip_after d (swap_text sheet pattern replacement) slip
             → (d ≡ swap_answer sheet pattern replacement (length slip)) × (out ≡ swap_slip sheet pattern replacement slip)
         unfolding swap_answer swap_slip
         swap-all c d e out o = (
           rw (le-ltb (length slip) slip_length h, a, b, c) e,
-          rw (le-ltb (length slip) slip_length h, a, b, c) (o ∙ ap (λ (x : Result ℕ TaskError). slip_after x (swap_text sheet pattern replacement) slip) e),
+          rw (le-ltb (length slip) slip_length h, a, b, c) (o ∙ ap (λ (x : Done). slip_after x (swap_text sheet pattern replacement) slip) e),
         )

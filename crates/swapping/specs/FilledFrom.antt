@@ -1,14 +1,14 @@
 -- The replacement as it is filled from the list that place would write.
-use Rattle.std.specs.Prelude.{ℕ, ◌≡◌, List, length, Result, Ok, Err}
+use Rattle.std.specs.Prelude.{ℕ, ◌≡◌, List, length}
 use Rattle.hyperlmntal.specs.Link.{◌∈◌}
 use Rattle.rows.specs.Pick.{pick}
 use Rattle.rows.specs.declared.Sheet as form
 use Rattle.sheet.specs.Filling.{Passes}
-use Rattle.sheet.specs.declared.answer.TaskError.{TaskError}
-use Rattle.sheet.specs.declared.answer.TaskError.TheVariants as error
 use Rattle.reading.specs.NormalSheet.{packed_normal}
 use Rattle.placing.specs.Net.{NetCell}
 use Rattle.network.specs.NetIn.{net_in}
+use Rattle.answers.specs.declared.outcome.Done.{Done}
+use Rattle.answers.specs.declared.outcome.Done.TheVariants as done
 use Rattle.filling.specs.Read.{list_held}
 use Rattle.filling.specs.Fill.{figure_held, first_lacking, first_differing, filled_by, filled_text, is_too_large}
 use Rattle.swapping.specs.Inputs.{swap_read, swap_text}
@@ -22,8 +22,8 @@ pub record FilledInputs (figure : form.Sheet) (list figure_text : List ℕ) : Ty
   pub none-differing : first_differing list (list_held list).contexts ≡ 0
 
 -- what filling then answers
-abbrev pub filled_done : List ℕ → List ℕ → Result ℕ TaskError
-filled_done figure list = pick (is_too_large (filled_by figure list)) (Err error.TooLarge) (Ok (length (filled_text figure list)))
+abbrev pub filled_done : List ℕ → List ℕ → Done
+filled_done figure list = pick (is_too_large (filled_by figure list)) done.TooLarge (done.Written (length (filled_text figure list)))
 
 -- the list of what was found: the replacement filled from it is what swap answers and writes, and each part of it is what the placing
 -- gives to that blank

@@ -1,12 +1,12 @@
 -- Texts that passed row by row, as their normal forms, and what swapping then answers.
-use Rattle.std.specs.Prelude.{ℕ, ◌≡◌, List, Result, Err}
+use Rattle.std.specs.Prelude.{ℕ, ◌≡◌, List}
 use Rattle.rows.specs.Pick.{pick}
 use Rattle.reading.specs.Graph.{graph_of}
 use Rattle.reading.specs.NormalSheet.{packed_normal}
 use Rattle.rows.specs.declared.Sheet as form
-use Rattle.sheet.specs.Answer.{Passed}
-use Rattle.sheet.specs.declared.answer.TaskError.{TaskError}
-use Rattle.sheet.specs.declared.answer.TaskError.TheVariants as error
+use Rattle.sheet.specs.declared.answer.Answer.TheVariants.{Passed}
+use Rattle.answers.specs.declared.outcome.Done.{Done}
+use Rattle.answers.specs.declared.outcome.Done.TheVariants as done
 use Rattle.placing.specs.TextNets.{pattern_held}
 use Rattle.finding.specs.Place.{placed_fillings}
 use Rattle.finding.specs.Inputs.{PlaceInputs}
@@ -17,9 +17,9 @@ pub record SwapInputs (sheet pattern replacement : form.Sheet) (sheet_text patte
   pub replacement-passes : (replacement_read pattern_text replacement_text).answer ≡ Passed
   pub of-replacement : replacement ≡ packed_normal (replacement_held pattern_text replacement_text)
 
-abbrev pub swap_read : List ℕ → List ℕ → List ℕ → Result ℕ TaskError
+abbrev pub swap_read : List ℕ → List ℕ → List ℕ → Done
 swap_read sheet pattern replacement =
-    pick (same_marks (replacement_held pattern replacement) (pattern_held pattern)) (swapped_answer (graph_of (replacement_held pattern replacement)) (placed_fillings sheet pattern)) (Err (error.EdgeDiffers 3 0))
+    pick (same_marks (replacement_held pattern replacement) (pattern_held pattern)) (swapped_answer (graph_of (replacement_held pattern replacement)) (placed_fillings sheet pattern)) (done.EdgeDiffers 3 0)
 
 abbrev pub swap_text : List ℕ → List ℕ → List ℕ → List ℕ
 swap_text sheet pattern replacement = swapped_text (graph_of (replacement_held pattern replacement)) (placed_fillings sheet pattern)

@@ -38,7 +38,8 @@ fn with_given(
     ensures numbered_after { numbering numbers.new numbered.new ≡ with_classes no_numbers (cell_links (given_cells sheet given.now number)) }
     ensures by_index { (later : List ℕ) → Grown whole result (map (placed_cell p (number_in (with_classes (numbering numbers.new numbered.new) later).numbers)) (given_cells sheet given.now number)) }
 {
-    for i in 0..sheet.atom_count {
+    let mut i = 0;
+    while i < sheet.atom_count {
         if given[i] == number {
             let atom = sheet.atoms[i];
             let before = atom.links;
@@ -54,6 +55,7 @@ fn with_given(
                 whole.count = n + 1;
             }
         }
+        i += 1;
     }
     whole
 }
@@ -63,10 +65,14 @@ fn context_numbered(contexts: [Context; Sheet::CONTEXT_ROOM], count: usize, numb
     requires { (count ≤ figure_contexts) × ((j : ℕ) × (j < count) × ((row_at contexts j).number ≡ number)) }
     ensures { (result < count) × ((row_at contexts result).number ≡ number) }
 {
-    let found = contexts[..count]
-        .iter()
-        .position(|context| context.number == number);
-    found.unwrap_or(0)
+    let mut j = 0;
+    while j + 1 < count {
+        if contexts[j].number == number {
+            return j;
+        }
+        j += 1;
+    }
+    j
 }
 
 // The replacement's own atoms, then for each of its contexts in order those that are given to it; the links where the
@@ -87,7 +93,8 @@ fn whole_given<'a>(
 {
     let blanks = pattern.contexts;
     let mut whole = own;
-    for i in 0..count {
+    let mut i = 0;
+    while i < count {
         let context = contexts[i];
         let links = context.links;
         let n = context.count as usize;
@@ -108,6 +115,7 @@ fn whole_given<'a>(
         );
         let marked = numbers_of(&mut numbers, &mut numbered, ports, n);
         with_ports(&mut *labels, i + 1, links, n, &marked);
+        i += 1;
     }
     whole
 }

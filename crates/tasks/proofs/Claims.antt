@@ -1,7 +1,6 @@
 -- A claim holds exactly when the filled figure is the same as the sheet.
-use Rattle.std.specs.Prelude.{Result, Ok}
 use Prim.Native.Nat.{ℕ}
-use mathlib.Core.Path.{◌≡◌, refl, ap, sym, ◌∙◌, subst}
+use mathlib.Core.Path.{◌≡◌, refl, sym, ◌∙◌, subst}
 use mathlib.Core.Logic.{◌⊎◌, inl, inr, ◌↔◌}
 use mathlib.Core.List.{List}
 use mathlib.Core.Bool.{Bool, true, false}
@@ -13,7 +12,6 @@ use Rattle.rows.specs.Pick.{pick}
 use Rattle.reading.specs.Graph.{graph_of, term_of_text}
 use Rattle.sheet.specs.Reading.{no_ports}
 use Rattle.sheet.specs.declared.kind.Kind.TheVariants.{Fillings}
-use Rattle.sheet.specs.declared.answer.TaskError.{TaskError}
 use Rattle.sheet.proofs.read.HeldLimits.{held-within}
 use Rattle.placing.specs.Net.{Net, NormalSheet}
 use Rattle.placing.specs.Placing.{Placing, Good}
@@ -34,6 +32,7 @@ use Rattle.filling.proofs.Exact.{all-exact}
 use Rattle.filling.proofs.ResultNet.{Atoms, result-sheet, result-term}
 use Rattle.filling.proofs.Answers.{rowed}
 use Rattle.claiming.specs.Claim.{filled_net, placed_claim, claimed_answer, claim_answer}
+use Rattle.answers.specs.declared.outcome.Claimed.TheVariants.{Holds, Differs}
 use Rattle.claiming.proofs.Listed.{listed-atoms}
 use Rattle.tasks.specs.Passed.{ClaimPassed}
 use Rattle.tasks.proofs.GoodSize.{good-atoms, good-links}
@@ -78,29 +77,26 @@ module _ (sheet figure list : List ℕ) (ok : ClaimPassed sheet figure list) whe
       let b = good-links S N s n p g in
       not-large G claim-atoms (omega (arith, a, small.atoms)) (omega (arith, b, small.links))
 
-  abbrev claim_end : Bool → Option Placing → Result Bool TaskError
-  claim_end large o = pick large (Ok false) (Ok (placed_claim o))
-
-  answer : claim_answer sheet figure list ≡ claim_end (is_too_large G) (smallest S N)
+  answer : claim_answer sheet figure list ≡ pick (is_too_large G) Differs (placed_claim (smallest S N))
   unfolding claim_answer claimed_answer
   answer = rw (ok.sheet-passes, ok.figure-passes, ok.list-passes, ok.none-lacking, ok.none-differing)
 
-  pub claim-ends : (claim_answer sheet figure list ≡ Ok true) ⊎ (claim_answer sheet figure list ≡ Ok false)
+  pub claim-ends : (claim_answer sheet figure list ≡ Holds) ⊎ (claim_answer sheet figure list ≡ Differs)
   claim-ends = rw answer (go (is_too_large G) (smallest S N))
     where
-      go : (b : Bool) (o : Option Placing) → (claim_end b o ≡ Ok true) ⊎ (claim_end b o ≡ Ok false)
+      go : (b : Bool) (o : Option Placing) → (pick b Differs (placed_claim o) ≡ Holds) ⊎ (pick b Differs (placed_claim o) ≡ Differs)
       go true o = inr refl
       go false none = inr refl
       go false (some p) = inl refl
 
-  pub claim-congruent : (claim_answer sheet figure list ≡ Ok true) ↔ (holding_term (term_of_text (figure_held figure)) (fillings_read list) ≅ term_of_text (sheet_held sheet))
-  claim-congruent = (λ e. onward (is_too_large G) (smallest S N) refl (sym answer ∙ e), λ e. let t = same.1 e in answer ∙ rw (no-larger t.0 t.1) (ap (λ (b : Bool). Ok b) (back t (smallest S N) refl)))
+  pub claim-congruent : (claim_answer sheet figure list ≡ Holds) ↔ (holding_term (term_of_text (figure_held figure)) (fillings_read list) ≅ term_of_text (sheet_held sheet))
+  claim-congruent = (λ e. onward (is_too_large G) (smallest S N) refl (sym answer ∙ e), λ e. let t = same.1 e in answer ∙ rw (no-larger t.0 t.1) (back t (smallest S N) refl))
     where
-      onward : (b : Bool) (o : Option Placing) → smallest S N ≡ o → claim_end b o ≡ Ok true → holding_term (term_of_text (figure_held figure)) (fillings_read list) ≅ term_of_text (sheet_held sheet)
+      onward : (b : Bool) (o : Option Placing) → smallest S N ≡ o → pick b Differs (placed_claim o) ≡ Holds → holding_term (term_of_text (figure_held figure)) (fillings_read list) ≅ term_of_text (sheet_held sheet)
       onward true o q e = absurd (let z : ◌≡◌ {A = ℕ} 0 1 = cc in omega arith)
       onward false none q e = absurd (let z : ◌≡◌ {A = ℕ} 0 1 = cc in omega arith)
       onward false (some p) q e = same.0 (p, smallest-good S N p q)
 
-      back : (p : Placing) × Good S N p → (o : Option Placing) → smallest S N ≡ o → placed_claim o ≡ true
+      back : (p : Placing) × Good S N p → (o : Option Placing) → smallest S N ≡ o → placed_claim o ≡ Holds
       back t none q = absurd ((smallest-none S N).0 q t.0 t.1)
       back t (some p) q = refl

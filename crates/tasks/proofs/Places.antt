@@ -1,9 +1,7 @@
 -- Place, for texts that passed and a slip of the full length.
-use Rattle.std.specs.Prelude.{Ok, Err}
 use Prim.Native.Nat.{ℕ, ◌≤◌}
 use mathlib.Core.Path.{◌≡◌, refl, ap, sym, ◌∙◌, subst}
 use mathlib.Core.Logic.{◌⊎◌, inl, inr, ◌↔◌}
-use mathlib.Core.Bool.{true}
 use mathlib.Core.List.{List, ◌++◌, map, map-map}
 use mathlib.Core.Option.{Option, none, some}
 use native.Mathlib.Omega.{arith}
@@ -17,8 +15,6 @@ use Rattle.normalising.specs.NormalText.{slip_length}
 use Rattle.sheet.specs.Reading.{Outcome, outcome_of, no_ports}
 use Rattle.sheet.specs.declared.kind.Kind.TheVariants.{Pattern, Figure}
 use Rattle.sheet.specs.HeldLimits.{Every}
-use Rattle.sheet.specs.TaskAnswer.{slip_after}
-use Rattle.sheet.specs.declared.answer.TaskError.TheVariants as error
 use Rattle.placing.specs.Placing.{Placing, Good}
 use Rattle.placing.specs.Fillings.{Filling, by_number, filling_for, fillings_of, normal_filling, normal_fillings_of}
 use Rattle.placing.specs.Holding.{holding_term}
@@ -31,20 +27,22 @@ use Rattle.placing.proofs.Theorems.{sheet-net, pattern-net}
 use Rattle.placing.proofs.Chosen.{chosen_none, chosen-fillings}
 use Rattle.placing.proofs.SmallestLaws.{smallest-good}
 use Rattle.placing.proofs.PlacedText.{text-fits}
+use Rattle.answers.specs.Done.{done_bytes, slip_after}
 use Rattle.filling.specs.Read.{list_held, fillings_read}
 use Rattle.filling.specs.Fill.{figure_held, first_lacking}
+use Rattle.answers.specs.declared.outcome.Done.TheVariants as done
 use Rattle.filling.proofs.Back.{placed-back}
 use Rattle.filling.proofs.ReadAsFigure.{pattern-figure}
 use Rattle.finding.specs.Place.{fillings_in, placed_fillings, placed_answer, placed_text, place_answer, place_slip}
 use Rattle.finding.specs.Passed.{PlacePassed}
 use Rattle.finding.proofs.Blanks.{Covering, pattern-covered}
 use Rattle.claiming.specs.Claim.{claim_answer}
+use Rattle.answers.specs.declared.outcome.Claimed.TheVariants.{Holds}
 use Rattle.swapping.proofs.ListWhole.{written-lacks, written-exact}
 use Rattle.tasks.specs.Passed.{ClaimPassed}
 use Rattle.tasks.specs.Demand.{Turning, place_written, head_of, HandsOut}
 use Rattle.tasks.proofs.Room.{list-room}
 use Rattle.tasks.proofs.Claims.{claim-congruent}
-use Rattle.answers.specs.Answers.{written_bytes}
 
 module _ (sheet pattern : List ℕ) (ok : PlacePassed sheet pattern) where
   pub place-answer : (n : ℕ) → slip_length ≤ n → place_answer sheet pattern n ≡ placed_answer (placed_fillings sheet pattern)
@@ -52,23 +50,23 @@ module _ (sheet pattern : List ℕ) (ok : PlacePassed sheet pattern) where
   place-answer n full = rw (le-ltb n slip_length full, ok.sheet-passes, ok.pattern-passes)
 
   -- 'place ends in 0 or 11'
-  pub place-ends : (n : ℕ) → slip_length ≤ n → ((bytes : ℕ) × (place_answer sheet pattern n ≡ Ok bytes)) ⊎ (place_answer sheet pattern n ≡ Err error.NoPlacing)
+  pub place-ends : (n : ℕ) → slip_length ≤ n → ((bytes : ℕ) × (place_answer sheet pattern n ≡ done.Written bytes)) ⊎ (place_answer sheet pattern n ≡ done.NoPlacing)
   place-ends n full = rw (place-answer n full) (go (placed_fillings sheet pattern))
     where
-      go : (o : Option (List Filling)) → ((bytes : ℕ) × (placed_answer o ≡ Ok bytes)) ⊎ (placed_answer o ≡ Err error.NoPlacing)
+      go : (o : Option (List Filling)) → ((bytes : ℕ) × (placed_answer o ≡ done.Written bytes)) ⊎ (placed_answer o ≡ done.NoPlacing)
       go none = inr refl
       go (some θ) = inl (length (list_text θ), refl)
 
-  pub answer-none : (n : ℕ) → slip_length ≤ n → (place_answer sheet pattern n ≡ Err error.NoPlacing) ↔ (smallest (sheet_net sheet) (pattern_net pattern) ≡ none)
+  pub answer-none : (n : ℕ) → slip_length ≤ n → (place_answer sheet pattern n ≡ done.NoPlacing) ↔ (smallest (sheet_net sheet) (pattern_net pattern) ≡ none)
   unfolding placed_fillings
   answer-none n full = (λ e. onward (smallest (sheet_net sheet) (pattern_net pattern)) (sym (place-answer n full) ∙ e), λ e. place-answer n full ∙ rw e)
     where
-      onward : (o : Option Placing) → placed_answer (fillings_in (sheet_net sheet) (pattern_net pattern) o) ≡ Err error.NoPlacing → o ≡ none
+      onward : (o : Option Placing) → placed_answer (fillings_in (sheet_net sheet) (pattern_net pattern) o) ≡ done.NoPlacing → o ≡ none
       onward none e = refl
       onward (some p) e = absurd (let z : ◌≡◌ {A = ℕ} 0 1 = cc in omega arith)
 
   -- No placing exactly when nobody can write fillings.
-  pub place_none : (n : ℕ) → slip_length ≤ n → (place_answer sheet pattern n ≡ Err error.NoPlacing) ↔ (((θ : List Filling) × Turning sheet pattern θ) → ⊥)
+  pub place_none : (n : ℕ) → slip_length ≤ n → (place_answer sheet pattern n ≡ done.NoPlacing) ↔ (((θ : List Filling) × Turning sheet pattern θ) → ⊥)
   place_none n full =
       let a = answer-none n full in
       let c = chosen_none sheet pattern ok.sheet-passes ok.pattern-passes in
@@ -93,7 +91,7 @@ module _ (sheet pattern : List ℕ) (ok : PlacePassed sheet pattern) where
       let θ = normal_fillings_of (sheet_net sheet) p (pattern_net pattern) in
       let c = chosen-fillings sheet pattern ok.sheet-passes ok.pattern-passes p e in
       let f : placed_fillings sheet pattern ≡ some θ = rw e in
-      let a : place_answer sheet pattern (length slip) ≡ Ok (length (list_text θ)) = place-answer (length slip) full ∙ ap placed_answer f in
+      let a : place_answer sheet pattern (length slip) ≡ done.Written (length (list_text θ)) = place-answer (length slip) full ∙ ap placed_answer f in
       record {
         placing = p;
         chosen = e;
@@ -108,7 +106,7 @@ module _ (sheet pattern : List ℕ) (ok : PlacePassed sheet pattern) where
       }
 
   -- In every other case it hands out the fillings that are chosen.
-  pub place-writes : (slip : List ℕ) → slip_length ≤ length slip → ¬ (place_answer sheet pattern (length slip) ≡ Err error.NoPlacing) → (θ : List Filling) × HandsOut sheet pattern slip θ
+  pub place-writes : (slip : List ℕ) → slip_length ≤ length slip → ¬ (place_answer sheet pattern (length slip) ≡ done.NoPlacing) → (θ : List Filling) × HandsOut sheet pattern slip θ
   place-writes slip full other = go (smallest (sheet_net sheet) (pattern_net pattern)) refl
     where
       go : (o : Option Placing) → smallest (sheet_net sheet) (pattern_net pattern) ≡ o → (θ : List Filling) × HandsOut sheet pattern slip θ
@@ -118,7 +116,7 @@ module _ (sheet pattern : List ℕ) (ok : PlacePassed sheet pattern) where
   -- The bytes that it wrote.
   pub written-list : (slip : List ℕ) (θ : List Filling) → HandsOut sheet pattern slip θ → place_written sheet pattern slip ≡ list_text θ
   written-list slip θ h =
-      ap (λ d. take (written_bytes d) (place_slip sheet pattern slip)) h.answer ∙ ap (take (length (list_text θ))) h.slip-after ∙ take_at (list_text θ) (drop (length (list_text θ)) slip) (length (list_text θ)) refl
+      ap (λ d. take (done_bytes d) (place_slip sheet pattern slip)) h.answer ∙ ap (take (length (list_text θ))) h.slip-after ∙ take_at (list_text θ) (drop (length (list_text θ)) slip) (length (list_text θ)) refl
 
   pub handed-placed : (slip : List ℕ) (θ : List Filling) → HandsOut sheet pattern slip θ → placed_fillings sheet pattern ≡ some θ
   unfolding placed_fillings
@@ -145,7 +143,7 @@ module _ (sheet pattern : List ℕ) (ok : PlacePassed sheet pattern) where
       }
 
   -- The claim with what place wrote holds.
-  pub place-claim : (slip : List ℕ) → slip_length ≤ length slip → ¬ (place_answer sheet pattern (length slip) ≡ Err error.NoPlacing) → claim_answer sheet pattern (place_written sheet pattern slip) ≡ Ok true
+  pub place-claim : (slip : List ℕ) → slip_length ≤ length slip → ¬ (place_answer sheet pattern (length slip) ≡ done.NoPlacing) → claim_answer sheet pattern (place_written sheet pattern slip) ≡ Holds
   place-claim slip full other =
       let t = place-writes slip full other in
       let h = t.1 in

@@ -21,7 +21,7 @@ use Rattle.normalising.specs.NormalText.{text_of}
 use Rattle.sheet.specs.Reading.{outcome_of, no_ports}
 use Rattle.sheet.specs.declared.kind.Kind.{Kind}
 use Rattle.sheet.specs.declared.kind.Kind.TheVariants.{Plain}
-use Rattle.sheet.specs.Answer.{Passed}
+use Rattle.sheet.specs.declared.answer.Answer.TheVariants.{Passed}
 use Rattle.sheet.specs.HeldLimits.{Every, AtomRange, MarkRange, WithinLimits}
 use Rattle.reading.proofs.normal.Distinct.{once-length}
 use Rattle.reading.proofs.normal.Marks.{marks-of}

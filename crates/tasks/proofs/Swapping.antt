@@ -1,5 +1,4 @@
 -- Swap, for texts that passed and a slip of the full length.
-use Rattle.std.specs.Prelude.{Ok, Err}
 use Prim.Native.Nat.{ℕ, ◌≤◌, ◌<◌}
 use mathlib.Core.Path.{◌≡◌, refl, ap, ap₂, sym, ◌∙◌, subst}
 use mathlib.Core.Logic.{◌⊎◌, inl, inr, ◌↔◌}
@@ -21,8 +20,6 @@ use Rattle.normalising.specs.NormalText.{text_of, slip_length}
 use Rattle.sheet.specs.Reading.{Outcome, outcome_of, no_ports}
 use Rattle.sheet.specs.declared.kind.Kind.TheVariants.{Figure, Replacement}
 use Rattle.sheet.proofs.read.HeldLimits.{held-within}
-use Rattle.sheet.specs.TaskAnswer.{slip_after}
-use Rattle.sheet.specs.declared.answer.TaskError.TheVariants as error
 use Rattle.reading.proofs.normal.Connected.{agrees-read}
 use Rattle.placing.specs.Net.{net_of}
 use Rattle.placing.specs.Fillings.{Filling}
@@ -31,8 +28,10 @@ use Rattle.placing.specs.Filled.{filled_graph, filled_normal}
 use Rattle.placing.specs.ListText.{list_text}
 use Rattle.placing.specs.TextNets.{pattern_held}
 use Rattle.placing.proofs.FilledText.{filled-text}
+use Rattle.answers.specs.Done.{slip_after}
 use Rattle.filling.specs.Read.{list_held}
 use Rattle.filling.specs.Fill.{is_too_large, figure_held, first_lacking, filled_text, filled_answer, fill_answer, fill_slip}
+use Rattle.answers.specs.declared.outcome.Done.TheVariants as done
 use Rattle.filling.proofs.ResultNet.{Atoms, result-atoms}
 use Rattle.filling.proofs.ReadAsFigure.{replacement-figure}
 use Rattle.finding.specs.Place.{placed_fillings, placed_answer, place_answer}
@@ -55,31 +54,31 @@ module _ (sheet pattern replacement : List ℕ) (ok : SwapPassed sheet pattern r
   swap_answer_lem n full = rw (le-ltb n slip_length full, ok.placed.sheet-passes, ok.placed.pattern-passes, ok.replacement-passes, ok.same-marks)
 
   -- No placing exactly when place says so.
-  pub swap-none : (n : ℕ) → slip_length ≤ n → (swap_answer sheet pattern replacement n ≡ Err error.NoPlacing) ↔ (place_answer sheet pattern n ≡ Err error.NoPlacing)
+  pub swap-none : (n : ℕ) → slip_length ≤ n → (swap_answer sheet pattern replacement n ≡ done.NoPlacing) ↔ (place_answer sheet pattern n ≡ done.NoPlacing)
   swap-none n full =
       let a = swap_answer_lem n full in
       let b = place-answer sheet pattern ok.placed n full in
       let t = go (placed_fillings sheet pattern) in
       (λ e. b ∙ t.0 (sym a ∙ e), λ e. a ∙ t.1 (sym b ∙ e))
     where
-      big : (b : Bool) (k : ℕ) → pick b (Err error.TooLarge) (Ok k) ≡ Err error.NoPlacing → ⊥
+      big : (b : Bool) (k : ℕ) → pick b done.TooLarge (done.Written k) ≡ done.NoPlacing → ⊥
       big true k e = let z : ◌≡◌ {A = ℕ} 0 1 = cc in omega arith
       big false k e = let z : ◌≡◌ {A = ℕ} 0 1 = cc in omega arith
 
-      go : (o : Option (List Filling)) → (swapped_answer (graph_of R) o ≡ Err error.NoPlacing) ↔ (placed_answer o ≡ Err error.NoPlacing)
+      go : (o : Option (List Filling)) → (swapped_answer (graph_of R) o ≡ done.NoPlacing) ↔ (placed_answer o ≡ done.NoPlacing)
       go none = (λ e. refl, λ e. refl)
       go (some θ) = (λ e. absurd (big (is_too_large (filled_graph (graph_of R) θ)) (length (text_of (filled_normal (graph_of R) θ))) e), λ e. absurd (let z : ◌≡◌ {A = ℕ} 0 1 = cc in omega arith))
 
   -- 'swap in 0, 11 or 12'
   pub swap_ends : (n : ℕ) → slip_length ≤ n
-      → ((bytes : ℕ) × (swap_answer sheet pattern replacement n ≡ Ok bytes)) ⊎ ((swap_answer sheet pattern replacement n ≡ Err error.NoPlacing) ⊎ (swap_answer sheet pattern replacement n ≡ Err error.TooLarge))
+      → ((bytes : ℕ) × (swap_answer sheet pattern replacement n ≡ done.Written bytes)) ⊎ ((swap_answer sheet pattern replacement n ≡ done.NoPlacing) ⊎ (swap_answer sheet pattern replacement n ≡ done.TooLarge))
   swap_ends n full = rw (swap_answer_lem n full) (go (placed_fillings sheet pattern))
     where
-      size : (b : Bool) (k : ℕ) → ((bytes : ℕ) × (pick b (Err error.TooLarge) (Ok k) ≡ Ok bytes)) ⊎ ((pick b (Err error.TooLarge) (Ok k) ≡ Err error.NoPlacing) ⊎ (pick b (Err error.TooLarge) (Ok k) ≡ Err error.TooLarge))
+      size : (b : Bool) (k : ℕ) → ((bytes : ℕ) × (pick b done.TooLarge (done.Written k) ≡ done.Written bytes)) ⊎ ((pick b done.TooLarge (done.Written k) ≡ done.NoPlacing) ⊎ (pick b done.TooLarge (done.Written k) ≡ done.TooLarge))
       size true k = inr (inr refl)
       size false k = inl (k, refl)
 
-      go : (o : Option (List Filling)) → ((bytes : ℕ) × (swapped_answer (graph_of R) o ≡ Ok bytes)) ⊎ ((swapped_answer (graph_of R) o ≡ Err error.NoPlacing) ⊎ (swapped_answer (graph_of R) o ≡ Err error.TooLarge))
+      go : (o : Option (List Filling)) → ((bytes : ℕ) × (swapped_answer (graph_of R) o ≡ done.Written bytes)) ⊎ ((swapped_answer (graph_of R) o ≡ done.NoPlacing) ⊎ (swapped_answer (graph_of R) o ≡ done.TooLarge))
       go none = inr (inl refl)
       go (some θ) = size (is_too_large (filled_graph (graph_of R) θ)) (length (text_of (filled_normal (graph_of R) θ)))
 
@@ -90,7 +89,7 @@ module _ (sheet pattern replacement : List ℕ) (ok : SwapPassed sheet pattern r
     pub swap-atoms : Atoms G.atoms
     swap-atoms = filled-atoms Replacement R θ (held-within Replacement (port_table (pattern_held pattern).contexts) replacement).ranges.contexts (replacement-covered pattern θ handed.turning.0 replacement)
 
-    answer : swap_answer sheet pattern replacement (length slip) ≡ pick (is_too_large G) (Err error.TooLarge) (Ok (length (text_of (swapped pattern replacement θ))))
+    answer : swap_answer sheet pattern replacement (length slip) ≡ pick (is_too_large G) done.TooLarge (done.Written (length (text_of (swapped pattern replacement θ))))
     answer = swap_answer_lem (length slip) full ∙ ap (swapped_answer (graph_of R)) (handed-placed sheet pattern ok.placed slip θ handed)
 
     fits : ¬ OverLimits (swapped pattern replacement θ) → is_too_large G ≡ false
@@ -100,8 +99,8 @@ module _ (sheet pattern replacement : List ℕ) (ok : SwapPassed sheet pattern r
         go true e = absurd (few ((too_large G swap-atoms).0 e))
         go false e = e
 
-    written : ¬ OverLimits (swapped pattern replacement θ) → swap_answer sheet pattern replacement (length slip) ≡ Ok (length (text_of (swapped pattern replacement θ)))
-    written few = answer ∙ ap (λ b. pick b (Err error.TooLarge) (Ok (length (text_of (swapped pattern replacement θ))))) (fits few)
+    written : ¬ OverLimits (swapped pattern replacement θ) → swap_answer sheet pattern replacement (length slip) ≡ done.Written (length (text_of (swapped pattern replacement θ)))
+    written few = answer ∙ ap (λ b. pick b done.TooLarge (done.Written (length (text_of (swapped pattern replacement θ))))) (fits few)
 
     -- Too large exactly when the result is over the limits; else the normal text of the replacement holding the fillings.
     pub swap-writes : Swaps sheet pattern replacement slip θ
@@ -115,7 +114,7 @@ module _ (sheet pattern replacement : List ℕ) (ok : SwapPassed sheet pattern r
         let exact = handed.turning.0.exact in
         let covered = replacement-covered pattern θ handed.turning.0 replacement in
         record {
-          too_large = (λ e. t.0 (over (is_too_large G) (sym answer ∙ e)), λ o. answer ∙ ap (λ b. pick b (Err error.TooLarge) (Ok (length (text_of (swapped pattern replacement θ))))) (t.1 o));
+          too_large = (λ e. t.0 (over (is_too_large G) (sym answer ∙ e)), λ o. answer ∙ ap (λ b. pick b done.TooLarge (done.Written (length (text_of (swapped pattern replacement θ))))) (t.1 o));
           answer = written;
           slip-after = λ few.
               ap (λ d. slip_after d (swapped_text (graph_of R) (placed_fillings sheet pattern)) slip) (written few)
@@ -132,7 +131,7 @@ module _ (sheet pattern replacement : List ℕ) (ok : SwapPassed sheet pattern r
         few-links : ¬ OverLimits (swapped pattern replacement θ) → (net_of (swapped pattern replacement θ)).links ≤ sheet_link_limit
         few-links few = let n : ¬ (sheet_link_limit < (net_of (swapped pattern replacement θ)).links) = λ h. few (inr h) in omega arith
 
-        over : (b : Bool) → pick b (Err error.TooLarge) (Ok (length (text_of (swapped pattern replacement θ)))) ≡ Err error.TooLarge → b ≡ true
+        over : (b : Bool) → pick b done.TooLarge (done.Written (length (text_of (swapped pattern replacement θ)))) ≡ done.TooLarge → b ≡ true
         over true e = refl
         over false e = absurd (let z : ◌≡◌ {A = ℕ} 0 1 = cc in omega arith)
 
@@ -148,7 +147,7 @@ module _ (sheet pattern replacement : List ℕ) (ok : SwapPassed sheet pattern r
         ap (λ (o : Outcome). first_lacking (list_held (list_text θ)).contexts o.held.contexts) figure
         ∙ handed-lacks sheet pattern ok.placed slip θ handed R.contexts (replacement-covered pattern θ handed.turning.0 replacement) in
         rw (le-ltb (length slip) slip_length full, ap (λ (o : Outcome). o.answer) figure, ok.replacement-passes, claim.list-passes, lacking, claim.none-differing)
-        (ap₂ (λ (h : Held) (η : List Filling). pick (is_too_large (filled_graph (graph_of h) η)) (Err error.TooLarge) (Ok (length (text_of (filled_normal (graph_of h) η))))) (ap (λ (o : Outcome). o.held) figure) handed.read_back
+        (ap₂ (λ (h : Held) (η : List Filling). pick (is_too_large (filled_graph (graph_of h) η)) done.TooLarge (done.Written (length (text_of (filled_normal (graph_of h) η))))) (ap (λ (o : Outcome). o.held) figure) handed.read_back
         ∙ sym answer)
 
     pub swap-fill : (swap_answer sheet pattern replacement (length slip) ≡ fill_answer replacement (place_written sheet pattern slip) (length slip))

@@ -1,6 +1,5 @@
 -- What place hands out are fillings as document 01 has them written, so the search says 'no placing' exactly when nobody can write
 -- such fillings.
-use Rattle.std.specs.Prelude.{Ok, Err}
 use Prim.Native.Nat.{ℕ, ◌≤◌, ◌<◌}
 use mathlib.Core.Path.{◌≡◌, sym, subst}
 use mathlib.Core.Logic.{◌⊎◌, inl, inr, ◌↔◌}
@@ -18,11 +17,11 @@ use Rattle.placing.specs.TextNets.{pattern_net}
 use Rattle.placing.specs.ListFits.{Ascends}
 use Rattle.placing.proofs.Orders.{by-number-out}
 use Rattle.placing.proofs.ListParts.{ascends-above}
+use Rattle.answers.specs.declared.outcome.Done.TheVariants as done
 use Rattle.finding.specs.Place.{place_answer}
 use Rattle.finding.specs.Passed.{PlacePassed}
 use Rattle.tasks.specs.Demand.{Turning, Different, head_of, Written, HandsOut}
 use Rattle.tasks.proofs.Places.{place-ends, place_none, place-writes, handed-fits}
-use Rattle.sheet.specs.declared.answer.TaskError.TheVariants as error
 
 -- Numbers that ascend are different.
 ascends-different : (n : ℕ) (θ : List Filling) → Ascends n θ → Different (map (λ (f : Filling). f.number) θ)
@@ -47,11 +46,11 @@ module _ (sheet pattern : List ℕ) (ok : PlacePassed sheet pattern) (slip : Lis
 
   -- Forward, nobody can write any fillings; backward, place would hand some out.
   pub place-none-written : slip_length ≤ length slip
-      → (place_answer sheet pattern (length slip) ≡ Err error.NoPlacing) ↔ (((θ : List Filling) × Written (pattern_net pattern) θ × Turning sheet pattern θ) → ⊥)
+      → (place_answer sheet pattern (length slip) ≡ done.NoPlacing) ↔ (((θ : List Filling) × Written (pattern_net pattern) θ × Turning sheet pattern θ) → ⊥)
   place-none-written full = (λ e t. (place_none sheet pattern ok (length slip) full).0 e (t.0, t.2), λ nobody. by nobody (place-ends sheet pattern ok (length slip) full))
     where
       by : (((θ : List Filling) × Written (pattern_net pattern) θ × Turning sheet pattern θ) → ⊥)
-          → ((bytes : ℕ) × (place_answer sheet pattern (length slip) ≡ Ok bytes)) ⊎ (place_answer sheet pattern (length slip) ≡ Err error.NoPlacing)
-          → place_answer sheet pattern (length slip) ≡ Err error.NoPlacing
+          → ((bytes : ℕ) × (place_answer sheet pattern (length slip) ≡ done.Written bytes)) ⊎ (place_answer sheet pattern (length slip) ≡ done.NoPlacing)
+          → place_answer sheet pattern (length slip) ≡ done.NoPlacing
       by nobody (inr e) = e
       by nobody (inl w) = absurd (nobody (let t = place-writes sheet pattern ok slip full (λ e. let z : ◌≡◌ {A = ℕ} 0 1 = cc w.1 in omega arith) in (t.0, handed-written t.0 t.1, t.1.turning)))

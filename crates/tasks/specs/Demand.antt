@@ -1,5 +1,5 @@
 -- What demand 3 asks of the answers and the slips of place and swap.
-use Rattle.std.specs.Prelude.{ℕ, ◌≤◌, ◌<◌, ◌≡◌, ◌⊎◌, ◌↔◌, List, [], ◌∷◌, ◌++◌, map, length, take, drop, Ok, Err}
+use Rattle.std.specs.Prelude.{ℕ, ◌≤◌, ◌<◌, ◌≡◌, ◌⊎◌, ◌↔◌, List, [], ◌∷◌, ◌++◌, map, length, take, drop}
 use Rattle.std.proofs.Math.Option.{some}
 use Rattle.hyperlmntal.specs.Link.{◌∈◌}
 use Rattle.hyperlmntal.specs.Congruence.{◌≅◌}
@@ -10,8 +10,7 @@ use Rattle.reading.specs.Graph.{graph_of, term_of_text}
 use Rattle.normalising.specs.NormalText.{text_of, slip_length}
 use Rattle.sheet.specs.Reading.{outcome_of, no_ports}
 use Rattle.sheet.specs.declared.kind.Kind.TheVariants.{Plain, Fillings}
-use Rattle.sheet.specs.Answer.{Passed}
-use Rattle.sheet.specs.declared.answer.TaskError.TheVariants as error
+use Rattle.sheet.specs.declared.answer.Answer.TheVariants.{Passed}
 use Rattle.placing.specs.Net.{Net, Range, net_of, blank_of}
 use Rattle.placing.specs.Placing.{Placing}
 use Rattle.placing.specs.Fillings.{symbol_row, Filling, Fits, by_number, normal_fillings_of}
@@ -20,10 +19,11 @@ use Rattle.placing.specs.Filled.{filled_normal}
 use Rattle.placing.specs.ListText.{list_text}
 use Rattle.placing.specs.Smallest.{smallest}
 use Rattle.placing.specs.TextNets.{sheet_held, pattern_held, sheet_net, pattern_net}
+use Rattle.answers.specs.Done.{done_bytes}
 use Rattle.filling.specs.Read.{fillings_read}
+use Rattle.answers.specs.declared.outcome.Done.TheVariants as done
 use Rattle.finding.specs.Place.{place_answer, place_slip}
 use Rattle.swapping.specs.Swap.{replacement_held, swap_answer, swap_slip}
-use Rattle.answers.specs.Answers.{written_bytes}
 
 -- 'fillings of any size, each with exactly its blank's ports as marks, that turn the figure into that sheet under E1 to E10'
 abbrev pub Turning : List ℕ → List ℕ → List Filling → Type 0
@@ -49,7 +49,7 @@ pub record Written (F : Net) (θ : List Filling) : Type 0 where
 
 -- the bytes that place wrote
 abbrev pub place_written : List ℕ → List ℕ → List ℕ → List ℕ
-place_written sheet pattern slip = take (written_bytes (place_answer sheet pattern (length slip))) (place_slip sheet pattern slip)
+place_written sheet pattern slip = take (done_bytes (place_answer sheet pattern (length slip))) (place_slip sheet pattern slip)
 
 -- 'it hands out the fillings that document 01 chooses, one for each blank with exactly its ports as marks, and the figure holding
 -- them is the same as that sheet'
@@ -57,7 +57,7 @@ pub record HandsOut (sheet pattern slip : List ℕ) (θ : List Filling) : Type 0
   pub placing : Placing
   pub chosen : smallest (sheet_net sheet) (pattern_net pattern) ≡ some placing
   pub chosen-fillings : θ ≡ normal_fillings_of (sheet_net sheet) placing (pattern_net pattern)
-  pub answer : place_answer sheet pattern (length slip) ≡ Ok (length (list_text θ))
+  pub answer : place_answer sheet pattern (length slip) ≡ done.Written (length (list_text θ))
   pub room : length (list_text θ) ≤ slip_length
   pub slip-after : place_slip sheet pattern slip ≡ list_text θ ++ drop (length (list_text θ)) slip
   pub one-for-each : map head_of θ ≡ map blank_of (by_number (pattern_net pattern).contexts)
@@ -76,8 +76,8 @@ swapped pattern replacement θ = filled_normal (graph_of (replacement_held patte
 -- 'it prints, byte for byte, the normal text of the replacement holding the fillings that the search hands out for that sheet and
 -- figure, or says 'too large', exactly when that result is over the table's limits'
 pub record Swaps (sheet pattern replacement slip : List ℕ) (θ : List Filling) : Type 0 where
-  pub too_large : (swap_answer sheet pattern replacement (length slip) ≡ Err error.TooLarge) ↔ OverLimits (swapped pattern replacement θ)
-  pub answer : ¬ OverLimits (swapped pattern replacement θ) → swap_answer sheet pattern replacement (length slip) ≡ Ok (length (text_of (swapped pattern replacement θ)))
+  pub too_large : (swap_answer sheet pattern replacement (length slip) ≡ done.TooLarge) ↔ OverLimits (swapped pattern replacement θ)
+  pub answer : ¬ OverLimits (swapped pattern replacement θ) → swap_answer sheet pattern replacement (length slip) ≡ done.Written (length (text_of (swapped pattern replacement θ)))
   pub room : ¬ OverLimits (swapped pattern replacement θ) → length (text_of (swapped pattern replacement θ)) ≤ slip_length
   pub slip-after : ¬ OverLimits (swapped pattern replacement θ)
       → swap_slip sheet pattern replacement slip ≡ text_of (swapped pattern replacement θ) ++ drop (length (text_of (swapped pattern replacement θ))) slip

@@ -6,7 +6,7 @@ use mathlib.Core.List.{[], ◌∷◌}
 use Rattle.rows.specs.Format.{most_links, most_name, most_number, most_context}
 use Rattle.sheet.specs.Reading.{no_ports}
 use Rattle.sheet.specs.declared.kind.Kind.TheVariants.{Plain, Figure, Fillings}
-use Rattle.sheet.specs.Answer.{Passed}
+use Rattle.sheet.specs.declared.answer.Answer.TheVariants.{Passed}
 use Rattle.texts.specs.Texts.{symbol, context, fusion, edge, head, counted, bad_column, Answers}
 use Rattle.texts.proofs.Texts.{answer_to}
 

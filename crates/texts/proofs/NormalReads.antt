@@ -13,7 +13,7 @@ use Rattle.reading.specs.NormalSheet.{normal_marks}
 use Rattle.normalising.specs.NormalText.{text_of, normal_text_of}
 use Rattle.sheet.specs.Reading.{outcome_of, no_ports}
 use Rattle.sheet.specs.declared.kind.Kind.{Kind}
-use Rattle.sheet.specs.Answer.{Passed}
+use Rattle.sheet.specs.declared.answer.Answer.TheVariants.{Passed}
 use Rattle.sheet.proofs.read.HeldLimits.{held-within}
 use Rattle.reading.proofs.normal.Connected.{agrees-read}
 use Rattle.texts.proofs.NormalIso.{text-normal}

@@ -11,7 +11,7 @@ use Rattle.rows.specs.declared.Context.{Context}
 use Rattle.sheet.specs.Reading.{Outcome, read_from, no_ports}
 use Rattle.sheet.specs.declared.kind.Kind.{Kind}
 use Rattle.sheet.specs.declared.kind.Kind.TheVariants.{Plain, Pattern, Figure, Replacement, Fillings}
-use Rattle.sheet.specs.Answer.{Answer}
+use Rattle.sheet.specs.declared.answer.Answer.{Answer}
 use Rattle.texts.specs.Texts.{fusion}
 use Rattle.texts.specs.Reached.{idle, full_rows, held_numbers, one_over, Reaches, sheet_rows, sheet_numbers, context_number, figure_rows, figure_numbers, one_context, one_port, second_head, list_rows, list_numbers}
 use Rattle.texts.proofs.Texts.{down_from, answer_to, LastAnswers, AlmostAll, last-read, last-answers}

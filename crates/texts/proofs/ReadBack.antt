@@ -21,7 +21,7 @@ use Rattle.reading.specs.Graph.{atom_cell, context_cell, fusion_of, edge_of, gra
 use Rattle.normalising.specs.NormalText.{cell_bytes, edge_bytes, joined, text_of}
 use Rattle.sheet.specs.Reading.{clash_of, Outcome, passed, read_from, outcome_of}
 use Rattle.sheet.specs.declared.kind.Kind.{Kind}
-use Rattle.sheet.specs.Answer.{Passed}
+use Rattle.sheet.specs.declared.answer.Answer.TheVariants.{Passed}
 use Rattle.sheet.specs.HeldLimits.{Every}
 use Rattle.sheet.proofs.kind.KindLaws.{rows-limit}
 use Rattle.sheet.proofs.read.ReadingLaws.{read_none}

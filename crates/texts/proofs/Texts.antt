@@ -11,7 +11,7 @@ use Rattle.rows.specs.Held.{Held, nothing, index_of, with_link, with_links, merg
 use Rattle.rows.specs.Packed.{ports_of}
 use Rattle.sheet.specs.Reading.{strange, last_number, clash_of, clashes, first_of, Outcome, passed, read_from, outcome_of}
 use Rattle.sheet.specs.declared.kind.Kind.{Kind}
-use Rattle.sheet.specs.Answer.{Answer}
+use Rattle.sheet.specs.declared.answer.Answer.{Answer}
 use Rattle.sheet.specs.HeldLimits.{Every}
 use Rattle.sheet.proofs.kind.KindLaws.{rows-limit}
 use Rattle.sheet.proofs.read.Taken.{read-on}

@@ -6,7 +6,7 @@ use Rattle.reading.specs.Graph.{graph_of, term_of_text}
 use Rattle.normalising.specs.NormalText.{normal_text_of}
 use Rattle.sheet.specs.Reading.{outcome_of, no_ports}
 use Rattle.sheet.specs.declared.kind.Kind.TheVariants.{Plain}
-use Rattle.sheet.specs.Answer.{Passed}
+use Rattle.sheet.specs.declared.answer.Answer.TheVariants.{Passed}
 use Rattle.texts.specs.Texts.{symbol}
 
 -- `S 1 0`, `S 2 0`, and the same rows in the other order

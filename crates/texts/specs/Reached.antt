@@ -6,7 +6,8 @@ use Rattle.rows.specs.Held.{Held}
 use Rattle.sheet.specs.Reading.{outcome_of}
 use Rattle.sheet.specs.declared.kind.Kind.{Kind}
 use Rattle.sheet.specs.declared.answer.Refusal.TheVariants.{Long, Crowded, Joints, Marks}
-use Rattle.sheet.specs.Answer.{Answer, Passed, Refused}
+use Rattle.sheet.specs.declared.answer.Answer.{Answer}
+use Rattle.sheet.specs.declared.answer.Answer.TheVariants.{Passed, Refused}
 use Rattle.texts.specs.Texts.{symbol, context, fusion, edge, head, rows_from, Answers}
 
 -- rows that bring nothing new, all marks, so many atoms and so many links, such that with the rows before them and one row more the

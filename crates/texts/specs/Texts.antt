@@ -5,7 +5,8 @@ use Rattle.writing.specs.RowText.{row_bytes}
 use Rattle.sheet.specs.Reading.{outcome_of}
 use Rattle.sheet.specs.declared.kind.Kind.{Kind}
 use Rattle.sheet.specs.declared.answer.Refusal.TheVariants.{BadColumn}
-use Rattle.sheet.specs.Answer.{Answer, Refused}
+use Rattle.sheet.specs.declared.answer.Answer.{Answer}
+use Rattle.sheet.specs.declared.answer.Answer.TheVariants.{Refused}
 
 -- rows by letter: S, B, F, E, H
 abbrev pub symbol : List ℕ → List ℕ

@@ -3,7 +3,7 @@
 #![tactic(auto)]
 
 use answers::row::{answer_row, written_part};
-use answers::{TaskAnswer, of_written};
+use answers::{TaskAnswer, of_done, of_normalised};
 use rows::Sheet;
 use std::io;
 use std::rt::Files;
@@ -19,11 +19,11 @@ const OLD: u8 = b'.';
 // The task of this name; a text that it does not use is empty.
 fn run_task(task: &[u8], first: &[u8], second: &[u8], third: &[u8], out: &mut [u8]) -> TaskAnswer {
     match task {
-        b"normalise" => of_written(normalising::normalise::normalise_sheet(first, out)),
-        b"normalise_figure" => of_written(normalising::normalise::normalise_figure(first, out)),
-        b"fill" => of_written(filling::fill::fill(first, second, out)),
-        b"place" => of_written(finding::place::place(first, second, out)),
-        _ => of_written(swapping::swap::swap(first, second, third, out)),
+        b"normalise" => of_normalised(normalising::normalise::normalise_sheet(first, out)),
+        b"normalise_figure" => of_normalised(normalising::normalise::normalise_figure(first, out)),
+        b"fill" => of_done(filling::fill::fill(first, second, out)),
+        b"place" => of_done(finding::place::place(first, second, out)),
+        _ => of_done(swapping::swap::swap(first, second, third, out)),
     }
 }
 

@@ -4,7 +4,7 @@ use mathlib.Core.Path.{◌≡◌, refl, ap, ◌∙◌, sym}
 use mathlib.Core.List.{List, [], ◌∷◌, ◌++◌, append_assoc, append-nil}
 use mathlib.Core.Bool.{Bool, true, false}
 use native.Mathlib.Nat.{add-zero, add_assoc}
-use native.Mathlib.Numerals.{add-one}
+use native.Mathlib.Numerals.{add-one, add-two, add-three}
 use native.Mathlib.Omega.{arith}
 use borrow.Author.Tests.{lt-ltb, le-ltb, ltb-true}
 use lib.Dec.{ltb, leb-suc-suc}
@@ -71,9 +71,13 @@ module _ (l : List ℕ) (at : ℕ) (a : List ℕ) (j : ℕ) (n : length a ≡ j)
       past : drop (at + j + k) (over l at a j) ≡ drop (at + j + k) l
       past = rw (← over-head) (drop-append-add (take at l ++ a) (drop (length (take at l ++ a)) l) k ∙ drop-drop k (length (take at l ++ a)) l)
 
--- One byte stored.
+-- Stores, one after the other.
 pub one-stored : (l : List ℕ) (i a : ℕ) → i + 1 ≤ length l → set l i a ≡ over l i (a ∷ []) 1
 one-stored l i a h = sets-eq (a ∷ []) l i h
+
+pub four-stored : (l : List ℕ) (i a b c d : ℕ) → i + 4 ≤ length l
+    → set (set (set (set l i a) (i + 1) b) (i + 2) c) (i + 3) d ≡ over l i (a ∷ b ∷ c ∷ d ∷ []) 4
+four-stored l i a b c d h = rw (add-one i) (rw (add-two i) (rw (add-three i) (sets-eq (a ∷ b ∷ c ∷ d ∷ []) l i h)))
 
 -- One field more is written: `new` is what stands there then.
 pub fields-put : (l new : List ℕ) (at : ℕ) (nums : List ℕ) (count f : ℕ) → count ≤ length nums → f < field_count → at + field_count * field_width ≤ length l

@@ -51,8 +51,10 @@ fn put_fields(out: &mut [u8], at: usize, nums: [u16; Sheet::FIELDS], count: usiz
     requires by_index { (k : ℕ) → k < count → get_or nums k 0 ≤ most_number }
     ensures { out.new ≡ take at out.old ++ fields_bytes field_count (take count nums) ++ drop (at + field_count * field_width) out.old }
 {
-    for f in 0..Sheet::FIELDS {
+    let mut f = 0;
+    while f < Sheet::FIELDS {
         put_field(out, at + f * Sheet::FIELD, f < count, nums[f]);
+        f += 1;
     }
 }
 

@@ -3,17 +3,42 @@ use Prim.Native.Nat.{ℕ, zero, suc, ◌+◌, ◌*◌, ◌<◌, ◌≤◌}
 use mathlib.Core.Path.{◌≡◌, refl, ap, ◌∙◌, sym}
 use mathlib.Core.List.{List, [], ◌∷◌, ◌++◌, map, append_assoc, append-nil}
 use native.Mathlib.Nat.{zero-add}
+use native.Mathlib.Numerals.{add-one, add-two}
 use native.Mathlib.Omega.{arith}
-use lib.ListN.{length, get_or, take, drop, length-append}
-use lib.Seq.{length-take-le}
-use Rattle.std.proofs.lemmas.List.{take_more, get_or-take, map-append}
-use Rattle.rows.specs.Format.{row_width}
+use lib.ListN.{length, get_or, set, take, drop, length-append}
+use lib.Seq.{take-suc, take-suc-set, take_all}
+use Rattle.rows.specs.Format.{row_width, most_number}
 use Rattle.writing.proofs.RowBytes.{row-width, over, over-more}
 use Rattle.rows.specs.declared.Atom.{Atom}
 use Rattle.rows.specs.declared.Context.{Context}
 use Rattle.normalising.specs.NormalText.{joined}
-use Rattle.normalising.specs.NormalRows.{rows_to, atom_row_in, context_row_in, mark_row_in, atom_row, context_row, mark_row, normal_rows}
+use Rattle.normalising.specs.NormalRows.{rows_to, atom_row_in, context_row_in, mark_row_in, atom_row, context_row, mark_row, normal_rows, Narrow}
 use Rattle.rows.specs.declared.Sheet.{Sheet as Normal}
+
+-- one turn of copying links after two numbers
+pub numbers-next : (nums links : List ℕ) (a b k : ℕ) → k + 2 < length nums → k < length links → take (k + 2) nums ≡ a ∷ b ∷ take k links
+    → take (k + 1 + 2) (set nums (k + 2) (get_or links k 0)) ≡ a ∷ b ∷ take (k + 1) links
+numbers-next nums links a b k h hl e =
+    let z : k + 1 + 2 ≡ suc (k + 2) = omega arith in
+    rw z (rw (take-suc-set nums (k + 2) (get_or links k 0) h) (rw e (rw (add-one k) (rw (take-suc links k 0 hl)))))
+
+pub numbers-all : (nums links : List ℕ) (a b n : ℕ) → length nums ≡ n + 2 → length links ≡ n → take (n + 2) nums ≡ a ∷ b ∷ take n links → nums ≡ a ∷ b ∷ links
+numbers-all nums links a b n h hl e = sym (take_all (n + 2) nums (omega arith)) ∙ e ∙ rw (take_all n links (omega arith))
+
+-- the first numbers of a row with links
+pub linked-taken : (a b count : ℕ) (links : List ℕ) → take (count + 2) (a ∷ b ∷ links) ≡ a ∷ b ∷ take count links
+linked-taken a b count links = rw (add-two count)
+
+-- the numbers of a row have four digits at most
+pub two-narrow : (a b : ℕ) (l : List ℕ) → a ≤ most_number → b ≤ most_number → (k : ℕ) → k < 2 → get_or (a ∷ b ∷ l) k 0 ≤ most_number
+two-narrow a b l p q zero h = p
+two-narrow a b l p q (suc zero) h = q
+two-narrow a b l p q (suc (suc k)) h = absurd (omega arith)
+
+pub linked-narrow : (a b : ℕ) (links : List ℕ) → Narrow a b links → (k : ℕ) → k < b + 2 → get_or (a ∷ b ∷ links) k 0 ≤ most_number
+linked-narrow a b links n zero h = n.named
+linked-narrow a b links n (suc zero) h = omega arith
+linked-narrow a b links n (suc (suc k)) h = n.linked k (omega arith)
 
 -- rows of one width
 module _ (row : ℕ → List ℕ) (w : (k : ℕ) → length (row k) ≡ row_width) where
@@ -21,6 +46,16 @@ module _ (row : ℕ → List ℕ) (w : (k : ℕ) → length (row k) ≡ row_widt
   unfolding rows_to
   rows-length zero = refl
   rows-length (suc n) = rw (length-append (rows_to row n) (row n)) (omega (arith, rows-length n, w n))
+
+  -- One row more is written: `new` is what stands there then.
+  pub rows-put : (l new : List ℕ) (at k : ℕ) → at + (k + 1) * row_width ≤ length l
+      → new ≡ over (over l at (rows_to row k) (k * row_width)) (at + k * row_width) (row k) row_width
+      → new ≡ over l at (rows_to row (k + 1)) ((k + 1) * row_width)
+  unfolding rows_to
+  rows-put l new at k h e =
+      let z : (k + 1) * row_width ≡ k * row_width + row_width = omega arith in
+      let m : rows_to row (k + 1) ≡ rows_to row k ++ row k = rw (add-one k) in
+      e ∙ over-more l at (rows_to row k) (k * row_width) (rows-length k) (omega arith) (row k) row_width ∙ rw (z, m)
 
 -- by place or by element: rows that a list's elements give
 module _ {A : Type 0} (d : A) (form : A → List ℕ) where
@@ -35,37 +70,10 @@ module _ {A : Type 0} (d : A) (form : A → List ℕ) where
   rows-joined row (x ∷ l) e =
       rows-front row (length l) ∙ rw (e 0 (omega arith)) (ap (λ (t : List ℕ). form x ++ t) (rows-joined (λ k. row (suc k)) l (λ k h. e (suc k) (omega arith))))
 
-  -- of the first elements
-  pub rows-taken : (row : ℕ → List ℕ) (l : List A) (n : ℕ) → n ≤ length l → ((k : ℕ) → k < n → row k ≡ form (get_or l k d)) → joined (map form (take n l)) ≡ rows_to row n
-  rows-taken row l n h e =
-      let size : length (take n l) ≡ n = length-take-le n l h in
-      sym (rw size at (rows-joined row (take n l) (λ k less. let m : k < n = omega (arith, size) in e k m ∙ ap form (sym (get_or-take n l k d m)))))
-
 pub joined-append : (a b : List (List ℕ)) → joined (a ++ b) ≡ joined a ++ joined b
 unfolding joined
 joined-append [] b = refl
 joined-append (r ∷ a) b = rw (joined-append a b) (sym (append_assoc r (joined a) (joined b)))
-
--- rows of one width, by element
-module _ {A : Type 0} (form : A → List ℕ) (w : (x : A) → length (form x) ≡ row_width) where
-  pub joined-length : (l : List A) → length (joined (map form l)) ≡ length l * row_width
-  unfolding joined
-  joined-length [] = refl
-  joined-length (x ∷ l) = rw (length-append (form x) (joined (map form l))) (omega (arith, w x, joined-length l))
-
-  -- One row more is written: `new` is what stands there then.
-  pub joined-put : (rows : List A) (d : A) (l new : List ℕ) (at k : ℕ) → k < length rows → at + length rows * row_width ≤ length l
-      → new ≡ over (over l at (joined (map form (take k rows))) (k * row_width)) (at + k * row_width) (form (get_or rows k d)) row_width
-      → new ≡ over l at (joined (map form (take (k + 1) rows))) ((k + 1) * row_width)
-  unfolding joined
-  joined-put rows d l new at k h room e =
-      let z : (k + 1) * row_width ≡ k * row_width + row_width = omega arith in
-      let more : joined (map form (take (k + 1) rows)) ≡ joined (map form (take k rows)) ++ form (get_or rows k d) =
-      ap (λ t. joined (map form t)) (take_more rows k d h) ∙ ap joined (map-append form (take k rows) (get_or rows k d ∷ []))
-      ∙ joined-append (map form (take k rows)) (form (get_or rows k d) ∷ []) ∙ ap (λ (t : List ℕ). joined (map form (take k rows)) ++ t) (append-nil (form (get_or rows k d))) in
-      let size : length (joined (map form (take k rows))) ≡ k * row_width = joined-length (take k rows) ∙ ap (λ (n : ℕ). n * row_width) (length-take-le k rows (omega (arith, h))) in
-      let few : at + k * row_width ≤ length l = omega (arith, room, h) in
-      e ∙ over-more l at (joined (map form (take k rows))) (k * row_width) size few (form (get_or rows k d)) row_width ∙ rw (z, more)
 
 pub atom-width : (atoms : List Atom) (k : ℕ) → length (atom_row_in atoms k) ≡ row_width
 atom-width atoms k = row-width _ _

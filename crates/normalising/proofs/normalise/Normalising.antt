@@ -1,7 +1,6 @@
 -- What normalising answers and writes, in each of its cases.
 use Prim.Native.Nat.{ℕ, ◌+◌, ◌*◌, ◌<◌, ◌≤◌}
-use mathlib.Core.Path.{◌≡◌, ap}
-use Rattle.std.specs.Prelude.{Result, Ok, Err}
+use mathlib.Core.Path.{◌≡◌}
 use mathlib.Core.List.{List, ◌++◌}
 use mathlib.Core.Bool.{false}
 use borrow.Author.Tests.{lt-ltb, le-ltb}
@@ -9,36 +8,31 @@ use lib.ListN.{length, drop}
 use Rattle.rows.specs.Format.{row_width}
 use Rattle.sheet.specs.Kinds.{is_list}
 use Rattle.sheet.specs.Reading.{outcome_of, no_ports}
-use Rattle.reading.specs.Made.{reading_of}
 use Rattle.reading.specs.NormalSheet.{packed_normal}
 use Rattle.normalising.specs.NormalText.{slip_length, normal_text_of, normalised_answer, normalised_slip}
 use Rattle.normalising.specs.NormalRows.{normal_rows, Writable}
 use Rattle.sheet.specs.declared.kind.Kind.{Kind}
 use Rattle.rows.specs.declared.Sheet.{Sheet as Normal}
-use Rattle.sheet.specs.TaskAnswer.{input_answer, unless, slip_after}
-use Rattle.sheet.specs.Answer.{Passed}
-use Rattle.sheet.specs.declared.answer.TaskError.{TaskError}
-use Rattle.sheet.specs.declared.answer.TaskError.TheVariants.{ShortSlip}
-use Rattle.sheet.proofs.TaskAnswer.{input-refused}
+use Rattle.sheet.specs.declared.answer.Refusal.{Refusal}
+use Rattle.sheet.specs.declared.answer.Answer.TheVariants.{Passed, Refused}
+use Rattle.normalising.specs.declared.normalise.Normalised.TheVariants as done
 use Rattle.sheet.proofs.read.HeldLimits.{held-within}
 use Rattle.reading.proofs.normal.Connected.{agrees-read}
 use Rattle.normalising.proofs.normal_text.NormalWritten.{normal-rows, normal-writable, rows_fit}
 
 module _ (kind : Kind) (text slip : List ℕ) where
-  pub slip-short : length slip < slip_length → (Err ShortSlip ≡ normalised_answer kind text (length slip)) × (slip ≡ normalised_slip kind text slip)
+  pub slip-short : length slip < slip_length → (done.ShortSlip ≡ normalised_answer kind text (length slip)) × (slip ≡ normalised_slip kind text slip)
   unfolding normalised_answer normalised_slip
   slip-short h = (rw (lt-ltb (length slip) slip_length h), rw (lt-ltb (length slip) slip_length h))
 
-  pub slip-refused : slip_length ≤ length slip → (e : TaskError) → input_answer 1 (reading_of kind (outcome_of kind no_ports text)) ≡ Err e
-      → (Err e ≡ normalised_answer kind text (length slip)) × (slip ≡ normalised_slip kind text slip)
+  pub slip-refused : slip_length ≤ length slip → (why : Refusal) (row : ℕ) → (outcome_of kind no_ports text).answer ≡ Refused why row
+      → (done.Refused why row ≡ normalised_answer kind text (length slip)) × (slip ≡ normalised_slip kind text slip)
   unfolding normalised_answer normalised_slip
-  slip-refused h e q =
-      let a : Err e ≡ unless (outcome_of kind no_ports text).answer 1 (Ok (length (normal_text_of kind text))) = input-refused 1 (outcome_of kind no_ports text).answer _ e _ q in
-      (rw (le-ltb (length slip) slip_length h) a, rw (le-ltb (length slip) slip_length h) (ap (λ (d : Result ℕ TaskError). slip_after d (normal_text_of kind text) slip) a))
+  slip-refused h why row e = (rw (le-ltb (length slip) slip_length h, e), rw (le-ltb (length slip) slip_length h, e))
 
   pub slip-written : slip_length ≤ length slip → (outcome_of kind no_ports text).answer ≡ Passed
       → (normal : Normal) → normal ≡ packed_normal (outcome_of kind no_ports text).held
-      → (Ok (length (normal_rows normal)) ≡ normalised_answer kind text (length slip)) × (normal_rows normal ++ drop (length (normal_rows normal)) slip ≡ normalised_slip kind text slip)
+      → (done.Written (length (normal_rows normal)) ≡ normalised_answer kind text (length slip)) × (normal_rows normal ++ drop (length (normal_rows normal)) slip ≡ normalised_slip kind text slip)
   unfolding normalised_answer normalised_slip
   slip-written h e normal q =
       let r : normal_rows normal ≡ normal_text_of kind text = rw q (normal-rows kind (outcome_of kind no_ports text).held (held-within kind no_ports text)) in

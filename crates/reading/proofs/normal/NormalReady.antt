@@ -1,6 +1,6 @@
 -- What a reader hands back can be numbered, whatever the kind and the answer; the normal form of a sheet or a figure is then
 -- that of what its text holds.
-use Prim.Native.Nat.{ℕ, zero, suc, ◌-◌, ◌≤◌}
+use Prim.Native.Nat.{ℕ, zero, suc, ◌+◌, ◌-◌, ◌≤◌}
 use mathlib.Core.Path.{◌≡◌, ap}
 use mathlib.Core.List.{List, [], ◌∷◌, ◌++◌}
 use mathlib.Core.Bool.{false}
@@ -11,7 +11,6 @@ use Rattle.rows.specs.Limits.{filling_links, atom_room, context_room, link_room}
 use Rattle.rows.specs.Held.{Held}
 use Rattle.rows.specs.Packed.{padded, no_atom, no_context, port_table}
 use Rattle.rows.specs.TextArrays.{packed}
-use Rattle.sheet.specs.Answer.{read_as}
 use Rattle.sheet.specs.Kinds.{is_list}
 use Rattle.reading.specs.Graph.{graph_of}
 use Rattle.reading.specs.Agrees.{Labels}
@@ -65,5 +64,5 @@ numberable-read kind pattern text = numberable-held kind (outcome_of kind patter
 -- A sheet or a figure is handed back in its normal form.
 pub sheet-read : (kind : Kind) (pattern text : List ℕ) → is_list kind ≡ false → reading_of kind (outcome_of kind pattern text) ≡ sheet_read (outcome_of kind pattern text)
 sheet-read kind pattern text plain =
-    rw plain (ap (λ (n : Normal). read_as (outcome_of kind pattern text).answer (record { normal = n; ports = port_table (outcome_of kind pattern text).held.contexts }))
+    rw plain (ap (λ (n : Normal). record { answer = (outcome_of kind pattern text).answer; normal = n; ports = port_table (outcome_of kind pattern text).held.contexts })
     (normal-made (outcome_of kind pattern text).held (agrees-read kind pattern text plain) (numberable-read kind pattern text)))

@@ -1,10 +1,11 @@
 -- The answer to a row's tests, test by test, as the code comes to it.
 use Prim.Native.Nat.{ℕ, ◌+◌, ◌<◌, ◌≤◌}
-use mathlib.Core.Path.{◌≡◌, ap}
+use mathlib.Core.Path.{◌≡◌, ap, sym}
 use mathlib.Core.List.{[], ◌∷◌}
 use mathlib.Core.Bool.{Bool, true, false}
+use lib.Dec.{ltb}
 use borrow.Author.Tests.{lt-ltb, le-ltb, le-leb, lt-leb}
-use Rattle.rows.specs.Pick.{not}
+use Rattle.rows.specs.Pick.{pick, or, not}
 use Rattle.rows.specs.declared.row.Row.{Row}
 use Rattle.sheet.specs.Kinds.{limits_of, atom_limit, link_limit}
 use Rattle.sheet.specs.Reading.{strange_by, crowded, over_links, over_marks, first_of, late_tests}
@@ -12,7 +13,8 @@ use Rattle.sheet.specs.Steps.{answer_of, early_answer}
 use Rattle.sheet.specs.declared.kind.Kind.{Kind}
 use Rattle.sheet.specs.declared.answer.Refusal.{Refusal}
 use Rattle.sheet.specs.declared.answer.Refusal.TheVariants.{Ragged, StrangeRow, BadColumn, Long, Crowded, Joints, Marks, BlankClash}
-use Rattle.sheet.specs.Answer.{Answer, Passed, Refused}
+use Rattle.sheet.specs.declared.answer.Answer.{Answer}
+use Rattle.sheet.specs.declared.answer.Answer.TheVariants.{Passed, Refused}
 
 module _ (n : ℕ) (r1 r2 r3 r4 : Refusal) (b1 b2 b3 b4 : Bool) where
   abbrev Four : Answer → Type 0

@@ -1,5 +1,5 @@
 -- What a text holds is within the table's ranges and limits.
-use Prim.Native.Nat.{ℕ, ◌+◌, ◌<◌}
+use Prim.Native.Nat.{ℕ, zero, suc, ◌+◌, ◌<◌}
 use mathlib.Core.Path.{◌≡◌, refl, ◌∙◌, ap}
 use mathlib.Core.List.{List, [], ◌∷◌}
 use mathlib.Core.Bool.{Bool, true, false, true≢false, false≢true}
@@ -21,7 +21,7 @@ use Rattle.sheet.specs.Kinds.{is_list}
 use Rattle.sheet.specs.Reading.{strange, outcome_of}
 use Rattle.sheet.specs.declared.kind.Kind.{Kind}
 use Rattle.sheet.specs.declared.kind.Kind.TheVariants.{Plain, Pattern, Figure, Replacement, Fillings}
-use Rattle.sheet.specs.Answer.{Passed}
+use Rattle.sheet.specs.declared.answer.Answer.TheVariants.{Passed}
 use Rattle.sheet.specs.HeldLimits.{Every, LinkRange, MarkRange, Ports, AtomRange, ContextRange, FusionRange, EdgeRange, InRange, WithinLimits}
 use Rattle.sheet.proofs.read.ReadingLaws.{row-counted}
 use Rattle.sheet.proofs.read.Taken.{row_at, Taken, outcome-keeps}

@@ -4,7 +4,6 @@ use mathlib.Core.Path.{◌≡◌, refl, ap, ◌∙◌, sym}
 use mathlib.Core.List.{List, [], ◌∷◌, ◌++◌}
 use mathlib.Core.Bool.{Bool, true, false, true≢false}
 use lib.ListN.{length}
-use Rattle.std.specs.Prelude.{Ok, Err}
 use Rattle.rows.specs.Pick.{pick}
 use Rattle.rows.specs.Held.{Held, nothing, with_row}
 use Rattle.rows.specs.TextArrays.{packed, TextArrays}
@@ -13,9 +12,9 @@ use Rattle.rows.proofs.Bools.{not-false}
 use Rattle.sheet.specs.Filling.{is_passed}
 use Rattle.sheet.specs.Reading.{ragged, strange_by, strange, clashes, Verdict, taken, refused, first_of, early_tests, late_tests, tests, Outcome, settled}
 use Rattle.sheet.specs.Steps.{answer_of, early_answer, whole_row, next_of}
-use Rattle.sheet.specs.declared.answer.RefusedRow.{RefusedRow}
+use Rattle.sheet.specs.declared.judge.Next.{Next}
 use Rattle.sheet.specs.declared.kind.Kind.{Kind}
-use Rattle.sheet.specs.Answer.{Answer, Passed, Refused, read_as}
+use Rattle.sheet.specs.declared.answer.Answer.{Answer}
 use Rattle.sheet.specs.declared.answer.Refusal.{Refusal}
 use Rattle.sheet.proofs.read.Taken.{row_at, none_first}
 
@@ -94,29 +93,11 @@ early-same kind heads k text cut r ec = rw (← ec) (go cut)
     go true f = refl
     go false f = rw (f refl)
 
--- of what a reader hands back, whether the text passes, and what it hands back with another value
-pub passes-read : {A B : Type 0} (x : Answer) (a v : A) (b : B) → Ok v ≡ read_as x a → (is_passed x ≡ true) × (v ≡ a) × (Ok b ≡ read_as x b)
-passes-read Passed a v b e = (refl, cc, refl)
-passes-read (Refused why row) a v b e = absurd (cc)
-
-pub refuses-read : {A B : Type 0} (x : Answer) (a : A) (b : B) (r : RefusedRow) → Err r ≡ read_as x a → (is_passed x ≡ false) × (Err r ≡ read_as x b)
-refuses-read Passed a b r e = absurd (cc)
-refuses-read (Refused why row) a b r e = (refl, cc)
-
--- the row that the code has is the next one
-module _ (kind : Kind) (heads k : ℕ) (text : List ℕ) (cut : Bool) (r : Row) (ec : cut ≡ ragged text) (er : r ≡ whole_row cut text) where
-  abbrev early-here : Answer
-  early-here = early_answer kind heads k cut r
-
-  next-same : read_as early-here r ≡ next_of kind heads k text
-  next-same =
-      let a : early-here ≡ early_answer kind heads k (ragged text) (row_at text) =
-      ap (λ (v : Verdict). answer_of v (k + 1)) (early-same kind heads k text cut r ec (λ e. er ∙ ap (λ (b : Bool). whole_row b text) e)) in
-      let b : r ≡ whole_row (ragged text) text = er ∙ ap (λ (b : Bool). whole_row b text) ec in
-      ap (λ (x : Answer). read_as x r) a ∙ ap (λ (y : Row). read_as (early_answer kind heads k (ragged text) (row_at text)) y) b
-
-  pub next-taken : (v : Unit {0}) → Ok v ≡ read_as early-here tt → Ok r ≡ next_of kind heads k text
-  next-taken v e = (passes-read early-here tt v r e).2 ∙ next-same
-
-  pub next-refused : (y : RefusedRow) → Err y ≡ read_as {A = Unit {0}} early-here tt → Err y ≡ next_of kind heads k text
-  next-refused y e = (refuses-read {A = Unit {0}} early-here tt r y e).1 ∙ next-same
+-- the row and the answer that the code has are the next ones
+pub next-made : (kind : Kind) (heads k : ℕ) (text : List ℕ) (cut : Bool) (r : Row) (x : Answer) → cut ≡ ragged text → r ≡ whole_row cut text → x ≡ early_answer kind heads k cut r
+    → ◌≡◌ {A = Next} (record { answer = x; row = r }) (next_of kind heads k text)
+next-made kind heads k text cut r x ec er ex =
+    let a : x ≡ early_answer kind heads k (ragged text) (row_at text) =
+    ex ∙ ap (λ (v : Verdict). answer_of v (k + 1)) (early-same kind heads k text cut r ec (λ e. er ∙ ap (λ (b : Bool). whole_row b text) e)) in
+    let b : r ≡ whole_row (ragged text) text = er ∙ ap (λ (b : Bool). whole_row b text) ec in
+    rw a (rw b)

@@ -20,7 +20,7 @@ use Rattle.sheet.specs.Kinds.{limits_of, atom_limit, link_limit}
 use Rattle.sheet.specs.Reading.{ragged, strange, clashes, Verdict, taken, refused, first_of, tests, Outcome, passed, settled, read_from, outcome_of}
 use Rattle.sheet.specs.declared.kind.Kind.{Kind}
 use Rattle.sheet.specs.declared.answer.Refusal.{Refusal}
-use Rattle.sheet.specs.Answer.{Passed, Refused}
+use Rattle.sheet.specs.declared.answer.Answer.TheVariants.{Passed, Refused}
 use Rattle.sheet.proofs.kind.KindLaws.{rows-limit, contexts-limit, marks-limit}
 
 -- The row with which a text begins.

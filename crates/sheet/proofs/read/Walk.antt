@@ -1,6 +1,6 @@
 -- The walk over rows: what one turn of the reader's loop makes of the definition.
 use Prim.Native.Nat.{ℕ, suc, ◌+◌, ◌-◌, ◌<◌, ◌≤◌}
-use mathlib.Core.Path.{◌≡◌, refl, ap, ◌∙◌}
+use mathlib.Core.Path.{◌≡◌, refl, ap, ◌∙◌, sym}
 use mathlib.Core.List.{List}
 use mathlib.Core.Bool as bool
 use mathlib.Core.Bool.{true, false}
