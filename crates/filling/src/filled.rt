@@ -20,6 +20,7 @@ use rows::{Context, Sheet};
 
 // Atoms and marks with the numbers of their labels: the normal form of a filled figure with these m marks where its
 // counts are within a sheet's limits; else one of them is above its limit.
+#[inline(always)]
 pub fn numbered_whole(
     whole: Whole,
     labels: &[u16; PLACES],
@@ -51,6 +52,7 @@ pub fn numbered_whole(
 
 // The normal form of a figure, by its own, filled from a list that passed and has a filling for each of its contexts;
 // notes of each filling read whether its marks are exact.
+#[inline(always)]
 pub fn normal_filled(
     figure: Sheet,
     list: &[u8],
