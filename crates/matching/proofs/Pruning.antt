@@ -66,7 +66,7 @@ module _ (sheet figure : form.Sheet) where
 
   -- ---- the steps
 
-  chosen-sent : (k t : ℕ) (a l b : List ℕ) → b ≡ set a k (bit_and (get_or a k 0) (alone t)) → Sent sheet figure k t a l b l false
+  pub chosen-sent : (k t : ℕ) (a l b : List ℕ) → b ≡ set a k (bit_and (get_or a k 0) (alone t)) → Sent sheet figure k t a l b l false
   chosen-sent k t a l b e = record { stays = λ p h. choose-obeys S F (MayLink l) p a h.obeys k b t e h.there; none = λ z. both_ways z refl }
 
   pub lost-narrowed : (k t : ℕ) (a l b : List ℕ) → b ≡ set a k (fewer (get_or a k 0) (alone t)) → ((p : Placing) → ¬ GoesTo sheet figure a l k t p) → Narrowed sheet figure a l b l

@@ -53,16 +53,21 @@ module _ (sheet figure : form.Sheet) (ready : Ready sheet figure) (r : Found) (a
   unfolding smallest
   placed-smallest e = placed-found ∙ ap (placing_in (net_in sheet) (net_in figure)) (e ∙ behind-nothing (least_after (net_in sheet) (net_in figure) []))
 
+-- Nets whose atoms are laid out are ready.
+pub laid-ready : (sheet figure : form.Sheet) (laid : List ℕ) (n : ℕ) (parts : List ℕ) (m : ℕ) → LaidOut sheet laid n → LaidOut figure parts m → Ready sheet figure
+laid-ready sheet figure laid n parts m os of = record { sheet-fit = os.fit; figure-fit = of.fit; sheet-normal = os.normal; figure-normal = of.normal }
+
 -- A sheet and a figure whose atoms are laid out, and their frames.
 module _ (sheet figure : form.Sheet) (laid parts : List ℕ) (os : LaidOut sheet laid sheet.atom_count) (of : LaidOut figure parts figure.atom_count) (s f : Frame) (d : FrameOf sheet s) (e : FrameOf figure f) where
   pub whole-ready : Ready (whole s laid) (whole f parts)
-  whole-ready =
-      let a = whole-laid sheet laid os s d in
-      let b = whole-laid figure parts of f e in
-      record { sheet-fit = a.fit; figure-fit = b.fit; sheet-normal = a.normal; figure-normal = b.normal }
+  whole-ready = laid-ready (whole s laid) (whole f parts) laid s.atom_count parts f.atom_count (whole-laid sheet laid os s d) (whole-laid figure parts of f e)
 
-  -- What is found for the frames is the smallest for the sheet and the figure.
-  pub placed-whole : (r : Found) → length r.atoms_to ≡ sheet_atom_limit → length r.links_to ≡ sheet_link_limit → found_in (whole s laid) (whole f parts) r ≡ search_from (net_in (whole s laid)) (net_in (whole f parts)) [] → placed_in sheet figure r ≡ smallest (net_in sheet) (net_in figure)
-  placed-whole r atoms links h =
+  -- What is the smallest for the frames is so for the sheet and the figure.
+  pub placed-whole : (r : Found) → placed_in (whole s laid) (whole f parts) r ≡ smallest (net_in (whole s laid)) (net_in (whole f parts)) → placed_in sheet figure r ≡ smallest (net_in sheet) (net_in figure)
+  placed-whole r h =
       let counts : placed_in sheet figure r ≡ placed_in (whole s laid) (whole f parts) r = rw (d.is, e.is) refl in
-      counts ∙ (placed-smallest (whole s laid) (whole f parts) whole-ready r atoms links h ∙ whole-smallest sheet figure laid parts os of s f d e)
+      counts ∙ (h ∙ whole-smallest sheet figure laid parts os of s f d e)
+
+  -- So is what the search finds for them, from the beginning.
+  pub found-whole : (r : Found) → length r.atoms_to ≡ sheet_atom_limit → length r.links_to ≡ sheet_link_limit → found_in (whole s laid) (whole f parts) r ≡ search_from (net_in (whole s laid)) (net_in (whole f parts)) [] → placed_in sheet figure r ≡ smallest (net_in sheet) (net_in figure)
+  found-whole r atoms links h = placed-whole r (placed-smallest (whole s laid) (whole f parts) whole-ready r atoms links h)

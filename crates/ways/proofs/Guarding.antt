@@ -8,7 +8,7 @@ use Rattle.candidates.specs.Forced.{Only}
 use Rattle.ways.specs.Nodes.{RowOnOneHalf, Guarded, StaysGuarded, GuardedTo, Guards, GuardsTo, Shut}
 
 -- A flag is stored, and what was taken stays so.
-stays-stored : (was now : List ℕ) (t v : ℕ) → t < length now → (get_or now t 0 ≡ 1 → v ≡ 1) → Guarded v → StaysGuarded was now → StaysGuarded was (set now t v)
+pub stays-stored : (was now : List ℕ) (t v : ℕ) → t < length now → (get_or now t 0 ≡ 1 → v ≡ 1) → Guarded v → StaysGuarded was now → StaysGuarded was (set now t v)
 stays-stored was now t v h one g s u = go (ℕ_discrete u t)
   where
     go : Dec (u ≡ t) → (get_or was u 0 ≡ 1 → get_or (set now t v) u 0 ≡ 1) × (Guarded (get_or was u 0) → Guarded (get_or (set now t v) u 0))
@@ -16,7 +16,7 @@ stays-stored was now t v h one g s u = go (ℕ_discrete u t)
         (λ w. q ∙ one (ap (λ (i : ℕ). get_or now i 0) (sym e) ∙ (s u).0 w), λ w. subst Guarded (sym q) g)
     go (no d) = (λ w. get_or-set_other now t u v 0 d ∙ (s u).0 w, λ w. subst Guarded (sym (get_or-set_other now t u v 0 d)) ((s u).1 w))
 
-stays_same : (was : List ℕ) → StaysGuarded was was
+pub stays_same : (was : List ℕ) → StaysGuarded was was
 stays_same was t = (λ e. e, λ g. g)
 
 module _ (parts words atoms : List ℕ) (n side : ℕ) where

@@ -40,13 +40,13 @@ has-at v l z t = let e : suc z ≡ suc t.0 = t.1 in let f : z ≡ t.0 = omega ar
 
 -- v is stored for a number that did not have it, or something else where P does not hold.
 module _ (v w : ℕ) (now : List ℕ) (z : ℕ) (h : z < length now) (new : get_or now z 0 ≢ v) where
-  has-not : ¬ Has v now (suc z)
+  pub has-not : ¬ Has v now (suc z)
   has-not t = new (has-at v now z t)
 
-  has_kept : (y : ℕ) → Has v now y → Has v (set now z w) y
+  pub has_kept : (y : ℕ) → Has v now y → Has v (set now z w) y
   has_kept y t = (t.0, t.1, get_or-set_other now z t.0 w 0 (λ e. new (subst (λ (i : ℕ). get_or now i 0 ≡ v) e t.2)) ∙ t.2)
 
-  has-stored : w ≡ v → Has v (set now z w) (suc z)
+  pub has-stored : w ≡ v → Has v (set now z w) (suc z)
   has-stored e = (z, refl, get_or-set_same now z w 0 h ∙ e)
 
 -- ---- trails and ways

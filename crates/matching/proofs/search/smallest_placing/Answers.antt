@@ -13,7 +13,7 @@ use Rattle.candidates.proofs.Framing.{whole-laid}
 use Rattle.matching.specs.Search.{search_from}
 use Rattle.matching.proofs.Leftover.{leftover}
 use Rattle.matching.proofs.SearchTurns.{nothing-begun}
-use Rattle.matching.proofs.SearchWhole.{no-atoms, placed-smallest, whole-ready, placed-whole}
+use Rattle.matching.proofs.SearchWhole.{no-atoms, placed-smallest, whole-ready, found-whole}
 use Rattle.matching.proofs.search.smallest_placing.Goals as goal
 
 pub returns-then-leaves_some : goal.returns-then-leaves_some
@@ -36,7 +36,7 @@ pub returns-then-part-eq0 : goal.returns-then-part-eq0
 returns-then-part-eq0 c =
     let s = c.lay_out-net in
     let f = c.lay_out-part in
-    placed-whole c.args.sheet c.args.figure _ _ s.ensures.laid_out f.ensures.laid_out _ _ s.ensures.frame f.ensures.frame c.leaf.result (search (rules, c.leaf.type_inv)) (search (rules, c.leaf.type_inv))
+    found-whole c.args.sheet c.args.figure _ _ s.ensures.laid_out f.ensures.laid_out _ _ s.ensures.frame f.ensures.frame c.leaf.result (search (rules, c.leaf.type_inv)) (search (rules, c.leaf.type_inv))
     (c.leaf.ensures ∙ ap (λ (k : ℕ). search_from (net_in (whole s.result s.new.laid)) (net_in (whole f.result f.new.laid)) (take k (replicate sheet_atom_limit 0))) c.if-part-eq0.true)
 
 pub search_all-requires : goal.search_all-requires
@@ -51,4 +51,4 @@ pub returns : goal.returns
 returns c =
     let s = c.lay_out-net in
     let f = c.lay_out-part in
-    placed-whole c.args.sheet c.args.figure _ _ s.ensures.laid_out f.ensures.laid_out _ _ s.ensures.frame f.ensures.frame c.search_all.result (search (rules, c.search_all.type_inv)) (search (rules, c.search_all.type_inv)) c.search_all.ensures
+    found-whole c.args.sheet c.args.figure _ _ s.ensures.laid_out f.ensures.laid_out _ _ s.ensures.frame f.ensures.frame c.search_all.result (search (rules, c.search_all.type_inv)) (search (rules, c.search_all.type_inv)) c.search_all.ensures
