@@ -1,5 +1,5 @@
 -- Document 01, 'Rows': what the bytes of one row say.
-use Rattle.std.specs.Prelude.{ℕ, zero, suc, ◌+◌, ◌-◌, ◌*◌, List, [], ◌∷◌, Bool, true, false, ltb, leb, eqb, take, drop, get_or, set, replicate}
+use Rattle.std.specs.Prelude.{ℕ, zero, suc, ◌+◌, ◌-◌, ◌*◌, ◌<◌, ◌≡◌, List, [], ◌∷◌, Bool, true, false, ltb, leb, eqb, take, drop, get_or, set, replicate}
 use Rattle.rows.specs.Pick.{pick, and, or, not}
 use Rattle.rows.specs.Format.{field_width, field_count, no_letter, letter_of, rule_of}
 use Rattle.rows.specs.declared.row.Rule.{Rule}
@@ -31,6 +31,10 @@ needed r f count = pick r.counted (ltb f (2 + count)) r.filled
 -- a number within the rule's range where one is needed, and nothing elsewhere
 unfoldable pub suits : Rule → ℕ → ℕ → Bool → ℕ → Bool
 suits r f count filled n = pick (needed r f count) (and filled (and (leb r.low n) (leb n r.high))) (not filled)
+
+-- the four columns from this one on are spaces
+abbrev pub Blank : List ℕ → ℕ → Type 0
+Blank s at = (k : ℕ) → k < field_width → get_or s (at + k) 0 ≡ 32
 
 abbrev pub row_with : ℕ → Bool → List ℕ → Row
 row_with letter good nums = record { letter = letter; good = good; nums = nums }

@@ -1,7 +1,7 @@
 // The one row reader: a letter and its fields, by one table.
-ghost use Rattle.std.specs.Prelude.{◌≡◌, [], ◌<◌, length, get_or};
-ghost use Rattle.rows.specs.Format.{row_width, no_letter, letter_of, rules};
-ghost use Rattle.rows.specs.Row.{misplaced_in, suits, no_row, row_of};
+ghost use Rattle.std.specs.Prelude.{◌≡◌, ◌↔◌, [], true, ◌+◌, ◌<◌, ◌≤◌, length, get_or};
+ghost use Rattle.rows.specs.Format.{field_width, row_width, no_letter, letter_of, rules};
+ghost use Rattle.rows.specs.Row.{misplaced_in, needed, suits, Blank, no_row, row_of};
 
 use crate::Sheet;
 
@@ -122,29 +122,37 @@ pub(crate) fn letter_of(b: u8) -> usize
     }
 }
 
-// The table's rules for a letter. A place that is known when the program is compiled costs nothing to read.
+// The table's rules for a letter. The table is lent, so that it is read where it lies; else it would be laid out anew at
+// each row. A place that is known when the program is compiled costs nothing to read.
 pub fn rules_of(letter: usize) -> [Rule; Sheet::FIELDS]
     requires { letter < no_letter }
     ensures { result ≡ get_or rules letter [] }
 {
+    let table = &RULES;
     match letter {
-        Row::ATOM => RULES[Row::ATOM],
-        Row::CONTEXT => RULES[Row::CONTEXT],
-        Row::FUSION => RULES[Row::FUSION],
-        Row::EDGE => RULES[Row::EDGE],
-        _ => RULES[Row::HEAD],
+        Row::ATOM => table[Row::ATOM],
+        Row::CONTEXT => table[Row::CONTEXT],
+        Row::FUSION => table[Row::FUSION],
+        Row::EDGE => table[Row::EDGE],
+        _ => table[Row::HEAD],
     }
+}
+
+// Whether field f is to hold a number, in a row with this count.
+fn is_needed(rule: Rule, f: usize, count: u16) -> bool
+    ensures { result ≡ needed rule f count }
+{
+    if rule.counted {
+        return f < 2 + count as usize;
+    }
+    rule.filled
 }
 
 // Whether field f may hold what was read there, in a row with this count.
 pub(crate) fn field_suits(rule: Rule, f: usize, count: u16, filled: bool, n: u16) -> bool
     ensures { result ≡ suits rule f count filled n }
 {
-    let mut needed = rule.filled;
-    if rule.counted {
-        needed = f < 2 + count as usize;
-    }
-    if !needed {
+    if !is_needed(rule, f, count) {
         return !filled;
     }
     if !filled {
@@ -179,6 +187,17 @@ pub(crate) fn misplaced(b: u8, filled: bool, last: bool) -> bool
     !last
 }
 
+// A field of spaces as one number.
+const SPACES: u32 = 0x2020_2020;
+
+// Whether the four columns from byte `at` on are spaces, compared at once.
+fn is_blank(row: &[u8], at: usize) -> bool
+    requires { at + field_width ≤ length row.now }
+    ensures { (result ≡ true) ↔ Blank row.now at }
+{
+    u32::from_le_bytes([row[at], row[at + 1], row[at + 2], row[at + 3]]) == SPACES
+}
+
 // The row's letter and numbers. The first bad field ends the reading.
 pub fn read_row(row: &[u8]) -> Row
     requires { length row.now ≡ row_width }
@@ -191,13 +210,18 @@ pub fn read_row(row: &[u8]) -> Row
     let own = rules_of(letter);
     let mut nums = [0u16; Sheet::FIELDS];
     let mut good = true;
-    let mut f = 0;
-    'row: while f < Sheet::FIELDS {
+    'row: for f in 0..Sheet::FIELDS {
         let at = f * Sheet::FIELD + 1;
-        let mut col = 0;
+        if !is_needed(own[f], f, nums[1]) {
+            if !is_blank(row, at) {
+                good = false;
+                break 'row;
+            }
+            continue 'row;
+        }
         let mut n: u16 = 0;
         let mut filled = false;
-        while col < Sheet::FIELD {
+        for col in 0..Sheet::FIELD {
             let b = row[at + col];
             if misplaced(b, filled, col + 1 == Sheet::FIELD) {
                 good = false;
@@ -207,14 +231,12 @@ pub fn read_row(row: &[u8]) -> Row
                 n = n * 10 + (b - b'0') as u16;
                 filled = true;
             }
-            col += 1;
         }
         if !field_suits(own[f], f, nums[1], filled, n) {
             good = false;
             break 'row;
         }
         nums[f] = n;
-        f += 1;
     }
     Row { letter, good, nums }
 }
