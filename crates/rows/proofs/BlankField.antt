@@ -1,17 +1,17 @@
 -- A field that is to hold nothing: the row goes on after it where its columns are spaces, and ends at it elsewhere.
-use Prim.Native.Nat.{ℕ, zero, suc, ◌+◌, ◌-◌, ◌*◌, ◌<◌}
+use Prim.Native.Nat.{ℕ, zero, suc, ◌+◌, ◌-◌, ◌*◌, ◌<◌, ◌≤◌}
 use mathlib.Core.Path.{◌≡◌, refl, ◌∙◌, sym, ap}
 use mathlib.Core.List.{List, [], ◌∷◌}
 use mathlib.Core.Bool.{Bool, true, false, true≢false}
 use native.Mathlib.Omega.{arith}
-use borrow.Author.Tests.{eqb-true, eqb-false}
+use borrow.Author.Tests.{eqb-true}
 use lib.Dec.{eqb}
-use lib.ListN.{length, get_or, drop, set, length-set, length-drop}
-use lib.Seq.{get_or-take, get_or-drop, get_or-set_same, get_or-set_other, length-take-le, ext_get_or}
+use lib.ListN.{length, get_or, set}
+use lib.Seq.{set-get_or}
 use Rattle.rows.specs.Pick.{pick, not}
 use Rattle.rows.specs.Format.{field_count, row_width, rule_of}
 use Rattle.rows.specs.Row.{Field, malformed, holds, misplaced_in, is_nil, field_of, needed, suits, Blank, row_with, fields_of}
-use Rattle.rows.proofs.RowLaws.{columns, suits-by, fields-malformed, fields-held}
+use Rattle.rows.proofs.RowLaws.{columns, columns-length, column-byte, suits-by, fields-malformed, fields-held}
 use Rattle.rows.proofs.RowRange.{nothing_read}
 
 -- Columns hold nothing exactly where they are spaces.
@@ -33,31 +33,20 @@ nothing-spaces n (b ∷ t) m e i k = go (misplaced_in b false (is_nil t)) (eqb b
     go false true f q rest (suc i) k = rest q i (omega arith)
     go false false f q rest i k = absurd (true≢false (nothing_read true (n * 10 + (b - 48)) t m q).0)
 
--- A 0 stored where one stands changes nothing.
-zero-kept : (nums : List ℕ) (f : ℕ) → f < length nums → get_or nums f 0 ≡ 0 → set nums f 0 ≡ nums
-zero-kept nums f h z = ext_get_or 0 (set nums f 0) nums (length-set nums f 0) (λ i k. at i (eqb i f) refl)
-  where
-    at : (i : ℕ) (same : Bool) → eqb i f ≡ same → get_or (set nums f 0) i 0 ≡ get_or nums i 0
-    at i true e = rw (eqb-true i f e) (get_or-set_same nums f 0 0 h ∙ sym z)
-    at i false e = get_or-set_other nums f i 0 0 (eqb-false i f e)
-
 module _ (s : List ℕ) (wide : length s ≡ row_width) (letter f : ℕ) (h : f < field_count) (nums : List ℕ) (none : needed (rule_of letter f) f (get_or nums 1 0) ≡ false) where
-  four : length (columns s (f * 4 + 1)) ≡ 4
-  four = length-take-le 4 (drop (f * 4 + 1) s) (simp length-drop (omega arith))
-
-  column : (i : ℕ) → i < 4 → get_or (columns s (f * 4 + 1)) i 0 ≡ get_or s (f * 4 + 1 + i) 0
-  column i k = simp (get_or-take 4 (drop (f * 4 + 1) s) i 0 k, get_or-drop)
+  room : f * 4 + 1 + 4 ≤ length s
+  room = omega arith
 
   blank-nothing : Blank s (f * 4 + 1) → field_of false 0 (columns s (f * 4 + 1)) ≡ holds false 0
-  blank-nothing r = spaces-nothing (columns s (f * 4 + 1)) (λ i k. let l : i < 4 = omega (arith, four) in column i l ∙ r i l)
+  blank-nothing r = spaces-nothing (columns s (f * 4 + 1)) (λ i k. let l : i < 4 = omega (arith, columns-length s (f * 4 + 1) 0 room (omega arith)) in column-byte s (f * 4 + 1) i room l ∙ r i l)
 
   unsuited : (filled : Bool) (n : ℕ) → suits (rule_of letter f) f (get_or nums 1 0) filled n ≡ not filled
   unsuited filled n = suits-by (rule_of letter f) f (get_or nums 1 0) filled n false none
 
   -- 0 stands in its place before it is read.
-  pub field-blank : length nums ≡ field_count → get_or nums f 0 ≡ 0 → Blank s (f * 4 + 1)
-      → fields_of s letter f nums (field_count - f) ≡ fields_of s letter (f + 1) nums (field_count - (f + 1))
-  field-blank eight z r = fields-held s letter f nums h false 0 true (blank-nothing r) (unsuited false 0) ∙ ap (λ (l : List ℕ). fields_of s letter (f + 1) l (field_count - (f + 1))) (zero-kept nums f (omega arith) z)
+  pub field-blank : get_or nums f 0 ≡ 0 → Blank s (f * 4 + 1) → fields_of s letter f nums (field_count - f) ≡ fields_of s letter (f + 1) nums (field_count - (f + 1))
+  field-blank z r = fields-held s letter f nums h false 0 true (blank-nothing r) (unsuited false 0)
+      ∙ ap (λ (l : List ℕ). fields_of s letter (f + 1) l (field_count - (f + 1))) (ap (λ (n : ℕ). set nums f n) (sym z) ∙ set-get_or nums f 0)
 
   pub field-unblank : (Blank s (f * 4 + 1) → ⊥) → fields_of s letter f nums (field_count - f) ≡ row_with letter false nums
   field-unblank n = go (field_of false 0 (columns s (f * 4 + 1))) refl
@@ -65,4 +54,4 @@ module _ (s : List ℕ) (wide : length s ≡ row_width) (letter f : ℕ) (h : f 
       go : (c : Field) → field_of false 0 (columns s (f * 4 + 1)) ≡ c → fields_of s letter f nums (field_count - f) ≡ row_with letter false nums
       go malformed q = fields-malformed s letter f nums h q
       go (holds true m) q = fields-held s letter f nums h true m false q (unsuited true m)
-      go (holds false m) q = absurd (n (λ k l. sym (column k l) ∙ nothing-spaces 0 (columns s (f * 4 + 1)) m q k (omega (arith, four))))
+      go (holds false m) q = absurd (n (λ k l. sym (column-byte s (f * 4 + 1) k room l) ∙ nothing-spaces 0 (columns s (f * 4 + 1)) m q k (omega (arith, columns-length s (f * 4 + 1) k room l))))

@@ -68,11 +68,14 @@ field_end s at col filled n h = rw (drop_of_length-le (columns s at) {i = col} (
 
 -- Column col of it. `bad` and `space` are what the two tests of the column's byte say.
 module _ (s : List ℕ) (at col : ℕ) (room : at + 4 ≤ length s) (h : col < 4) where
-  columns-length : length (columns s at) ≡ 4
+  pub columns-length : length (columns s at) ≡ 4
   columns-length = length-take-le 4 (drop at s) (simp length-drop (omega arith))
 
+  pub column-byte : get_or (columns s at) col 0 ≡ get_or s (at + col) 0
+  column-byte = simp (get_or-take 4 (drop at s) col 0 h, get_or-drop)
+
   head : drop col (columns s at) ≡ get_or s (at + col) 0 ∷ drop (col + 1) (columns s at)
-  head = drop-cons (columns s at) col 0 (rw columns-length h) ∙ simp (get_or-take 4 (drop at s) col 0 h, get_or-drop, add-one)
+  head = drop-cons (columns s at) col 0 (rw columns-length h) ∙ simp (column-byte, add-one)
 
   last-column : is_nil (drop (col + 1) (columns s at)) ≡ eqb (col + 1) field_width
   last-column = go (eqb (col + 1) field_width) refl

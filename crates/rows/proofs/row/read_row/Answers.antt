@@ -1,5 +1,5 @@
 -- A field's columns and a row's fields, step by step.
-use Prim.Native.Nat.{ℕ, zero, ◌≤◌, ◌+◌, ◌*◌, ◌-◌}
+use Prim.Native.Nat.{ℕ, ◌≤◌, ◌+◌, ◌*◌, ◌-◌}
 use mathlib.Core.Path.{◌≡◌, ◌∙◌, sym, refl, ap}
 use mathlib.Core.Bool.{Bool, true, false, true≢false}
 use mathlib.Core.List.{List, []}
@@ -7,13 +7,13 @@ use mathlib.Core.Logic.{⊎_elim}
 use native.Mathlib.Omega.{arith}
 use borrow.Author.Tests.{eq-eqb, ne_eqb}
 use lib.Dec.{eqb}
-use lib.ListN.{length, get_or, replicate, length-set, get_or-replicate, get_or-eq_default}
+use lib.ListN.{length, get_or, length-set}
 use lib.Seq.{get_or-set_other}
 use Rattle.rows.specs.Format.{field_count, blank, rules, rule_of}
 use Rattle.rows.specs.Row.{needed, suits}
 use Rattle.rows.specs.declared.row.Rule.{Rule}
+use Rattle.rows.proofs.Padding.{get_d-filled}
 use Rattle.rows.proofs.RowLaws.{digit-more, digit-none, letter-small, misplaced-digit, field_end, field-column, fields-end, fields-malformed, fields-held, row-strange, row-fields}
-use Rattle.rows.proofs.RowRange.{le-or-lt}
 use Rattle.rows.proofs.BlankField.{field-blank, field-unblank}
 use Rattle.rows.proofs.row.read_row.Goals as goal
 
@@ -29,10 +29,6 @@ module _ (letter f : ℕ) (own : List Rule) (taken : own ≡ get_or rules letter
   suits-is : (filled : Bool) (n : ℕ) → a ≡ suits (get_or own f blank) f (get_or nums 1 0) filled n → suits (rule_of letter f) f (get_or nums 1 0) filled n ≡ b
   suits-is filled n q = ap (λ (r : Rule). suits r f (get_or nums 1 0) filled n) (sym rule-taken) ∙ sym q ∙ e
 
--- no number is read yet
-zero-numbers : (i : ℕ) → get_or (replicate field_count zero) i zero ≡ zero
-zero-numbers i = ⊎_elim (λ h. get_or-eq_default (replicate field_count zero) zero h) (λ h. get_or-replicate field_count i zero zero h) (le-or-lt field_count i)
-
 pub returns-then-letter-eq-NO_LETTER : goal.returns-then-letter-eq-NO_LETTER
 returns-then-letter-eq-NO_LETTER c = let k = c.letter_of-letter in
     c.none.ensures ∙ sym (row-strange c.args.row.now k.result k.ensures c.if-letter-eq-NO_LETTER.true)
@@ -43,7 +39,7 @@ rules_of-own-requires c = let k = c.letter_of-letter.ensures in
 
 pub row-init : goal.row-init
 row-init c = let k = c.letter_of-letter in
-    (refl, refl, λ i h. zero-numbers i, row-fields c.args.row.now k.result k.ensures c.if-letter-eq-NO_LETTER.false)
+    (refl, refl, λ i h. get_d-filled 0 field_count i, row-fields c.args.row.now k.result k.ensures c.if-letter-eq-NO_LETTER.false)
 
 pub overflow_sub-n : goal.overflow_sub-n
 overflow_sub-n c = (misplaced-digit _ _ _ (sym c.misplaced.ensures ∙ c.if-misplaced.false) c.if-b-ne32.true).0
@@ -93,7 +89,7 @@ row-preserved-then-not-is_needed c = let s = c.args.row.now in
       r.invariant.0,
       r.invariant.1,
       λ i h. r.invariant.2 i (omega arith),
-      r.invariant.3 ∙ field-blank s c.requires k r.f c.row-test.true r.nums none r.invariant.1 (r.invariant.2 r.f (omega arith)) (c.is_blank.ensures.0 c.if-not-is_blank.false),
+      r.invariant.3 ∙ field-blank s c.requires k r.f c.row-test.true r.nums none (r.invariant.2 r.f (omega arith)) (c.is_blank.ensures.0 c.if-not-is_blank.false),
     )
 
 pub returns-then-not-is_blank : goal.returns-then-not-is_blank
